@@ -38,7 +38,8 @@ module _ (net : Network) (good : IsNetwork net) (amount departs : ℚ) (least : 
       described : Within 0ℚ arrives.report.flow.reached departs
       described = (least.0, subst (λ (t : ℚ). departs ≤ℚ t) (sym reached) (≤ℚ_refl departs))
 
-same_arrival : (net : Network) (amount : ℚ) (departs : Option ℚ) (arrival : Arrival) → IsNetwork net → IsDeparture net amount departs → IsArrivalOf net departs arrival → SameArrival net amount arrival
+same_arrival : (net : Network) (amount : ℚ) (departs : Option ℚ) (arrival : Arrival) → IsNetwork net → IsDeparture net amount departs
+    → IsArrivalOf net departs arrival → SameArrival net amount arrival
 same_arrival net amount None arrival good least never = subst (SameArrival net amount) (sym never) tt
 same_arrival net amount (Some departs) arrival good least arrives = same_at net good amount departs least arrival arrives arrives.report.stop refl
 

@@ -29,11 +29,13 @@ module _ (Holds : FlowFact) (of_equilibrium : (net : Network) (flow : Flow) → 
       → IfSome forever.tail (λ tail. (until : ℚ) → 0ℚ ≤ℚ until → Equilibrium net (flow_until net forever.flow tail until)) → OfForever Holds net forever
   of_forever net forever good equilibrium goes_on = (
     of_equilibrium net forever.flow good equilibrium,
-    each_some (λ tail. (until : ℚ) → 0ℚ ≤ℚ until → Equilibrium net (flow_until net forever.flow tail until)) (λ tail. (until : ℚ) → 0ℚ ≤ℚ until → Holds net (flow_until net forever.flow tail until))
+    each_some (λ tail. (until : ℚ) → 0ℚ ≤ℚ until → Equilibrium net (flow_until net forever.flow tail until))
+        (λ tail. (until : ℚ) → 0ℚ ≤ℚ until → Holds net (flow_until net forever.flow tail until))
         forever.tail (λ tail goes until h. of_equilibrium net (flow_until net forever.flow tail until) good (goes until h)) goes_on,
   )
 
-  of_yes : (n : Named) (text : List ℕ) (report : Report) (verdict : Verdict ℕ ℕ ℚ) → IsNetwork n.net → report_in n text ≡ Ok report → IsExact n.net report.flow verdict → OfYes Holds n text verdict
+  of_yes : (n : Named) (text : List ℕ) (report : Report) (verdict : Verdict ℕ ℕ ℚ) → IsNetwork n.net → report_in n text ≡ Ok report
+      → IsExact n.net report.flow verdict → OfYes Holds n text verdict
   of_yes n text report Yes good reads exact = λ other is.
       subst (λ (r : Report). Holds n.net r.flow) (same_ok (report_in n text) report other reads is) (of_equilibrium n.net report.flow good exact)
   of_yes n text report (No rule subject time left right) good reads exact = tt

@@ -113,7 +113,8 @@ module _ (words : List (List ℕ)) (shelf : Visit) (request : Request) (asks : r
   gathered_none (Err refusal) same refused = subst (λ (r : Refusal). MayAnswer (record { words = words; shelf = shelf }) (answer_of r)) (sym refused) (inl (inl untouched))
 
 -- ---- what a request gives with its network
-module _ (call : Call) (request : Request) (n : Named) (named : IsNamed n) (read : HasNetwork call request (Ok n)) (second : List ℕ) (is_second : OtherIsText call.shelf request second) where
+module _ (call : Call) (request : Request) (n : Named) (named : IsNamed n) (read : HasNetwork call request (Ok n)) (second : List ℕ)
+    (is_second : OtherIsText call.shelf request second) where
   computed : (answer : ProgramAnswer) → IsResultOf n second request answer → MayAnswer call answer
   computed answer g = inr (record { request = request; net = n; has_network = read; named = named; second = second; is_second = is_second; is_result = g })
 

@@ -68,16 +68,19 @@ module _ (net : Network) (good : IsNetwork net) where
     slopes_of (Stops cause) run = tt
     slopes_of (NeverEnds pattern tail) run = λ from settles v less. (settled-runs_end).tail passes_Q net from phases patterns last pattern tail good settles run v less
 
-  tails : (flow : Forever) (tail : Option Tail) → IfSome tail (λ t. (from : ℚ) → Settles net from → (v : ℕ) → v < net.nodes → number_at t.slopes v ≡ 1ℚ) → IfSome tail (TailGrows net flow.flow)
+  tails : (flow : Forever) (tail : Option Tail) → IfSome tail (λ t. (from : ℚ) → Settles net from → (v : ℕ) → v < net.nodes → number_at t.slopes v ≡ 1ℚ)
+      → IfSome tail (TailGrows net flow.flow)
       → IfSome tail (TailInLongRun net)
   tails flow None steady grows = tt
   tails flow (Some tail) steady grows = record { steady = steady; growth = λ growth is. tail-has_growth net flow.flow tail growth good grows is }
 
-  forever_long_run : (phases patterns : ℕ) (forever : Forever) → IsForever passes_Q net phases patterns forever → IfSome forever.tail (TailGrows net forever.flow) → ForeverInLongRun net forever
+  forever_long_run : (phases patterns : ℕ) (forever : Forever) → IsForever passes_Q net phases patterns forever
+      → IfSome forever.tail (TailGrows net forever.flow) → ForeverInLongRun net forever
   forever_long_run phases patterns forever is grows = record {
     before = λ from settles. subst (λ (t : ℚ). t ≤ℚ from) (sym (ap (λ (f : Forever). f.flow.reached) is.forever_is ∙ time_of phases patterns is.last is.end))
         ((settled-runs_end).forever passes_Q net from phases patterns is.last is.end good settles is.run);
-    tail = tails forever forever.tail (subst (λ (f : Forever). IfSome f.tail (λ t. (from : ℚ) → Settles net from → (v : ℕ) → v < net.nodes → number_at t.slopes v ≡ 1ℚ)) (sym is.forever_is)
+    tail = tails forever forever.tail (subst (λ (f : Forever). IfSome f.tail
+        (λ t. (from : ℚ) → Settles net from → (v : ℕ) → v < net.nodes → number_at t.slopes v ≡ 1ℚ)) (sym is.forever_is)
         (slopes_of phases patterns is.last is.end is.run)) grows;
   }
 

@@ -105,7 +105,8 @@ module _ (net : Network) (good : IsNetwork net) (bounds : Bounds) (report : Repo
       ∙ sym (ap (λ (r : Report). r.flow.reached) report_is)
 
   -- so the value of its last point is the label there
-  pub last_is_label : (p : Point) → slice_get (points_at report.flow.labels net.sink) (length (points_at report.flow.labels net.sink) - 1) ≡ Some p → label report.flow net.sink report.flow.reached ≡ p.1
+  pub last_is_label : (p : Point) → slice_get (points_at report.flow.labels net.sink) (length (points_at report.flow.labels net.sink) - 1) ≡ Some p
+      → label report.flow net.sink report.flow.reached ≡ p.1
   last_is_label p is = value_at_end (points_at report.flow.labels net.sink) p report.flow.reached (solution.well_formed.shape.labels.each net.sink sink) is ends
 
 module _ (net : Network) (good : IsNetwork net) (departs : ℚ) (report : Report) (phases : ℕ) (solution : IsRunSolution net (bounds_of departs usual_budgets) phases report) where
@@ -125,7 +126,8 @@ module _ (net : Network) (good : IsNetwork net) (departs : ℚ) (report : Report
     reached = solution.well_formed.stop.0 no_stop ∙ ap (λ (r : Report). r.horizon) solution.run.report_is
 
     -- the run comes to the departure
-    pub reached_arrives : (p : Point) → slice_get (points_at report.flow.labels net.sink) (length (points_at report.flow.labels net.sink) - 1) ≡ Some p → ArrivesIn net departs (Arrival.At p.1)
+    pub reached_arrives : (p : Point) → slice_get (points_at report.flow.labels net.sink) (length (points_at report.flow.labels net.sink) - 1) ≡ Some p
+        → ArrivesIn net departs (Arrival.At p.1)
     reached_arrives p is =
         let at : label report.flow net.sink departs ≡ p.1 =
         subst (λ (time : ℚ). label report.flow net.sink time ≡ p.1) reached (last_is_label net good (bounds_of departs usual_budgets) report phases solution sink p is) in
@@ -142,7 +144,8 @@ module _ (net : Network) (good : IsNetwork net) (departs : ℚ) (report : Report
         }
 
 -- so the arrival is no earlier than the time of the quickest flow
-no_earlier-is : (net : Network) (amount : ℚ) (quick : QuickFlow) (departs : Option ℚ) (arrival : Arrival) → IsQuickFlow net amount quick → IsDeparture net amount departs → IsArrivalOf net departs arrival
+no_earlier-is : (net : Network) (amount : ℚ) (quick : QuickFlow) (departs : Option ℚ) (arrival : Arrival) → IsQuickFlow net amount quick
+    → IsDeparture net amount departs → IsArrivalOf net departs arrival
     → (time : ℚ) → arrival ≡ Arrival.At time → quick.time ≤ℚ time
 no_earlier-is net amount quick None arrival flow least never time same = absurd (cc)
 no_earlier-is net amount quick (Some departs) arrival flow least arrives time same = arrives.no_quicker time amount quick.time same least.1 flow.quickest
@@ -163,7 +166,8 @@ module _ (n : Named) (file text : List ℕ) (amount : ℚ) (augments : ℕ) wher
     pub departure_passes : (at : PassedAt ℚ) → Err at ≡ departs_list n.net amount → IsResultOf n text (Quick file amount augments) (Passes at)
     departure_passes at e = inr (inr (inl (at, refl, record { no_way = h.0; passes = inr (quick, h.1, sym e) })))
 
-    pub quickest_given : IsQuickFlow n.net amount quick → ComesOfPushes n.net amount augments quick → (departs : Option ℚ) → Ok departs ≡ departs_list n.net amount → IsDeparture n.net amount departs
+    pub quickest_given : IsQuickFlow n.net amount quick → ComesOfPushes n.net amount augments quick → (departs : Option ℚ)
+        → Ok departs ≡ departs_list n.net amount → IsDeparture n.net amount departs
         → (arrival : Arrival) → IsArrivalOf n.net departs arrival → IsResultOf n text (Quick file amount augments) (Quickest n quick arrival)
     quickest_given flow pushes departs e least arrival arrives = inl (record {
       quick = quick;

@@ -91,7 +91,8 @@ module _ (run : Run) (r : AsksToResumeRun run.call) where
   ok_output : (status : Status) → status ≡ Status.Output → status ≡ Status.Ok → ⊥
   ok_output status h k = cc
 
-  whole_text : (answer : ProgramAnswer) → IsNetwork n.net → IsResultOf n text (Resume r.file r.report_name r.horizon r.phases r.patterns) answer → status_of answer ≡ Status.Ok → HasWritten answer
+  whole_text : (answer : ProgramAnswer) → IsNetwork n.net → IsResultOf n text (Resume r.file r.report_name r.horizon r.phases r.patterns) answer
+      → status_of answer ≡ Status.Ok → HasWritten answer
   whole_text answer good (inl g) e =
       let ended : g.new.stop ≡ None = no_stop g.new.stop (sym (ap status_of g.is) ∙ e) in
       let same : g.new ≡ r.resumes.later.report = one_run n text r.horizon r.phases r.patterns good answer g r.resumes ended in

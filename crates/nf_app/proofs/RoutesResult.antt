@@ -36,7 +36,8 @@ module _ (n : Named) (file name : List ℕ) (horizon : ℚ) (text : List ℕ) wh
     distributing_stopped (Halt.Passed at) e = inr (inr (inr (at, refl, record { routes = routes; read = read; passes = e })))
     distributing_stopped Halt.Memory e = inl refl
 
-    pub distributed_given : (routed : Routed) → by_route_list n routes horizon ≡ Ok routed → IsRouted n.net (routes_of routes) horizon routed → RoutesArrive n.net (routes_of routes) horizon routed
+    pub distributed_given : (routed : Routed) → by_route_list n routes horizon ≡ Ok routed → IsRouted n.net (routes_of routes) horizon routed
+        → RoutesArrive n.net (routes_of routes) horizon routed
         → IsResultOf n text (Routes file name horizon) (Distributed n routes horizon routed)
     distributed_given routed e is arrives =
         inl (record { routes = routes; read = read; routed = routed; is = refl; loadings = is; arrives = arrives; computed = e })

@@ -48,7 +48,8 @@ passed_in part (Ok x) at e = absurd (ok_err (Ok x) x at refl e)
 passed_in part (Err p) at e = (p, refl, same_err (Err (placed part p)) (placed part p) at refl e)
 
 -- ---- the slacks, of the hops and labels that the call was given
-module _ (net : Network) (labels : List ℚ) (are : AreStartLabels net labels) (hops_now : List Hop) (labels_now : List ℚ) (hops_are : hops_now ≡ hops net) (labels_are : labels_now ≡ labels) where
+module _ (net : Network) (labels : List ℚ) (are : AreStartLabels net labels) (hops_now : List Hop) (labels_now : List ℚ) (hops_are : hops_now ≡ hops net)
+    (labels_are : labels_now ≡ labels) where
   list_now : {R : Type 0} (f : Result (List ℚ) (Passed ℚ) → R) → f (slack_list passes_Q hops_now labels_now) ≡ f (slack_list passes_Q (hops net) labels)
   list_now f = ap (λ (h : List Hop). f (slack_list passes_Q h labels_now)) hops_are ∙ ap (λ (l : List ℚ). f (slack_list passes_Q (hops net) l)) labels_are
 
@@ -120,7 +121,8 @@ module _ (net : Network) (given : GivenFlows) (labels : List ℚ) (are : AreStar
         let p = passed_in Verdict (thin_list passes_Q net (sets_at net labels) (rate_at net 0ℚ) given.flows given.slopes) at there in
         subst (λ (a : PassedAt ℚ). PassesFirst net labels given a) p.2 (at_test p.0 fit p.1)
 
-    pub test_stopped : SlacksFit net labels given → (halt : Halt ℚ) → Stops (λ (q : ℚ). q) halt (at_part Verdict (thin_list passes_Q net sets rate flows slopes)) → SettlesAtStart net given (Err halt)
+    pub test_stopped : SlacksFit net labels given → (halt : Halt ℚ) → Stops (λ (q : ℚ). q) halt
+        (at_part Verdict (thin_list passes_Q net sets rate flows slopes)) → SettlesAtStart net given (Err halt)
     test_stopped fit (Halt.Passed at) e = (labels, are, test_passes fit at e)
     test_stopped fit Halt.Memory e = tt
 
@@ -132,7 +134,8 @@ module _ (net : Network) (given : GivenFlows) (labels : List ℚ) (are : AreStar
           (labels, are, subst (λ (a : PassedAt ℚ). PassesFirst net labels given a) (sym h.2) (at_settling h.0 fit test thin there))
       settling_stopped Halt.Memory h = tt
 
-      pub settled_there : (s : Settled) → SettlesTo passes_Q net sets slopes flows (Ok s) → IsSettledPattern net sets s.flows.items slopes s.pattern → IsThinFlow net sets rate s.flows.items slopes
+      pub settled_there : (s : Settled) → SettlesTo passes_Q net sets slopes flows (Ok s) → IsSettledPattern net sets s.flows.items slopes s.pattern
+          → IsThinFlow net sets rate s.flows.items slopes
           → IsListedIn net sets s.pattern → IsSolution net sets rate s.pattern s.flows.items slopes → SettlesAtStart net given (Ok (Some s))
       settled_there s computed pattern still listed solution = (
         labels,

@@ -15,7 +15,8 @@ use Rattle.nf_app.specs.Told.{Texts, IsToldText, AreTold, TextFits, BothFit, Net
 use Rattle.nf_app.proofs.Fetched.{bytes_are, reads_told}
 
 -- ---- the same text of a file that is wanted
-pub result_there : (n : Named) (request : Request) (a b : List ℕ) (answer : ProgramAnswer) → IfSome (other_of request) (λ file. a ≡ b) → IsResultOf n a request answer → IsResultOf n b request answer
+pub result_there : (n : Named) (request : Request) (a b : List ℕ) (answer : ProgramAnswer) → IfSome (other_of request) (λ file. a ≡ b)
+    → IsResultOf n a request answer → IsResultOf n b request answer
 result_there n (Solve file horizon phases patterns) a b answer same g = g
 result_there n (SolveForever file phases patterns) a b answer same g = g
 result_there n (Show file) a b answer same g = g
@@ -42,7 +43,8 @@ module _ (shelf : Visit) where
   one : (file : Wanted) (text : Option (List ℕ)) → IsToldText shelf.told (Some file) text → TextFits (Some file) text → All (Holds shelf) (file ∷ [])
   one file text told within = All-cons (Holds shelf) file [] (held file text told within) (All-nil (Holds shelf))
 
-  two : (file other : Wanted) (text more : Option (List ℕ)) → IsToldText shelf.told (Some file) text → IsToldText shelf.told (Some other) more → TextFits (Some file) text → TextFits (Some other) more
+  two : (file other : Wanted) (text more : Option (List ℕ)) → IsToldText shelf.told (Some file) text → IsToldText shelf.told (Some other) more
+      → TextFits (Some file) text → TextFits (Some other) more
       → All (Holds shelf) (file ∷ other ∷ [])
   two file other text more told told' within within' = All-cons (Holds shelf) file (other ∷ []) (held file text told within) (one other more told' within')
 
@@ -61,7 +63,8 @@ module _ (shelf : Visit) where
   all_held (Routes file routes horizon) t are fit = two (input_file file) (input_file routes) t.network t.second are.network are.second fit.network fit.second
 
   -- the network is read from the known text
-  pub network_so : (made : Option Named) (files : List Wanted) (text : Option (List ℕ)) (read : Result Named Broken) → IsToldText shelf.told (slice_get files 0) text → NetworkReads shelf made files read
+  pub network_so : (made : Option Named) (files : List Wanted) (text : Option (List ℕ)) (read : Result Named Broken)
+      → IsToldText shelf.told (slice_get files 0) text → NetworkReads shelf made files read
       → NetworkIs made text read
   network_so (Some n) files text read told r = r
   network_so None [] text read told r = absurd r

@@ -67,7 +67,8 @@ one_departing : (n : Named) (flow : QuickFlow) (r : Result (Option ℚ) (PassedA
 one_departing n flow (Ok departs) a b g h = g.2 ∙ ap (Quickest n flow) (one_arrival n.net departs g.0 h.0 g.1 h.1) ∙ sym h.2
 one_departing n flow (Err at) a b g h = g ∙ sym h
 
-one_flow : (n : Named) (amount : ℚ) (augments : ℕ) (r : Result quick.QuickAnswer (PassedAt ℚ)) (a b : ProgramAnswer) → FlowGives n amount augments r a → FlowGives n amount augments r b → a ≡ b
+one_flow : (n : Named) (amount : ℚ) (augments : ℕ) (r : Result quick.QuickAnswer (PassedAt ℚ)) (a b : ProgramAnswer) → FlowGives n amount augments r a
+    → FlowGives n amount augments r b → a ≡ b
 one_flow n amount augments (Ok (FoundQuick flow)) a b g h = one_departing n flow (departs_list n.net amount) a b g h
 one_flow n amount augments (Ok (Budget walks)) a b g h = g ∙ sym h
 one_flow n amount augments (Err at) a b g h = g ∙ sym h
@@ -101,7 +102,8 @@ module _ (net : Network) where
       (record { time = refl; labels = k; label_curves = refl; link_curves = refl; made = refl; last = refl }))
 
   module _ (labels : List ℚ) (given : GivenFlows) (good : IsNetwork net) where
-    one_settled : (r s : Result (List ℚ) (Passed ℚ)) → Settles passes_Q net (sets_at net labels) given.slopes given.flows r → Settles passes_Q net (sets_at net labels) given.slopes given.flows s → r ≡ s
+    one_settled : (r s : Result (List ℚ) (Passed ℚ)) → Settles passes_Q net (sets_at net labels) given.slopes given.flows r
+        → Settles passes_Q net (sets_at net labels) given.slopes given.flows s → r ≡ s
     one_settled r s h k = one_settling passes_Q net (sets_at net labels) given.slopes given.flows r s good h k
 
     settled_or_passes : (pattern : Pattern) (flows : List ℚ) (at : PassedAt ℚ) → AreSettled net labels given pattern flows → PassesFirst net labels given at → ⊥
@@ -126,7 +128,8 @@ module _ (net : Network) where
     one_passing _ _ (at_settling p fit test thin k) (at_slack q f) = absurd (ok_not_err (slack_list passes_Q (hops net) labels) q fit f)
     one_passing _ _ (at_settling p fit test thin k) (at_test q fit' f) =
         absurd (ok_not_err (thin_list passes_Q net (sets_at net labels) (rate_at net 0ℚ) given.flows given.slopes) q test f)
-    one_passing _ _ (at_settling p fit test thin k) (at_settling q fit' test' thin' l) = ap (λ (x : Passed ℚ). placed Verdict x) (same_err (Err p) p q refl (one_settled (Err p) (Err q) k l))
+    one_passing _ _ (at_settling p fit test thin k) (at_settling q fit' test' thin' l) =
+        ap (λ (x : Passed ℚ). placed Verdict x) (same_err (Err p) p q refl (one_settled (Err p) (Err q) k l))
 
     module _ (are : AreStartLabels net labels) where
       one_flows : (pattern other : Pattern) (flows more : List ℚ) → AreSettled net labels given pattern flows → AreSettled net labels given other more → flows ≡ more
@@ -136,7 +139,8 @@ module _ (net : Network) where
       one_settled_pattern pattern other flows s t =
           one_pattern net (sets_at net labels) (rate_at net 0ℚ) flows given.slopes (start_sets_good net good labels are) s.still_thin pattern other s.pattern_is t.pattern_is
 
-one_at_start : (n : Named) (labels : List ℚ) (given : GivenFlows) → IsNetwork n.net → AreStartLabels n.net labels → (a b : ProgramAnswer) → StartGives n labels given a → StartGives n labels given b → a ≡ b
+one_at_start : (n : Named) (labels : List ℚ) (given : GivenFlows) → IsNetwork n.net → AreStartLabels n.net labels → (a b : ProgramAnswer)
+    → StartGives n labels given a → StartGives n labels given b → a ≡ b
 one_at_start n labels given good are a b (inl g) (inl h) =
     let flows : g.1 ≡ h.1 = one_flows n.net labels given good are g.0 h.0 g.1 h.1 g.3 h.3 in
     let pattern : g.0 ≡ h.0 = one_settled_pattern n.net labels given good are g.0 h.0 h.1 (subst (λ (f : List ℚ). AreSettled n.net labels given g.0 f) flows g.3) h.3 in
@@ -158,7 +162,8 @@ one_settle n good (Ok given) a b g h =
 one_settle n good (Err broken) a b g h = g ∙ sym h
 
 -- ---- a report that is gone on from
-one_rest : (n : Named) (bounds : Bounds) (old : Report) → length old.last ≡ length n.net.links → (r : Result resuming.Restart (PassedAt ℚ)) (a b : ProgramAnswer) → RestGives n bounds old r a
+one_rest : (n : Named) (bounds : Bounds) (old : Report) → length old.last ≡ length n.net.links
+    → (r : Result resuming.Restart (PassedAt ℚ)) (a b : ProgramAnswer) → RestGives n bounds old r a
     → RestGives n bounds old r b → a ≡ b
 one_rest n bounds old states (Ok (Stands first)) a b g h = g.3 ∙ ap (Solved n) (one_resumed passes_Q n.net bounds old g.0 h.0 g.1 h.1 states g.2 h.2).1 ∙ sym h.3
 one_rest n bounds old states (Ok (Refused verdict)) a b g h = g ∙ sym h
@@ -192,7 +197,8 @@ one_gives n text (Resume file report horizon phases patterns) named a b g h =
 one_gives n text (Routes file routes horizon) named a b g h = g ∙ sym h
 
 -- ---- with the texts of its files
-one_result : (n : Named) (text : List ℕ) (request : Request) → (generated_by request ≡ None → IsNamed n) → (a b : ProgramAnswer) → IsResultOf n text request a → IsResultOf n text request b → a ≡ b
+one_result : (n : Named) (text : List ℕ) (request : Request) → (generated_by request ≡ None → IsNamed n) → (a b : ProgramAnswer)
+    → IsResultOf n text request a → IsResultOf n text request b → a ≡ b
 one_result n text request named a b g h = one_gives n text request named a b (result_so n text a request g) (result_so n text b request h)
 
 pub one_network : (made : Option Named) (text : Option (List ℕ)) (r s : Result Named Broken) → NetworkIs made text r → NetworkIs made text s → r ≡ s

@@ -56,10 +56,12 @@ module _ (n : Named) (text : List ℕ) (answer : ProgramAnswer) where
       by (inr (inr (inl h))) = so (Ok h.2.given) h.2.read (h.2.labels, h.2.are_start, inr (inr (h.0, h.1, h.2.passes)))
       by (inr (inr (inr h))) = so (Ok h.1.given) h.1.read (h.1.labels, h.1.are_start, inr (inl (h.0, h.1.not_thin)))
 
-  resume_so : (file name : List ℕ) (horizon : ℚ) (phases patterns : ℕ) → IsResultOf n text (Resume file name horizon phases patterns) answer → Gives n text (Resume file name horizon phases patterns) answer
+  resume_so : (file name : List ℕ) (horizon : ℚ) (phases patterns : ℕ) → IsResultOf n text (Resume file name horizon phases patterns) answer
+      → Gives n text (Resume file name horizon phases patterns) answer
   resume_so file name horizon phases patterns g = by g
     where
-      so : (read : Result Report ReportBroken) → report_in n text ≡ read → ResumeGives n (bounds_to horizon phases patterns) read answer → ResumeGives n (bounds_to horizon phases patterns) (report_in n text) answer
+      so : (read : Result Report ReportBroken) → report_in n text ≡ read → ResumeGives n (bounds_to horizon phases patterns) read answer
+          → ResumeGives n (bounds_to horizon phases patterns) (report_in n text) answer
       so read e h = subst (λ (r : Result Report ReportBroken). ResumeGives n (bounds_to horizon phases patterns) r answer) (sym e) h
 
       on : (old : Report) (r : Result resuming.Restart (PassedAt ℚ)) → resuming.resume_list passes_Q n.net old ≡ r → RestGives n (bounds_to horizon phases patterns) old r answer

@@ -46,7 +46,8 @@ all_reached shelf file others h =
 
 -- ---- the first file is read as a network
 module _ (shelf : Visit) (file : Wanted) (text : List ℕ) where
-  reads_as : (others : List Wanted) (texts : List (List ℕ)) → AreTexts shelf (file ∷ others) (text ∷ texts) → (read : Result Named Broken) → Reads text read → NetworkReads shelf None (file ∷ others) read
+  reads_as : (others : List Wanted) (texts : List (List ℕ)) → AreTexts shelf (file ∷ others) (text ∷ texts) → (read : Result Named Broken) → Reads text read
+      → NetworkReads shelf None (file ∷ others) read
   reads_as [] [] are read h = record { text = text; is_last = are; holds = h }
   reads_as [] (more ∷ texts) are read h = absurd are
   reads_as (next ∷ others) texts are read h = record { text = text; of_file = are.0; holds = h }

@@ -148,8 +148,10 @@ module _ (c : List Rule) (again : Bool) where
     short_goes None rest h e = cc
     short_goes (Some a) rest h e = short_by (takes_values a) a (attached_value rest) h e
 
-  module _ (fault : Text → ℕ → Held → Kinds) (passes : Text → ℕ → Held → Bool) (goes_on : (flags : Text) (skip : ℕ) (h : Held) → fault flags skip h ≡ [] → passes flags skip h ≡ true) where
-    step_of_bundle : (first : Option ℕ) (flags : Text) (skip : ℕ) (h : Held) → bundle_step_fault c again first flags skip h fault ≡ [] → bundle_step_passes c again first flags skip h passes ≡ true
+  module _ (fault : Text → ℕ → Held → Kinds) (passes : Text → ℕ → Held → Bool)
+      (goes_on : (flags : Text) (skip : ℕ) (h : Held) → fault flags skip h ≡ [] → passes flags skip h ≡ true) where
+    step_of_bundle : (first : Option ℕ) (flags : Text) (skip : ℕ) (h : Held) → bundle_step_fault c again first flags skip h fault ≡ []
+        → bundle_step_passes c again first flags skip h passes ≡ true
     step_of_bundle None flags skip h e = refl
     step_of_bundle (Some x) flags zero h e =
         let rest = drop (length (encode_utf8 x)) flags in
@@ -181,7 +183,8 @@ module _ (s : Shape) (names : Names) where
       unless (bytes_eq word (45 ∷ 45 ∷ [])) (flag_word_passes s.rules s.args_override_self (long_of word) word h)
       (flag_word_fault s.rules s.args_override_self (long_of word) word h) (flag_word_goes s.rules s.args_override_self (long_of word) word h) e
 
-  word_goes : (is_trailing : Bool) (waiting : Waiting) (word : Text) (h : Held) → word_fault s names is_trailing waiting word h ≡ [] → word_passes s names is_trailing waiting word h ≡ true
+  word_goes : (is_trailing : Bool) (waiting : Waiting) (word : Text) (h : Held) → word_fault s names is_trailing waiting word h ≡ []
+      → word_passes s names is_trailing waiting word h ≡ true
   word_goes is_trailing waiting word h e =
       unless is_trailing (other_passes s (subcommand_met names waiting word) word h) (other_fault s (subcommand_met names waiting word) word h)
       (other_goes (subcommand_met names waiting word) word h) e
@@ -206,7 +209,8 @@ module _ (s : Shape) (names : Names) where
       let met = word_met s.rules names w.is_trailing w.waiting w.position word w.held in
       let own = word_fault s names w.is_trailing w.waiting word w.held in
       unless (is_some w.stopped) (word_passes s names w.is_trailing w.waiting word w.held && step_passes s w.position met.0 met.1) (or_else own (step_fault s w.position met.0 met.1))
-      (λ none. let n = neither own (step_fault s w.position met.0 met.1) none in and_from _ _ (word_goes w.is_trailing w.waiting word w.held n.first) (step_goes w.position met.0 met.1 n.second)) e
+      (λ none. let n = neither own (step_fault s w.position met.0 met.1) none in
+          and_from _ _ (word_goes w.is_trailing w.waiting word w.held n.first) (step_goes w.position met.0 met.1 n.second)) e
 
   walk_goes : (w : Walk) (words : List Text) → walk_fault s names w words ≡ [] → walk_passes s names w words ≡ true
   unfolding walk_fault walk_passes

@@ -37,7 +37,8 @@ answer_done (Ok x) = refl
 answer_done (Err (Breaks rule subject sides)) = refl
 answer_done (Err (Passes p)) = refl
 
-pub by_list : (passes : Passing) (net : Network) (flow : Flow) (r : Result (Answer ℕ ℕ ℚ) (Halt ℚ)) → Gives (λ (a : Answer ℕ ℕ ℚ). a) (λ (q : ℚ). q) r (answer_of (done (trial passes net flow)))
+pub by_list : (passes : Passing) (net : Network) (flow : Flow) (r : Result (Answer ℕ ℕ ℚ) (Halt ℚ))
+    → Gives (λ (a : Answer ℕ ℕ ℚ). a) (λ (q : ℚ). q) r (answer_of (done (trial passes net flow)))
     → Gives (λ (a : Answer ℕ ℕ ℚ). a) (λ (q : ℚ). q) r (check_list passes net flow)
 unfolding check_list
 by_list passes net flow r g = subst (λ (said : Result (Answer ℕ ℕ ℚ) (PassedAt ℚ)). Gives (λ (a : Answer ℕ ℕ ℚ). a) (λ (q : ℚ). q) r said) (answer_done (trial passes net flow)) g
@@ -61,20 +62,23 @@ module _ (passes : Passing) (net : Network) (flow : Flow) (given : CanBeChecked 
     is_exact = if_answered r (check_list passes net flow) (λ answer. IsExact net flow answer) g (λ answer e. exact_by answer (check_list-checks passes net flow given answer e))
 
 -- ---- preconditions
-are_curves : (n : ℕ) (curves : List Grown) (all : List Grown) → curves ≡ all → length all ≡ n → ((i : ℕ) → i < length curves → IsCurve (points_at (curves_of curves) i)) → AreCurves n (curves_of all)
+are_curves : (n : ℕ) (curves : List Grown) (all : List Grown) → curves ≡ all → length all ≡ n
+    → ((i : ℕ) → i < length curves → IsCurve (points_at (curves_of curves) i)) → AreCurves n (curves_of all)
 are_curves n curves all e count known = record {
   count = length-map all (λ (c : Grown). c.points) ∙ count;
   each = λ i h. subst (λ (l : List Grown). IsCurve (points_at (curves_of l) i)) e (known i (subst (λ (k : ℕ). i < k) (sym (ap length e ∙ count)) h));
 }
 
-are_traces : (n : ℕ) (traces : List code_trace.Trace) (all : List code_trace.Trace) → traces ≡ all → length all ≡ n → ((i : ℕ) → i < length traces → IsCurve (points_at (points_of (map trace_of traces)) i)) → AreCurves n (points_of (map trace_of all))
+are_traces : (n : ℕ) (traces : List code_trace.Trace) (all : List code_trace.Trace) → traces ≡ all → length all ≡ n
+    → ((i : ℕ) → i < length traces → IsCurve (points_at (points_of (map trace_of traces)) i)) → AreCurves n (points_of (map trace_of all))
 are_traces n traces all e count known = record {
   count = length-map (map trace_of all) (λ (t : model.Trace). t.points) ∙ length-map all trace_of ∙ count;
   each = λ i h. subst (λ (l : List code_trace.Trace). IsCurve (points_at (points_of (map trace_of l)) i)) e (known i (subst (λ (k : ℕ). i < k) (sym (ap length e ∙ count)) h));
 }
 
 pub given_by : (net : Network) (flow : code.Flow) → IsNetwork net → (labels : length flow.labels.items ≡ net.nodes) (inflows : length flow.inflows.items ≡ length net.links)
-    (outflows : length flow.outflows.items ≡ length net.links) (queues : length flow.queues.items ≡ length net.links) → HaveRates (flow_of flow).inflows → HaveRates (flow_of flow).outflows → 0ℚ ≤ℚ flow.reached
+    (outflows : length flow.outflows.items ≡ length net.links) (queues : length flow.queues.items ≡ length net.links) → HaveRates (flow_of flow).inflows
+        → HaveRates (flow_of flow).outflows → 0ℚ ≤ℚ flow.reached
     → (ls qs : List Grown) (is os : List code_trace.Trace) → ls ≡ flow.labels.items → is ≡ flow.inflows.items → os ≡ flow.outflows.items → qs ≡ flow.queues.items
     → ((i : ℕ) → i < length ls → IsCurve (points_at (curves_of ls) i)) → ((i : ℕ) → i < length is → IsCurve (points_at (points_of (map trace_of is)) i))
     → ((i : ℕ) → i < length os → IsCurve (points_at (points_of (map trace_of os)) i)) → ((i : ℕ) → i < length qs → IsCurve (points_at (curves_of qs) i)) → IsGivenFlow net flow

@@ -53,7 +53,8 @@ two_then_none = record { start = n 0; rate = n 2 } ∷ record { start = n 2; rat
 
 loading : loaded_in (load_link_list in_127_bits (n 4) (link 0 1 (n 1) (Some (n 1)), two_then_none))
     ≡ Some (((i 0, i 0) ∷ (i 2, i 2) ∷ (i 4, i 0) ∷ []) ∷ ((i 0, i 0) ∷ (i 1, i 0) ∷ (i 5, i 4) ∷ []) ∷ ((i 0, i 1) ∷ (i 2, i 5) ∷ (i 4, i 5) ∷ []) ∷ [])
-unfolding load_link_list checked_cumulative checked_loading checked_cut checked_value checked_short checked_slope checked_line grown drained exit_after checked beyond whole ratio gcd neg_ℚ inv_ℚ ◌+ℚ◌ ◌-ℚ◌ ◌*ℚ◌ ◌/ℚ◌ le_ℚ lt_ℚ min_ℚ
+unfolding load_link_list checked_cumulative checked_loading checked_cut checked_value checked_short checked_slope checked_line grown drained exit_after
+    checked beyond whole ratio gcd neg_ℚ inv_ℚ ◌+ℚ◌ ◌-ℚ◌ ◌*ℚ◌ ◌/ℚ◌ le_ℚ lt_ℚ min_ℚ
 loading = refl
 
 -- ---- two links from source to sink: transit times 1 and 3, capacities 1, supplied at rate 3
@@ -74,17 +75,24 @@ flow_with rate amount later = record {
 
 -- it is an equilibrium
 accepted : answer_in (check_list in_127_bits two_links (flow_with (n 3) (n 3) (ratio (pos 3) 2))) ≡ Ok Yes
-unfolding check_list trial least_exits total_in total_out detour_list checked_middle checked_difference checked_composed checked_least checked_sum both_times checked_inverse checked_cross checked_cumulative checked_loading checked_cut checked_value checked_short checked_slope checked_line grown drained exit_after checked beyond whole ratio gcd neg_ℚ inv_ℚ ◌+ℚ◌ ◌-ℚ◌ ◌*ℚ◌ ◌/ℚ◌ le_ℚ lt_ℚ min_ℚ max_ℚ
+unfolding check_list trial least_exits total_in total_out detour_list checked_middle checked_difference checked_composed checked_least checked_sum
+    both_times checked_inverse checked_cross checked_cumulative checked_loading checked_cut checked_value checked_short checked_slope checked_line grown
+    drained exit_after checked beyond whole ratio gcd neg_ℚ inv_ℚ ◌+ℚ◌ ◌-ℚ◌ ◌*ℚ◌ ◌/ℚ◌ le_ℚ lt_ℚ min_ℚ max_ℚ
 accepted = refl
 
 -- an amount that doesn't fit its rate
 other_rate : answer_in (check_list in_127_bits two_links (flow_with (n 3) (ratio (pos 22) 7) (ratio (pos 3) 2))) ≡ Ok (No C2 (OfLink 0) (i 0) (i 3) (pos 22, 7))
-unfolding check_list trial least_exits total_in total_out detour_list checked_middle checked_difference checked_composed checked_least checked_sum both_times checked_inverse checked_cross checked_cumulative checked_loading checked_cut checked_value checked_short checked_slope checked_line grown drained exit_after checked beyond whole ratio gcd neg_ℚ inv_ℚ ◌+ℚ◌ ◌-ℚ◌ ◌*ℚ◌ ◌/ℚ◌ le_ℚ lt_ℚ min_ℚ max_ℚ
+unfolding check_list trial least_exits total_in total_out detour_list checked_middle checked_difference checked_composed checked_least checked_sum
+    both_times checked_inverse checked_cross checked_cumulative checked_loading checked_cut checked_value checked_short checked_slope checked_line grown
+    drained exit_after checked beyond whole ratio gcd neg_ℚ inv_ℚ ◌+ℚ◌ ◌-ℚ◌ ◌*ℚ◌ ◌/ℚ◌ le_ℚ lt_ℚ min_ℚ max_ℚ
 other_rate = refl
 
 -- with the rates that agree with it, the sink's label differs: the first corner is where the two links' exits cross
-other_label : answer_in (check_list in_127_bits two_links (flow_with (ratio (pos 22) 7) (ratio (pos 22) 7) (ratio (pos 61) 42))) ≡ Ok (No C3 (Node 1) (pos 14, 15) (pos 19, 5) (pos 59, 15))
-unfolding check_list trial least_exits total_in total_out detour_list checked_middle checked_difference checked_composed checked_least checked_sum both_times checked_inverse checked_cross checked_cumulative checked_loading checked_cut checked_value checked_short checked_slope checked_line grown drained exit_after checked beyond whole ratio gcd neg_ℚ inv_ℚ ◌+ℚ◌ ◌-ℚ◌ ◌*ℚ◌ ◌/ℚ◌ le_ℚ lt_ℚ min_ℚ max_ℚ
+other_label : answer_in (check_list in_127_bits two_links (flow_with (ratio (pos 22) 7) (ratio (pos 22) 7) (ratio (pos 61) 42))) ≡ Ok
+    (No C3 (Node 1) (pos 14, 15) (pos 19, 5) (pos 59, 15))
+unfolding check_list trial least_exits total_in total_out detour_list checked_middle checked_difference checked_composed checked_least checked_sum
+    both_times checked_inverse checked_cross checked_cumulative checked_loading checked_cut checked_value checked_short checked_slope checked_line grown
+    drained exit_after checked beyond whole ratio gcd neg_ℚ inv_ℚ ◌+ℚ◌ ◌-ℚ◌ ◌*ℚ◌ ◌/ℚ◌ le_ℚ lt_ℚ min_ℚ max_ℚ
 other_label = refl
 
 -- all flow is on the first link: less has arrived at the sink than was supplied
@@ -98,7 +106,9 @@ first_only = record {
 }
 
 too_little : answer_in (check_list in_127_bits two_links first_only) ≡ Ok (No C7 (Node 1) (i 4) (i 6) (i 12))
-unfolding check_list trial least_exits total_in total_out detour_list checked_middle checked_difference checked_composed checked_least checked_sum both_times checked_inverse checked_cross checked_cumulative checked_loading checked_cut checked_value checked_short checked_slope checked_line grown drained exit_after checked beyond whole ratio gcd neg_ℚ inv_ℚ ◌+ℚ◌ ◌-ℚ◌ ◌*ℚ◌ ◌/ℚ◌ le_ℚ lt_ℚ min_ℚ max_ℚ
+unfolding check_list trial least_exits total_in total_out detour_list checked_middle checked_difference checked_composed checked_least checked_sum
+    both_times checked_inverse checked_cross checked_cumulative checked_loading checked_cut checked_value checked_short checked_slope checked_line grown
+    drained exit_after checked beyond whole ratio gcd neg_ℚ inv_ℚ ◌+ℚ◌ ◌-ℚ◌ ◌*ℚ◌ ◌/ℚ◌ le_ℚ lt_ℚ min_ℚ max_ℚ
 too_little = refl
 
 -- the sink sends flow that has not reached it
@@ -119,12 +129,16 @@ in_a_circle = record {
   reached = n 1;
   labels = ((n 0, n 0) ∷ (n 1, n 1) ∷ []) ∷ ((n 0, n 3) ∷ (n 1, n 4) ∷ []) ∷ ((n 0, n 4) ∷ (n 1, n 5) ∷ []) ∷ [];
   inflows = trace ((n 0, n 0) ∷ []) [] ∷ trace ((n 0, n 0) ∷ (half, half) ∷ []) (n 1 ∷ []) ∷ trace ((n 0, n 0) ∷ (n 1, n 0) ∷ (ratio (pos 3) 2, half) ∷ []) (n 0 ∷ n 1 ∷ []) ∷ [];
-  outflows = trace ((n 0, n 0) ∷ []) [] ∷ trace ((n 0, n 0) ∷ (n 1, n 0) ∷ (ratio (pos 3) 2, half) ∷ []) (n 0 ∷ n 1 ∷ []) ∷ trace ((n 0, n 0) ∷ (n 2, n 0) ∷ (ratio (pos 5) 2, half) ∷ []) (n 0 ∷ n 1 ∷ []) ∷ [];
+  outflows =
+      trace ((n 0, n 0) ∷ []) [] ∷ trace ((n 0, n 0) ∷ (n 1, n 0) ∷ (ratio (pos 3) 2, half) ∷ []) (n 0 ∷ n 1 ∷ []) ∷ trace
+      ((n 0, n 0) ∷ (n 2, n 0) ∷ (ratio (pos 5) 2, half) ∷ []) (n 0 ∷ n 1 ∷ []) ∷ [];
   queues = ((n 0, n 0) ∷ []) ∷ ((n 0, n 0) ∷ []) ∷ ((n 0, n 0) ∷ []) ∷ [];
 }
 
 sent_early : answer_in (check_list in_127_bits network_c in_a_circle) ≡ Ok (No C7 (Node 1) (pos 1, 2) (i 0) (pos 1, 2))
-unfolding check_list trial least_exits total_in total_out detour_list checked_middle checked_difference checked_composed checked_least checked_sum both_times checked_inverse checked_cross checked_cumulative checked_loading checked_cut checked_value checked_short checked_slope checked_line grown drained exit_after checked beyond whole ratio gcd neg_ℚ inv_ℚ ◌+ℚ◌ ◌-ℚ◌ ◌*ℚ◌ ◌/ℚ◌ le_ℚ lt_ℚ min_ℚ max_ℚ
+unfolding check_list trial least_exits total_in total_out detour_list checked_middle checked_difference checked_composed checked_least checked_sum
+    both_times checked_inverse checked_cross checked_cumulative checked_loading checked_cut checked_value checked_short checked_slope checked_line grown
+    drained exit_after checked beyond whole ratio gcd neg_ℚ inv_ℚ ◌+ℚ◌ ◌-ℚ◌ ◌*ℚ◌ ◌/ℚ◌ le_ℚ lt_ℚ min_ℚ max_ℚ
 sent_early = refl
 
 -- ---- operations that pass
@@ -142,7 +156,9 @@ long = record {
 }
 
 passes_in_load : answer_in (check_list in_127_bits one_link long) ≡ Err (Load, (Sum, (i L, i 1)))
-unfolding check_list trial least_exits total_in total_out detour_list checked_middle checked_difference checked_composed checked_least checked_sum both_times checked_inverse checked_cross checked_cumulative checked_loading checked_cut checked_value checked_short checked_slope checked_line grown drained exit_after checked beyond whole ratio gcd neg_ℚ inv_ℚ ◌+ℚ◌ ◌-ℚ◌ ◌*ℚ◌ ◌/ℚ◌ le_ℚ lt_ℚ min_ℚ max_ℚ
+unfolding check_list trial least_exits total_in total_out detour_list checked_middle checked_difference checked_composed checked_least checked_sum
+    both_times checked_inverse checked_cross checked_cumulative checked_loading checked_cut checked_value checked_short checked_slope checked_line grown
+    drained exit_after checked beyond whole ratio gcd neg_ℚ inv_ℚ ◌+ℚ◌ ◌-ℚ◌ ◌*ℚ◌ ◌/ℚ◌ le_ℚ lt_ℚ min_ℚ max_ℚ
 passes_in_load = refl
 
 -- a slope of an inflow beyond the last time tested
@@ -156,7 +172,9 @@ far = record {
 }
 
 passes_in_check : answer_in (check_list in_127_bits one_link far) ≡ Err (OfCheck, (Quotient, ((pos 1, 3), i L)))
-unfolding check_list trial least_exits total_in total_out detour_list checked_middle checked_difference checked_composed checked_least checked_sum both_times checked_inverse checked_cross checked_cumulative checked_loading checked_cut checked_value checked_short checked_slope checked_line grown drained exit_after checked beyond whole ratio gcd neg_ℚ inv_ℚ ◌+ℚ◌ ◌-ℚ◌ ◌*ℚ◌ ◌/ℚ◌ le_ℚ lt_ℚ min_ℚ max_ℚ
+unfolding check_list trial least_exits total_in total_out detour_list checked_middle checked_difference checked_composed checked_least checked_sum
+    both_times checked_inverse checked_cross checked_cumulative checked_loading checked_cut checked_value checked_short checked_slope checked_line grown
+    drained exit_after checked beyond whole ratio gcd neg_ℚ inv_ℚ ◌+ℚ◌ ◌-ℚ◌ ◌*ℚ◌ ◌/ℚ◌ le_ℚ lt_ℚ min_ℚ max_ℚ
 passes_in_check = refl
 
 -- ---- the lesser of two lines that meet at a point of both
@@ -171,5 +189,6 @@ lesser = refl
 -- ---- unbounded links: with `two_links`'s first link unbounded, loaded at rate 2
 unbounded_loading : loaded_in (load_link_list in_127_bits (n 3) (link 0 1 (n 1) None, record { start = n 0; rate = n 2 } ∷ []))
     ≡ Some (((i 0, i 0) ∷ (i 3, i 0) ∷ []) ∷ ((i 0, i 0) ∷ (i 1, i 0) ∷ (i 4, i 6) ∷ []) ∷ ((i 0, i 1) ∷ (i 3, i 4) ∷ []) ∷ [])
-unfolding load_link_list checked_cumulative checked_loading checked_cut checked_value checked_short checked_slope checked_line grown drained exit_after checked beyond whole ratio gcd neg_ℚ inv_ℚ ◌+ℚ◌ ◌-ℚ◌ ◌*ℚ◌ ◌/ℚ◌ le_ℚ lt_ℚ min_ℚ
+unfolding load_link_list checked_cumulative checked_loading checked_cut checked_value checked_short checked_slope checked_line grown drained exit_after
+    checked beyond whole ratio gcd neg_ℚ inv_ℚ ◌+ℚ◌ ◌-ℚ◌ ◌*ℚ◌ ◌/ℚ◌ le_ℚ lt_ℚ min_ℚ
 unbounded_loading = refl

@@ -1,8 +1,12 @@
 -- The names that most proofs of this crate cite, passed on from one place. Declares nothing.
-pub use Rattle.nf_check_def.specs.CheckList.{arrival_at, arrivals, balance, compared, first_value, inflow_rule, label_cut, link_rates, loading, outflow_rule, queue_rule, route, sink_rules, trace_of, with_supply}
+pub use Rattle.nf_check_def.specs.CheckList.{arrival_at, arrivals, balance, compared, first_value, inflow_rule, label_cut, link_rates, loading,
+    outflow_rule, queue_rule, route, sink_rules, trace_of, with_supply}
 pub use Rattle.nf_check_def.specs.Curves.{departures, greatest_value, last_value, least_exits, loaded_at, total_in, total_out}
 pub use Rattle.nf_check_def.specs.PointRules.{falling_from, if_other, inflow_fault, negative_point, rates_from, rates_list}
-pub use Rattle.nf_check_def.specs.Rules.{Arrivals, Balance, Breaks, BreaksFirst, Checks, DifferFirstBy, DiffersFromRight, ExitAt, HasOtherRate, Holds, Inflow, InflowRates, IsArrival, IsExtra, IsIn, IsInWithSupply, IsLeastExit, IsNegative, IsOut, IsStretch, IsTest, Label, LeavesRoute, NoneFalls, Outflow, OutflowRates, Queue, RatesFit, Route, SinkAfter, SinkBefore, TakesDetour, Test, all_links, all_nodes, end_at, group_of, nodes_but, number_of, rule_of, subject_of}
+pub use Rattle.nf_check_def.specs.Rules.{Arrivals, Balance, Breaks, BreaksFirst, Checks, DifferFirstBy, DiffersFromRight, ExitAt, HasOtherRate, Holds,
+    Inflow, InflowRates, IsArrival, IsExtra, IsIn, IsInWithSupply, IsLeastExit, IsNegative, IsOut, IsStretch, IsTest, Label, LeavesRoute, NoneFalls,
+    Outflow, OutflowRates, Queue, RatesFit, Route, SinkAfter, SinkBefore, TakesDetour, Test, all_links, all_nodes, end_at, group_of, nodes_but, number_of,
+    rule_of, subject_of}
 pub use Rattle.nf_check_def.specs.Trial.{Trial, in_part, unless}
 pub use Rattle.nf_check_def.specs.declared.CheckRule.TheVariants.{C1, C2, C3, C6, C7, C8}
 pub use Rattle.nf_check_laws.specs.Laws.{AllHold, CanBeChecked}

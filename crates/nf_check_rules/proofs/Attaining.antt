@@ -37,10 +37,12 @@ module _ (passes : Passing) (labels : List (List Point)) (loaded : List Loaded) 
   pub exit_left_out : differs ≡ true → at_part Check (with_exit passes labels loaded last node so_far (e, here)) ≡ Ok so_far
   exit_left_out h = ap (at_part Check) (at_test false h)
 
-  pub exit_goes : differs ≡ false → (points : List Point) → at_part Check exit ≡ Ok points → at_part Check (with_exit passes labels loaded last node so_far (e, here)) ≡ at_part Check (least_so_far passes so_far points)
+  pub exit_goes : differs ≡ false → (points : List Point) → at_part Check exit ≡ Ok points
+      → at_part Check (with_exit passes labels loaded last node so_far (e, here)) ≡ at_part Check (least_so_far passes so_far points)
   exit_goes h points f = ap (at_part Check) (at_test true h) ∙ after_ok Check exit _ points f
 
-  pub exit_stops : differs ≡ false → (halt : Halt ℚ) → Stops (λ (q : ℚ). q) halt (at_part Check exit) → Stops (λ (q : ℚ). q) halt (at_part Check (with_exit passes labels loaded last node so_far (e, here)))
+  pub exit_stops : differs ≡ false → (halt : Halt ℚ) → Stops (λ (q : ℚ). q) halt (at_part Check exit)
+      → Stops (λ (q : ℚ). q) halt (at_part Check (with_exit passes labels loaded last node so_far (e, here)))
   exit_stops h halt s = stops_on halt (at_part Check exit) (at_part Check (with_exit passes labels loaded last node so_far (e, here)))
       (λ p f. ap (at_part Check) (at_test true h) ∙ after_err Check exit _ p f) s
 

@@ -24,7 +24,8 @@ module _ (curves : List Grown) (k : ℕ) (curve : Grown) (is : slice_get curves 
   curve_there = sym (ap (λ (o : Option (List Point)). unwrap_or o []) (get_map (λ (c : Grown). c.points) curves k curve is))
 
 -- one more of the first curves
-pub curves_more : (curves : List Grown) (k : ℕ) (curve : Grown) → slice_get curves k ≡ Some curve → take (k + 1) (curves_of curves) ≡ take k (curves_of curves) ++ points_at (curves_of curves) k ∷ []
+pub curves_more : (curves : List Grown) (k : ℕ) (curve : Grown) → slice_get curves k ≡ Some curve
+    → take (k + 1) (curves_of curves) ≡ take k (curves_of curves) ++ points_at (curves_of curves) k ∷ []
 curves_more curves k curve is =
     let there : slice_get (curves_of curves) k ≡ Some curve.points = get_map (λ (c : Grown). c.points) curves k curve is in
     take_more (curves_of curves) k [] (slice_get_within (curves_of curves) k curve.points there)
@@ -51,12 +52,14 @@ one_more P i all here k h = ⊎_elim
     (λ (w : (eqb k i ≡ false) × (k ≢ i)). all k (let n = w.1 in omega arith))
     (eqb_tells k i)
 
-pub next_curve : (P : List Point → Type 0) (curves : List Grown) (i : ℕ) (curve : Grown) → i < length curves → curve ≡ get_or curves i curve → P curve.points → ((k : ℕ) → k < i → P (points_at (curves_of curves) k))
+pub next_curve : (P : List Point → Type 0) (curves : List Grown) (i : ℕ) (curve : Grown) → i < length curves → curve ≡ get_or curves i curve
+    → P curve.points → ((k : ℕ) → k < i → P (points_at (curves_of curves) k))
     → (k : ℕ) → k < i + 1 → P (points_at (curves_of curves) k)
 next_curve P curves i curve h is c all = one_more (λ k. P (points_at (curves_of curves) k)) i all
     (subst P (curve_there curves i curve (slice_get_read curves _ i curve refl h is)) c)
 
-pub next_trace : (traces : List Trace) (i : ℕ) (trace : Trace) → i < length traces → trace ≡ get_or traces i trace → IsCurve trace.curve.points → ((k : ℕ) → k < i → IsCurve (points_at (points_of (map trace_of traces)) k))
+pub next_trace : (traces : List Trace) (i : ℕ) (trace : Trace) → i < length traces → trace ≡ get_or traces i trace → IsCurve trace.curve.points
+    → ((k : ℕ) → k < i → IsCurve (points_at (points_of (map trace_of traces)) k))
     → (k : ℕ) → k < i + 1 → IsCurve (points_at (points_of (map trace_of traces)) k)
 next_trace traces i trace h is c all = one_more (λ k. IsCurve (points_at (points_of (map trace_of traces)) k)) i all
     (subst (λ (l : List Point). IsCurve l) (trace_points traces i trace (slice_get_read traces _ i trace refl h is)) c)

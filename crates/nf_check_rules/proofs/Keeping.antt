@@ -60,7 +60,8 @@ none_kept worked exits is = record {
 
 module _ (worked : Worked) (old new : Exits) (before : AreKept worked old) (e : ℕ) where
   module _ (link : Link) (there : IsLink (network_in worked) e link) where
-    pub keep_kept : (points : List Point) → at_part Check (checked_composed passes_Q (loaded_at (loaded_in worked) e).exit (points_at (labels_in worked) link.tail) worked.flow.now.reached) ≡ Ok points → Keeps e points old new
+    pub keep_kept : (points : List Point) → at_part Check (checked_composed passes_Q (loaded_at (loaded_in worked) e).exit
+        (points_at (labels_in worked) link.tail) worked.flow.now.reached) ≡ Ok points → Keeps e points old new
         → AreKept worked new
     keep_kept points came (inl same) = record {
       count = ap (λ (l : List (Option Grown)). length l) same ∙ before.count;
@@ -72,9 +73,12 @@ module _ (worked : Worked) (old new : Exits) (before : AreKept worked old) (e : 
     }
       where
         here : exits_along worked e link ≡ Ok w.0.points
-        here = ap (λ (r : Checked (List Point)). r >>= λ exits. checked_short passes_Q exits) (was_ok Check (checked_composed passes_Q (loaded_at (loaded_in worked) e).exit (points_at (labels_in worked) link.tail) worked.flow.now.reached) points came) ∙ w.2
+        here = ap (λ (r : Checked (List Point)). r >>= λ exits. checked_short passes_Q exits)
+            (was_ok Check (checked_composed passes_Q (loaded_at (loaded_in worked) e).exit (points_at (labels_in worked) link.tail) worked.flow.now.reached)
+            points came) ∙ w.2
 
-        by_place : (f : ℕ) (other : Link) (curve : Grown) → IsLink (network_in worked) f other → ((f ≡ e) × (Some curve ≡ Some w.0)) ⊎ (slice_get old.kept.items f ≡ Some (Some curve)) → exits_along worked f other ≡ Ok curve.points
+        by_place : (f : ℕ) (other : Link) (curve : Grown) → IsLink (network_in worked) f other
+            → ((f ≡ e) × (Some curve ≡ Some w.0)) ⊎ (slice_get old.kept.items f ≡ Some (Some curve)) → exits_along worked f other ≡ Ok curve.points
         by_place f other curve is (inl d) =
             let one : link ≡ other = same_some link other (sym there ∙ ap (λ (k : ℕ). slice_get (network_in worked).links k) (sym d.0) ∙ is) in
             ap (λ (k : ℕ). exits_along worked k other) d.0 ∙ ap (λ (l : Link). exits_along worked e l) (sym one) ∙ here ∙ ap (λ (c : Grown). Ok c.points) (sym (same_some curve w.0 d.1))
@@ -91,7 +95,8 @@ module _ (worked : Worked) (old new : Exits) (before : AreKept worked old) (e : 
     kept = λ f other curve is at. by_place f other curve is (set_cases old.kept.items e f None (Some curve) (sym (ap (λ (l : List (Option Grown)). slice_get l f) gone) ∙ at));
   }
     where
-      by_place : (f : ℕ) (other : Link) (curve : Grown) → IsLink (network_in worked) f other → ((f ≡ e) × (Some curve ≡ None)) ⊎ (slice_get old.kept.items f ≡ Some (Some curve)) → exits_along worked f other ≡ Ok curve.points
+      by_place : (f : ℕ) (other : Link) (curve : Grown) → IsLink (network_in worked) f other
+          → ((f ≡ e) × (Some curve ≡ None)) ⊎ (slice_get old.kept.items f ≡ Some (Some curve)) → exits_along worked f other ≡ Ok curve.points
       by_place f other curve is (inl d) = let no = d.1 in absurd (cc)
       by_place f other curve is (inr d) = before.kept f other curve is d
 
@@ -107,12 +112,15 @@ Three = List Point × List Point × List Point
 
 module _ (passes : Passing) (inflow exit exits tail_label head_label : List Point) (last : ℚ) where
   abbrev by_composed : Checked (List Point) → Checked Three
-  by_composed r = checked_composed passes inflow tail_label last >>= λ t. r >>= λ x. checked_short passes t >>= λ st. checked_short passes x >>= λ sx. checked_short passes head_label >>= λ sl. Ok (st, sx, sl)
+  by_composed r =
+      checked_composed passes inflow tail_label last >>= λ t. r >>= λ x. checked_short passes t >>= λ st. checked_short passes x >>= λ sx. checked_short
+      passes head_label >>= λ sl. Ok (st, sx, sl)
 
   abbrev by_short : Checked (List Point) → Checked Three
   by_short r = checked_composed passes inflow tail_label last >>= λ t. checked_short passes t >>= λ st. r >>= λ sx. checked_short passes head_label >>= λ sl. Ok (st, sx, sl)
 
-  pub sent_known : short_exits passes exit tail_label last ≡ Ok exits → known_list passes inflow exits tail_label head_label last ≡ sent_list passes inflow exit tail_label head_label last
+  pub sent_known : short_exits passes exit tail_label last ≡ Ok exits → known_list passes inflow exits tail_label head_label last
+      ≡ sent_list passes inflow exit tail_label head_label last
   unfolding known_list sent_list
   sent_known e =
       let w = bind_ok (checked_composed passes exit tail_label last) (λ x. checked_short passes x) exits e in
@@ -120,7 +128,8 @@ module _ (passes : Passing) (inflow exit exits tail_label head_label : List Poin
 
 -- ---- a link whose list stops, or goes through
 module _ (passes : Passing) (net : Network) (flow : Flow) (labels : List (List Point)) (loaded : List Loaded) (e : ℕ) (here : Link) (inflow exit tail_label head_label : List Point)
-    (f : inflow ≡ points_at (points_of flow.inflows) e) (g : exit ≡ (loaded_at loaded e).exit) (k : tail_label ≡ points_at labels here.tail) (l : head_label ≡ points_at labels here.head) where
+    (f : inflow ≡ points_at (points_of flow.inflows) e) (g : exit ≡ (loaded_at loaded e).exit) (k : tail_label ≡ points_at labels here.tail)
+        (l : head_label ≡ points_at labels here.head) where
   abbrev detours : Checked (Option Sides)
   detours = detour_list passes (points_at (points_of flow.inflows) e) (loaded_at loaded e).exit (points_at labels here.tail) (points_at labels here.head) flow.reached
 
@@ -131,8 +140,12 @@ module _ (passes : Passing) (net : Network) (flow : Flow) (labels : List (List P
       ∙ ap (λ (x : List Point). detour_list passes (points_at (points_of flow.inflows) e) (loaded_at loaded e).exit x head_label flow.reached) k
       ∙ ap (λ (x : List Point). detour_list passes (points_at (points_of flow.inflows) e) (loaded_at loaded e).exit (points_at labels here.tail) x flow.reached) l
 
-  pub route_ends : (h : Halt ℚ) → Stops (λ (q : ℚ). q) h (at_part Check (detour_list passes inflow exit tail_label head_label flow.reached)) → EndsAs (of_halt h) (route passes net flow labels loaded (e, here))
-  route_ends h s = ends (of_halt h) (in_part Check detours) _ (part_ends Check h detours (subst (λ (r : Checked (Option Sides)). Stops (λ (q : ℚ). q) h (at_part Check r)) same_detours s))
+  pub route_ends : (h : Halt ℚ) → Stops (λ (q : ℚ). q) h (at_part Check (detour_list passes inflow exit tail_label head_label flow.reached))
+      → EndsAs (of_halt h) (route passes net flow labels loaded (e, here))
+  route_ends h s =
+      ends (of_halt h) (in_part Check detours) _ (part_ends Check h detours
+      (subst (λ (r : Checked (Option Sides)). Stops (λ (q : ℚ). q) h (at_part Check r)) same_detours s))
 
-  pub route_goes : (detour : Option Sides) → at_part Check (detour_list passes inflow exit tail_label head_label flow.reached) ≡ Ok detour → route passes net flow labels loaded (e, here) ≡ unless C8 (OfLink e) detour
+  pub route_goes : (detour : Option Sides) → at_part Check (detour_list passes inflow exit tail_label head_label flow.reached) ≡ Ok detour
+      → route passes net flow labels loaded (e, here) ≡ unless C8 (OfLink e) detour
   route_goes detour s = part_goes Check detours _ detour (sym (ap (at_part Check) same_detours) ∙ s)

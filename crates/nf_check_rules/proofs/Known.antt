@@ -112,7 +112,8 @@ module _ (passes : Passing) (net : Network) (flow : Flow) (given : CanBeChecked 
       let w = both_came (in_part Check (checked_cut passes (points_at flow.labels v) flow.reached)) _ cut e in
       let u = both_came (unless C1 (Node v) (negative_point w.first)) _ cut w.next in
       let none : negative_point w.first ≡ None = unless_came C1 (Node v) (negative_point w.first) u.first u.came in
-      let exact : w.first ≡ cut_of net flow given v = checked_cut-exact passes (points_at flow.labels v) flow.reached w.first (given.shape.labels.each v h) given.reached (part_came _ w.first w.came) in
+      let exact : w.first ≡ cut_of net flow given v = checked_cut-exact passes (points_at flow.labels v) flow.reached w.first
+          (given.shape.labels.each v h) given.reached (part_came _ w.first w.came) in
       let is : w.first ≡ cut = ok_same _ _ u.next in
       let l : IsLabel net flow given v (cut_of net flow given v) = label-cut net flow given v h (subst (λ (c : List Point). negative_point c ≡ None) exact none) in
       subst (λ (c : List Point). IsFromZero c) is (record { curve = subst (λ (c : List Point). IsCurve c) (sym exact) l.curve; none_negative = negative-none w.first none })
@@ -128,7 +129,8 @@ module _ (passes : Passing) (net : Network) (flow : Flow) (given : CanBeChecked 
   pub inflows_known : done (each (inflow_rule passes net flow) (all_links net)) ≡ Ok tt → (e : ℕ) → e < length net.links → Holds net flow (Inflow e)
   inflows_known d e h =
       let w = done_came (each (inflow_rule passes net flow) (all_links net)) d in
-      let v : Came (inflow_rule passes net flow e) = subst (λ (j : ℕ). Came (inflow_rule passes net flow j)) (from_0 e) (each_came (inflow_rule passes net flow) (length net.links) 0 e w.value w.is h) in
+      let v : Came (inflow_rule passes net flow e) = subst (λ (j : ℕ). Came (inflow_rule passes net flow j)) (from_0 e)
+          (each_came (inflow_rule passes net flow) (length net.links) 0 e w.value w.is h) in
       (decides-inflow net flow given e h).holds (unless_came C1 (OfLink e) (inflow_fault (points_at (points_of flow.inflows) e)) v.value v.is)
 
 loaded_many : {A X : Type 0} (f : ℕ × X → Trial A) (links : List X) (ys : List A) → each f (enumerate_from 0 links) ≡ Ok ys → length ys ≡ length links
@@ -139,22 +141,26 @@ pub never_negative : (points : List Point) → IsFromZero points → (t : ℚ) �
 never_negative [] k t h = absurd k.curve
 never_negative (p ∷ rest) k t h = value_from_all 0ℚ p rest t k.curve.1 k.none_negative (subst (λ (z : ℚ). z ≤ℚ t) (sym k.curve.0) h)
 
-pub labels_in_number : (passes : Passing) (net : Network) (flow : Flow) → CanBeChecked net flow → (labels : List Grown) → each (label_cut passes net flow) (all_nodes net) ≡ Ok (curves_of labels) → length labels ≡ net.nodes
+pub labels_in_number : (passes : Passing) (net : Network) (flow : Flow) → CanBeChecked net flow → (labels : List Grown)
+    → each (label_cut passes net flow) (all_nodes net) ≡ Ok (curves_of labels) → length labels ≡ net.nodes
 labels_in_number passes net flow given labels e = sym (length-map labels (λ (c : Grown). c.points)) ∙ labels_many passes net flow given (curves_of labels) e
 
 -- such a label is cut without an operation, and C1 is tested for it
 pub label_cut_whole : (passes : Passing) (net : Network) (flow : Flow) (v : ℕ) (label : List Point) → label ≡ points_at flow.labels v → checked_cut passes label flow.reached ≡ Ok label
     → label_cut passes net flow v ≡ (unless C1 (Node v) (negative_point label) >>= λ _. Ok label)
 label_cut_whole passes net flow v label is whole =
-    let cut : in_part Check (checked_cut passes (points_at flow.labels v) flow.reached) ≡ Ok label = ap (λ (l : List Point). in_part Check (checked_cut passes l flow.reached)) (sym is) ∙ ap (in_part Check) whole in
+    let cut : in_part Check (checked_cut passes (points_at flow.labels v) flow.reached) ≡ Ok label =
+        ap (λ (l : List Point). in_part Check (checked_cut passes l flow.reached)) (sym is) ∙ ap (in_part Check) whole in
     goes_on (in_part Check (checked_cut passes (points_at flow.labels v) flow.reached)) _ label cut
 
-pub loaded_in_number : (passes : Passing) (net : Network) (flow : Flow) (labels : List (List Point)) (loaded : List Loaded) → each (loading passes net flow labels) (enumerate_from 0 net.links) ≡ Ok (loadings_of loaded)
+pub loaded_in_number : (passes : Passing) (net : Network) (flow : Flow) (labels : List (List Point)) (loaded : List Loaded)
+    → each (loading passes net flow labels) (enumerate_from 0 net.links) ≡ Ok (loadings_of loaded)
     → length loaded ≡ length net.links
 loaded_in_number passes net flow labels loaded e = sym (length-map loaded loaded_of) ∙ loaded_many (loading passes net flow labels) net.links (loadings_of loaded) e
 
 -- ---- what was worked out
-pub worked_known : (passes : Passing) (net : Network) (flow : code.Flow) (given : CanBeChecked net (flow_of flow)) (labels : List Grown) (loaded : List Loaded) → each (label_cut passes net (flow_of flow)) (all_nodes net) ≡ Ok (curves_of labels)
+pub worked_known : (passes : Passing) (net : Network) (flow : code.Flow) (given : CanBeChecked net (flow_of flow)) (labels : List Grown)
+    (loaded : List Loaded) → each (label_cut passes net (flow_of flow)) (all_nodes net) ≡ Ok (curves_of labels)
     → length loaded ≡ length net.links → IsWorked net flow labels loaded
 worked_known passes net flow given labels loaded e links = record {
   reached = given.reached;

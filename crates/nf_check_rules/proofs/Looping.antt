@@ -53,7 +53,8 @@ range_last : (n k : ℕ) → n ≤ k → range_with_len k (n - k) ≡ []
 range_last n k h = let e : n - k ≡ 0 = omega arith in ap (range_with_len k) e
 
 -- ---- links with their numbers
-pub links_next : {X : Type 0} (links : List X) (k : ℕ) (link : X) → slice_get links k ≡ Some link → enumerate_from k (drop k links) ≡ (k, link) ∷ enumerate_from (k + 1) (drop (k + 1) links)
+pub links_next : {X : Type 0} (links : List X) (k : ℕ) (link : X) → slice_get links k ≡ Some link
+    → enumerate_from k (drop k links) ≡ (k, link) ∷ enumerate_from (k + 1) (drop (k + 1) links)
 links_next {X} links k link is =
     ap (enumerate_from k) (drop_more links k link (slice_get_within links k link is))
     ∙ ap (λ (x : X). (k, x) ∷ enumerate_from (k + 1) (drop (k + 1) links)) (get_or_from_slice_get links k link link is)

@@ -65,7 +65,8 @@ module _ (time : ℚ) where
       (lt_ℚ_cases time x)
 
   module _ (now : ℚ) (points : List Point) (r : TimesRise points) (after : now <ℚ time) where
-    curve-leaves : (rest : List Point) → later now points ≡ rest → IfSome (head_of rest) (λ x. time ≤ℚ x) → Leaves time (is_first (head_of rest)) (times_of rest) (times_of (later time points))
+    curve-leaves : (rest : List Point) → later now points ≡ rest → IfSome (head_of rest) (λ x. time ≤ℚ x)
+        → Leaves time (is_first (head_of rest)) (times_of rest) (times_of (later time points))
     unfolding is_first
     curve-leaves [] e h = subst (λ (l : List Point). Leaves time false [] (times_of l)) (sym (later-none now time points e (≤ℚ_of_lt _ _ after))) none
     curve-leaves (p ∷ rest) e h =
@@ -138,7 +139,8 @@ module _ (taken exits labels : List Point) (c : TimesRise taken) (d : TimesRise 
 
     one_of_three : (first_of taken ≡ Some time) ⊎ ((first_of exits ≡ Some time) ⊎ (first_of labels ≡ Some time))
     one_of_three = ⊎_elim
-        (λ (w : earlier_of (first_of taken) (first_of exits) ≡ Some time). ⊎_elim (λ (v : first_of taken ≡ Some time). inl v) (λ (v : first_of exits ≡ Some time). inr (inl v)) (one_of_two (first_of taken) (first_of exits) time w))
+        (λ (w : earlier_of (first_of taken) (first_of exits) ≡ Some time). ⊎_elim (λ (v : first_of taken ≡ Some time). inl v)
+            (λ (v : first_of exits ≡ Some time). inr (inl v)) (one_of_two (first_of taken) (first_of exits) time w))
         (λ (w : first_of labels ≡ Some time). inr (inr w))
         (one_of_two (earlier_of (first_of taken) (first_of exits)) (first_of labels) time h)
 
@@ -149,7 +151,9 @@ module _ (taken exits labels : List Point) (c : TimesRise taken) (d : TimesRise 
     is_later : now <ℚ time
     is_later = ⊎_elim
         (λ (w : first_of taken ≡ Some time). by_curve taken (later now taken) c refl w)
-        (λ (w : (first_of exits ≡ Some time) ⊎ (first_of labels ≡ Some time)). ⊎_elim (λ (v : first_of exits ≡ Some time). by_curve exits (later now exits) d refl v) (λ (v : first_of labels ≡ Some time). by_curve labels (later now labels) e refl v) w)
+        (λ (w : (first_of exits ≡ Some time) ⊎ (first_of labels ≡ Some time)). ⊎_elim
+            (λ (v : first_of exits ≡ Some time). by_curve exits (later now exits) d refl v)
+            (λ (v : first_of labels ≡ Some time). by_curve labels (later now labels) e refl v) w)
         one_of_three
 
     found : (o : Option ℚ) → o ≡ Some time → is_first time o ≡ true
@@ -159,8 +163,10 @@ module _ (taken exits labels : List Point) (c : TimesRise taken) (d : TimesRise 
     one_leaves = ⊎_elim
         (λ (w : first_of taken ≡ Some time). ap (λ (b : Bool). (b || is_first time (first_of exits)) || is_first time (first_of labels)) (found (first_of taken) w))
         (λ (w : (first_of exits ≡ Some time) ⊎ (first_of labels ≡ Some time)). ⊎_elim
-        (λ (v : first_of exits ≡ Some time). ap (λ (b : Bool). (is_first time (first_of taken) || b) || is_first time (first_of labels)) (found (first_of exits) v) ∙ ap (λ (b : Bool). b || is_first time (first_of labels)) (or_true (is_first time (first_of taken))))
-        (λ (v : first_of labels ≡ Some time). ap (λ (b : Bool). (is_first time (first_of taken) || is_first time (first_of exits)) || b) (found (first_of labels) v) ∙ or_true (is_first time (first_of taken) || is_first time (first_of exits)))
+        (λ (v : first_of exits ≡ Some time). ap (λ (b : Bool). (is_first time (first_of taken) || b) || is_first time (first_of labels))
+            (found (first_of exits) v) ∙ ap (λ (b : Bool). b || is_first time (first_of labels)) (or_true (is_first time (first_of taken))))
+        (λ (v : first_of labels ≡ Some time). ap (λ (b : Bool). (is_first time (first_of taken) || is_first time (first_of exits)) || b)
+            (found (first_of labels) v) ∙ or_true (is_first time (first_of taken) || is_first time (first_of exits)))
         w)
         one_of_three
       where
@@ -168,7 +174,8 @@ module _ (taken exits labels : List Point) (c : TimesRise taken) (d : TimesRise 
         or_true true = refl
         or_true false = refl
 
-    all_leave : Leaves time ((is_first time (first_of taken) || is_first time (first_of exits)) || is_first time (first_of labels)) (three_after now taken exits labels) (three_after time taken exits labels)
+    all_leave : Leaves time ((is_first time (first_of taken) || is_first time (first_of exits)) || is_first time (first_of labels))
+        (three_after now taken exits labels) (three_after time taken exits labels)
     all_leave = merged-leaves time
         (merged-leaves time (curve-leaves time now taken c is_later (later now taken) refl at_each.0) (curve-leaves time now exits d is_later (later now exits) refl at_each.1))
         (curve-leaves time now labels e is_later (later now labels) refl at_labels)
@@ -190,34 +197,45 @@ three-begin taken exits labels c d e = left_first 0ℚ
   where
     starts : (points : List Point) → IsCurve points → Leaves 0ℚ true (times_of points) (times_of (later 0ℚ points))
     starts [] c = absurd c
-    starts (p ∷ rest) c = subst (λ (l : List Point). Leaves 0ℚ true (p.0 ∷ times_of rest) (times_of l)) (sym (ap (λ (t : ℚ). later t (p ∷ rest)) (sym c.0) ∙ later-first p rest c.1)) (leaves p.0 (times_of rest) (sym c.0))
+    starts (p ∷ rest) c = subst (λ (l : List Point). Leaves 0ℚ true (p.0 ∷ times_of rest) (times_of l))
+        (sym (ap (λ (t : ℚ). later t (p ∷ rest)) (sym c.0) ∙ later-first p rest c.1)) (leaves p.0 (times_of rest) (sym c.0))
 
 -- ---- the next time, by the point counts of a departure
 module _ (sent : Sent) (curves : AreCurves sent) (places : Places) (now : ℚ) (there : ArePlaces sent now places) where
   abbrev NextOf : ℚ → Type 0
-  NextOf time = Next sent.taken.points sent.exits.points sent.labels.points (curve-rises sent.taken.points curves.taken) (curve-rises sent.exits.points curves.exits) (curve-rises sent.labels.points curves.labels) now time
+  NextOf time =
+      Next sent.taken.points sent.exits.points sent.labels.points (curve-rises sent.taken.points curves.taken) (curve-rises sent.exits.points curves.exits)
+      (curve-rises sent.labels.points curves.labels) now time
 
   at_place : (points : List Point) (k : ℕ) → k ≡ place_of now points → option_map (λ (p : Point). p.0) (slice_get points k) ≡ head_of (later now points)
   at_place points k e = ap (λ (n : ℕ). option_map (λ (p : Point). p.0) (slice_get points n)) e ∙ place-head now points
 
-  first_is_earliest : first_time sent places ≡ earlier_of (earlier_of (head_of (later now sent.taken.points)) (head_of (later now sent.exits.points))) (head_of (later now sent.labels.points))
+  first_is_earliest : first_time sent places ≡ earlier_of (earlier_of (head_of (later now sent.taken.points)) (head_of (later now sent.exits.points)))
+      (head_of (later now sent.labels.points))
   first_is_earliest =
       let all : Option ℚ → Option ℚ → Option ℚ → Option ℚ = λ s t u. earlier_of (earlier_of s t) u in
-      ap (λ (o : Option ℚ). all o (option_map (λ (p : Point). p.0) (slice_get sent.exits.points places.exits)) (option_map (λ (p : Point). p.0) (slice_get sent.labels.points places.labels))) (at_place sent.taken.points places.taken there.taken)
-      ∙ ap (λ (o : Option ℚ). all (head_of (later now sent.taken.points)) o (option_map (λ (p : Point). p.0) (slice_get sent.labels.points places.labels))) (at_place sent.exits.points places.exits there.exits)
+      ap (λ (o : Option ℚ). all o (option_map (λ (p : Point). p.0) (slice_get sent.exits.points places.exits))
+          (option_map (λ (p : Point). p.0) (slice_get sent.labels.points places.labels))) (at_place sent.taken.points places.taken there.taken)
+      ∙ ap (λ (o : Option ℚ). all (head_of (later now sent.taken.points)) o (option_map (λ (p : Point). p.0) (slice_get sent.labels.points places.labels)))
+          (at_place sent.exits.points places.exits there.exits)
       ∙ ap (λ (o : Option ℚ). all (head_of (later now sent.taken.points)) (head_of (later now sent.exits.points)) o) (at_place sent.labels.points places.labels there.labels)
 
   pub none_next : first_time sent places ≡ None → three_after now sent.taken.points sent.exits.points sent.labels.points ≡ []
-  none_next e = three-end sent.taken.points sent.exits.points sent.labels.points (curve-rises sent.taken.points curves.taken) (curve-rises sent.exits.points curves.exits) (curve-rises sent.labels.points curves.labels) now (sym first_is_earliest ∙ e)
+  none_next e =
+      three-end sent.taken.points sent.exits.points sent.labels.points (curve-rises sent.taken.points curves.taken)
+      (curve-rises sent.exits.points curves.exits) (curve-rises sent.labels.points curves.labels) now (sym first_is_earliest ∙ e)
 
   pub some_next : (time : ℚ) → first_time sent places ≡ Some time → NextOf time
-  some_next time e = three-goes sent.taken.points sent.exits.points sent.labels.points (curve-rises sent.taken.points curves.taken) (curve-rises sent.exits.points curves.exits) (curve-rises sent.labels.points curves.labels) now time (sym first_is_earliest ∙ e)
+  some_next time e =
+      three-goes sent.taken.points sent.exits.points sent.labels.points (curve-rises sent.taken.points curves.taken)
+      (curve-rises sent.exits.points curves.exits) (curve-rises sent.labels.points curves.labels) now time (sym first_is_earliest ∙ e)
 
   -- what moving on to the next time asks of each curve
   pub next_from : (time : ℚ) (points : List Point) (k : ℕ) → k ≡ place_of now points → now <ℚ time → k ≤ place_of time points
   next_from time points k e h = let w = place-rises now time points (≤ℚ_of_lt _ _ h) in omega arith
 
-  pub next_there : (time : ℚ) (points : List Point) (k : ℕ) → k ≡ place_of now points → IfSome (head_of (later now points)) (λ x. time ≤ℚ x) → IfSome (slice_get points k) (λ p. time ≤ℚ p.0)
+  pub next_there : (time : ℚ) (points : List Point) (k : ℕ) → k ≡ place_of now points → IfSome (head_of (later now points)) (λ x. time ≤ℚ x)
+      → IfSome (slice_get points k) (λ p. time ≤ℚ p.0)
   next_there time points k e h = time-first points k (head_of (later now points)) time (sym (at_place points k e)) h
 
 -- ---- each step leaves fewer times

@@ -101,7 +101,8 @@ module _ (passes : Passing) (subject : Subject ℕ ℕ) (points : List Point) (r
     from_next : drop (i + 1) points ≡ q ∷ drop ((i + 1) + 1) points
     from_next = drop_one points (i + 1) q next
 
-    by_rate : (in_part Check (checked_slope passes p q) >>= λ k. unless C2 subject (if_other p.0 rate k) >>= λ _. rates_from passes subject q (drop ((i + 1) + 1) points) (drop (i + 1) rates)) ≡ rates_list passes subject points rates
+    by_rate : (in_part Check (checked_slope passes p q) >>= λ k. unless C2 subject (if_other p.0 rate k) >>= λ _. rates_from passes subject q
+        (drop ((i + 1) + 1) points) (drop (i + 1) rates)) ≡ rates_list passes subject points rates
     by_rate =
         sym (ap (λ (l : List Point). rates_list passes subject l (drop i rates)) (drop_one points i p at ∙ ap (λ (l : List Point). p ∷ l) from_next)
         ∙ ap (rates_list passes subject (p ∷ q ∷ drop ((i + 1) + 1) points)) (drop_one rates i rate here))
@@ -111,7 +112,8 @@ module _ (passes : Passing) (subject : Subject ℕ ℕ) (points : List Point) (r
     slope_ends passed e = sym by_rate ∙ ends (Ended.Passed passed) (in_part Check (checked_slope passes p q)) _ (part_passes Check (checked_slope passes p q) passed e)
 
     module _ (slope : ℚ) (slope_is : at_part Check (checked_slope passes p q) ≡ Ok slope) where
-      by_slope : (unless C2 subject (if_other p.0 rate slope) >>= λ _. rates_from passes subject q (drop ((i + 1) + 1) points) (drop (i + 1) rates)) ≡ rates_list passes subject points rates
+      by_slope : (unless C2 subject (if_other p.0 rate slope) >>= λ _. rates_from passes subject q (drop ((i + 1) + 1) points) (drop (i + 1) rates))
+          ≡ rates_list passes subject points rates
       by_slope = sym (goes_on (in_part Check (checked_slope passes p q)) _ slope (part_ok Check (checked_slope passes p q) slope slope_is)) ∙ by_rate
 
       pub other_ends : (e : Ended) → EndsAs e (unless C2 subject (if_other p.0 rate slope)) → EndsAs e (rates_list passes subject points rates)

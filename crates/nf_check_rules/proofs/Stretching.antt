@@ -32,10 +32,12 @@ use Rattle.nf_check_rules.specs.Departures.{IsDeparture}
 use Rattle.nf_check_rules.specs.declared.sent.Sent.{Sent}
 use Rattle.nf_check_rules.specs.declared.stretches.Departure.{Departure}
 
-pub no_stretch : (passes : Passing) (taken exits labels : List Point) (first : ℚ) (times : List ℚ) (all : Checked (Option Sides)) → times ≡ [] → stretches_from passes taken exits labels first times ≡ all → all ≡ Ok None
+pub no_stretch : (passes : Passing) (taken exits labels : List Point) (first : ℚ) (times : List ℚ) (all : Checked (Option Sides)) → times ≡ []
+    → stretches_from passes taken exits labels first times ≡ all → all ≡ Ok None
 no_stretch passes taken exits labels first times all e so_far = sym so_far ∙ ap (stretches_from passes taken exits labels first) e
 
-module _ (passes : Passing) (taken exits labels : List Point) (first next : ℚ) (times rest : List ℚ) (all : Checked (Option Sides)) (is : times ≡ next ∷ rest) (so_far : stretches_from passes taken exits labels first times ≡ all) where
+module _ (passes : Passing) (taken exits labels : List Point) (first next : ℚ) (times rest : List ℚ) (all : Checked (Option Sides))
+    (is : times ≡ next ∷ rest) (so_far : stretches_from passes taken exits labels first times ≡ all) where
   by_stretch : (on_stretch passes taken exits labels first next >>= λ here. or_later passes here (stretches_from passes taken exits labels next rest)) ≡ all
   by_stretch = sym (ap (stretches_from passes taken exits labels first) is) ∙ so_far
 
@@ -46,17 +48,21 @@ module _ (passes : Passing) (taken exits labels : List Point) (first next : ℚ)
   stretch_found sides e = ap (at_part Check) (sym by_stretch) ∙ after_ok Check (on_stretch passes taken exits labels first next) _ (Some sides) e
 
   pub stretch_goes : at_part Check (on_stretch passes taken exits labels first next) ≡ Ok None → stretches_from passes taken exits labels next rest ≡ all
-  stretch_goes e = sym (ap (λ (r : Checked (Option Sides)). r >>= λ here. or_later passes here (stretches_from passes taken exits labels next rest)) (was_ok Check (on_stretch passes taken exits labels first next) None e)) ∙ by_stretch
+  stretch_goes e =
+      sym (ap (λ (r : Checked (Option Sides)). r >>= λ here. or_later passes here (stretches_from passes taken exits labels next rest))
+      (was_ok Check (on_stretch passes taken exits labels first next) None e)) ∙ by_stretch
 
 -- ---- one stretch, where what has been sent by a departure is known
 module _ (passes : Passing) (taken exits labels : List Point) (first next : ℚ) where
-  pub next_passes : (before : ℚ) → checked_value passes taken first ≡ Ok before → (p : PassedAt ℚ) → at_part Check (checked_value passes taken next) ≡ Err p → at_part Check (on_stretch passes taken exits labels first next) ≡ Err p
+  pub next_passes : (before : ℚ) → checked_value passes taken first ≡ Ok before → (p : PassedAt ℚ) → at_part Check (checked_value passes taken next) ≡ Err p
+      → at_part Check (on_stretch passes taken exits labels first next) ≡ Err p
   next_passes before b p e =
       ap (λ (r : Checked ℚ). at_part Check (r >>= λ before. checked_value passes taken next >>= λ after. on_rising passes (lt_ℚ before after) exits labels first next)) b
       ∙ after_err Check (checked_value passes taken next) _ p e
 
   -- a stretch between two departures at which the amounts are known
-  module _ (before after : ℚ) (first_is : checked_value passes taken first ≡ Ok before) (next_is : checked_value passes taken next ≡ Ok after) (rises : Bool) (test : rises ≡ lt_ℚ before after) where
+  module _ (before after : ℚ) (first_is : checked_value passes taken first ≡ Ok before) (next_is : checked_value passes taken next ≡ Ok after)
+      (rises : Bool) (test : rises ≡ lt_ℚ before after) where
     stretch_is : on_stretch passes taken exits labels first next ≡ on_rising passes rises exits labels first next
     stretch_is =
         ap (λ (r : Checked ℚ). r >>= λ before. checked_value passes taken next >>= λ after. on_rising passes (lt_ℚ before after) exits labels first next) first_is
@@ -75,7 +81,8 @@ unfolding checked_value
 first_amount passes [] p time c g e = absurd c
 first_amount passes (x ∷ []) p time c g e = ap (λ (p : Point). Ok p.1) (same_Some _ _ g)
 first_amount passes (x ∷ y ∷ rest) p time c g e = ⊎_elim
-    (λ (w : (is_same time x.0 ≡ true) × (time ≡ x.0)). ap (λ (b : Bool). if b then Ok x.1 else (if lt_ℚ time y.0 then checked_line passes x y time else value_from passes y rest time)) w.0
+    (λ (w : (is_same time x.0 ≡ true) × (time ≡ x.0)). ap (λ (b : Bool). if b then Ok x.1 else
+        (if lt_ℚ time y.0 then checked_line passes x y time else value_from passes y rest time)) w.0
     ∙ ap (λ (p : Point). Ok p.1) (same_Some _ _ g))
     (λ (w : (is_same time x.0 ≡ false) × (¬ (time ≡ x.0))). absurd (w.1 (e ∙ sym c.0)))
     (is_same_cases time x.0)
@@ -99,7 +106,8 @@ three_first {X} {Y} {Z} {E} a b c d e f all is = by_parts a b ∙ sym (ap (λ (r
     inner (Ok st) (Err p) = refl
     inner (Err p) s = refl
 
-    by_parts : (r s : Result X E) → (r >>= λ t. s >>= λ x. c t >>= λ st. d x >>= λ sx. e >>= λ sl. f st sx sl) ≡ ((r >>= λ t. s >>= λ x. c t >>= λ st. d x >>= λ sx. together st sx e) >>= λ s. f s.0 s.1 s.2)
+    by_parts : (r s : Result X E) → (r >>= λ t. s >>= λ x. c t >>= λ st. d x >>= λ sx. e >>= λ sl. f st sx sl)
+        ≡ ((r >>= λ t. s >>= λ x. c t >>= λ st. d x >>= λ sx. together st sx e) >>= λ s. f s.0 s.1 s.2)
     by_parts (Ok t) (Ok x) = inner (c t) (d x)
     by_parts (Ok t) (Err p) = refl
     by_parts (Err p) s = refl
@@ -108,18 +116,22 @@ pub detour-is : (passes : Passing) (inflow exit tail_label head_label : List Poi
     ≡ (sent_list passes inflow exit tail_label head_label last >>= λ s. all_stretches passes s.0 s.1 s.2 (three_times s.0 s.1 s.2))
 unfolding detour_list sent_list
 detour-is passes inflow exit tail_label head_label last = three_first (checked_composed passes inflow tail_label last) (checked_composed passes exit tail_label last)
-    (λ t. checked_short passes t) (λ x. checked_short passes x) (checked_short passes head_label) (λ a b c. all_stretches passes a b c (three_times a b c)) (sent_list passes inflow exit tail_label head_label last) (all_is (checked_composed passes inflow tail_label last) (checked_composed passes exit tail_label last))
+    (λ t. checked_short passes t) (λ x. checked_short passes x) (checked_short passes head_label) (λ a b c. all_stretches passes a b c (three_times a b c))
+        (sent_list passes inflow exit tail_label head_label last) (all_is (checked_composed passes inflow tail_label last)
+        (checked_composed passes exit tail_label last))
   where
     one : (a b : List Point) (r : Checked (List Point)) → (r >>= λ c. let all : List Point × List Point × List Point = (a, b, c) in Ok all) ≡ together a b r
     one a b (Ok c) = refl
     one a b (Err p) = refl
 
-    two : (r s : Checked (List Point)) → (r >>= λ a. s >>= λ b. checked_short passes head_label >>= λ c. let all : List Point × List Point × List Point = (a, b, c) in Ok all) ≡ (r >>= λ a. s >>= λ b. together a b (checked_short passes head_label))
+    two : (r s : Checked (List Point)) → (r >>= λ a. s >>= λ b. checked_short passes head_label >>= λ c.
+        let all : List Point × List Point × List Point = (a, b, c) in Ok all) ≡ (r >>= λ a. s >>= λ b. together a b (checked_short passes head_label))
     two (Ok a) (Ok b) = one a b (checked_short passes head_label)
     two (Ok a) (Err p) = refl
     two (Err p) s = refl
 
-    all_is : (r s : Checked (List Point)) → (r >>= λ t. s >>= λ x. checked_short passes t >>= λ a. checked_short passes x >>= λ b. checked_short passes head_label >>= λ c. let all : List Point × List Point × List Point = (a, b, c) in Ok all)
+    all_is : (r s : Checked (List Point)) → (r >>= λ t. s >>= λ x. checked_short passes t >>= λ a. checked_short passes x >>= λ b. checked_short passes
+        head_label >>= λ c. let all : List Point × List Point × List Point = (a, b, c) in Ok all)
         ≡ (r >>= λ t. s >>= λ x. checked_short passes t >>= λ a. checked_short passes x >>= λ b. together a b (checked_short passes head_label))
     all_is (Ok t) (Ok x) = two (checked_short passes t) (checked_short passes x)
     all_is (Ok t) (Err p) = refl
@@ -148,14 +160,17 @@ middle_from passes first next time h k e =
     over first next time sum h k e f = linear_le (first ∷ next ∷ time ∷ sum ∷ []) (le h ∷ le k ∷ eq e ∷ eq f ∷ []) (search reading_of depth 12) tt
 
 -- ---- a departure whose sides are known then
-pub with_sides : (sent : Sent) (there now : Departure) → IsDeparture sent there → (sides : Difference) → at_part Check (sides_at passes_Q sent.exits.points sent.labels.points there.time) ≡ Ok (difference_of sides)
+pub with_sides : (sent : Sent) (there now : Departure) → IsDeparture sent there → (sides : Difference)
+    → at_part Check (sides_at passes_Q sent.exits.points sent.labels.points there.time) ≡ Ok (difference_of sides)
     → now ≡ record there { sides = Some sides } → IsDeparture sent now
 with_sides sent there now known sides e is = subst (λ (d : Departure). IsDeparture sent d) (sym is) (record {
   from_zero = known.from_zero;
   places = known.places;
   within = known.within;
   taken = known.taken;
-  sides = λ other same. was_ok Check (sides_at passes_Q sent.exits.points sent.labels.points there.time) (difference_of sides) e ∙ ap (λ (d : Difference). Ok (difference_of d)) (one sides other same);
+  sides =
+      λ other same. was_ok Check (sides_at passes_Q sent.exits.points sent.labels.points there.time) (difference_of sides) e
+      ∙ ap (λ (d : Difference). Ok (difference_of d)) (one sides other same);
 })
   where
     one : (a b : Difference) → Some a ≡ Some b → a ≡ b

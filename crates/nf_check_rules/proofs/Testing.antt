@@ -47,7 +47,8 @@ abbrev beside : {A B : Type 0} → A → Trial B → Trial (A × B)
 beside x (Ok y) = Ok (x, y)
 beside x (Err p) = Err p
 
-worked_same : {A X Y B V : Type 0} (l : Trial A) (i : Trial X) (r : Trial Y) (d : A → Trial B) (rest : A → B → Trial V) (f : A → B → Trial (Unit {0})) → ((x : A) (y : B) → done (rest x y) ≡ f x y)
+worked_same : {A X Y B V : Type 0} (l : Trial A) (i : Trial X) (r : Trial Y) (d : A → Trial B) (rest : A → B → Trial V) (f : A → B → Trial (Unit {0}))
+    → ((x : A) (y : B) → done (rest x y) ≡ f x y)
     → done (l >>= λ x. i >>= λ _. r >>= λ _. d x >>= λ y. rest x y) ≡ ((l >>= λ x. done i >>= λ _. done r >>= λ _. beside x (d x)) >>= λ w. f w.0 w.1)
 worked_same (Err p) i r d rest f same = refl
 worked_same (Ok x) (Err p) r d rest f same = refl
@@ -63,9 +64,12 @@ abbrev Pair : Type 0
 Pair = List (List Point) × List Loaded
 
 worked_is : (passes : Passing) (net : Network) (flow : Flow) → worked_list passes net flow
-    ≡ (each (label_cut passes net flow) (all_nodes net) >>= λ labels. done (each (inflow_rule passes net flow) (all_links net)) >>= λ _. done (each (link_rates passes net flow) (all_links net)) >>= λ _. beside labels (each (loading passes net flow labels) (enumerate_from 0 net.links)))
+    ≡ (each (label_cut passes net flow) (all_nodes net) >>= λ labels. done (each (inflow_rule passes net flow) (all_links net)) >>= λ _. done
+        (each (link_rates passes net flow) (all_links net)) >>= λ _. beside labels (each (loading passes net flow labels) (enumerate_from 0 net.links)))
 unfolding worked_list
-worked_is passes net flow = go (each (label_cut passes net flow) (all_nodes net)) (done (each (inflow_rule passes net flow) (all_links net))) (done (each (link_rates passes net flow) (all_links net)))
+worked_is passes net flow =
+    go (each (label_cut passes net flow) (all_nodes net)) (done (each (inflow_rule passes net flow) (all_links net)))
+    (done (each (link_rates passes net flow) (all_links net)))
   where
     one : (labels : List (List Point)) (r : Trial (List Loaded)) → (r >>= λ loaded. let both : Pair = (labels, loaded) in Ok both) ≡ beside labels r
     one labels (Ok loaded) = refl
@@ -81,7 +85,9 @@ worked_is passes net flow = go (each (label_cut passes net flow) (all_nodes net)
 
 pub tested-is : (passes : Passing) (net : Network) (flow : Flow) → done (trial passes net flow) ≡ tested_list passes net flow
 unfolding trial tested_list compared_list arrivals_list told_list balances_list
-tested-is passes net flow = worked_same (each (label_cut passes net flow) (all_nodes net)) (each (inflow_rule passes net flow) (all_links net)) (each (link_rates passes net flow) (all_links net))
+tested-is passes net flow =
+    worked_same (each (label_cut passes net flow) (all_nodes net)) (each (inflow_rule passes net flow) (all_links net))
+    (each (link_rates passes net flow) (all_links net))
     (λ labels. each (loading passes net flow labels) (enumerate_from 0 net.links)) _ (λ labels loaded. compared_list passes net flow labels loaded)
     (λ labels loaded. compared_same (compared passes net flow C3 (Node net.source) (points_at labels net.source) (departures flow.reached) flow.reached)
     (each (arrivals passes net flow labels loaded) (nodes_but net.source net)) (each (outflow_rule passes net flow labels loaded) (enumerate_from 0 net.links))
@@ -100,12 +106,14 @@ labels_end passes net flow e h =
 -- ---- the labels at the source, however they are named
 pub arrivals-is : (passes : Passing) (net : Network) (flow : Flow) (labels : List (List Point)) (loaded : List Loaded) (source : ℕ) (label line : List Point) → source ≡ net.source
     → label ≡ points_at labels net.source → line ≡ departures flow.reached
-    → arrivals_list passes net flow labels loaded ≡ (compared_by passes C3 (Node source) label line flow.reached >>= λ _. done (each (arrivals passes net flow labels loaded) (nodes_but net.source net)))
+    → arrivals_list passes net flow labels loaded ≡ (compared_by passes C3 (Node source) label line flow.reached >>= λ _. done
+        (each (arrivals passes net flow labels loaded) (nodes_but net.source net)))
 unfolding arrivals_list
 arrivals-is passes net flow labels loaded source label line e f g =
     sym (ap (λ (s : ℕ). compared_by passes C3 (Node s) label line flow.reached >>= λ _. done (each (arrivals passes net flow labels loaded) (nodes_but net.source net))) e
     ∙ ap (λ (l : List Point). compared_by passes C3 (Node net.source) l line flow.reached >>= λ _. done (each (arrivals passes net flow labels loaded) (nodes_but net.source net))) f
-    ∙ ap (λ (l : List Point). compared_by passes C3 (Node net.source) (points_at labels net.source) l flow.reached >>= λ _. done (each (arrivals passes net flow labels loaded) (nodes_but net.source net))) g)
+    ∙ ap (λ (l : List Point). compared_by passes C3 (Node net.source) (points_at labels net.source) l flow.reached >>= λ _. done
+        (each (arrivals passes net flow labels loaded) (nodes_but net.source net))) g)
 
 -- ---- the sink, however it is named
 module _ (passes : Passing) (net : Network) (flow : Flow) (labels : List (List Point)) (loaded : List Loaded) (supplied : List Point) where
@@ -119,7 +127,8 @@ module _ (passes : Passing) (net : Network) (flow : Flow) (labels : List (List P
     total ← in_part Check (checked_sum passes gone supplied)
     compared_by passes C7 (Node sink) come total flow.reached
 
-  pub sink-is : (sink : ℕ) (label : List Point) (first : ℚ) → sink ≡ net.sink → label ≡ points_at labels net.sink → first ≡ first_value label → sink_rules passes net flow labels loaded supplied ≡ at_sink sink label first
+  pub sink-is : (sink : ℕ) (label : List Point) (first : ℚ) → sink ≡ net.sink → label ≡ points_at labels net.sink → first ≡ first_value label
+      → sink_rules passes net flow labels loaded supplied ≡ at_sink sink label first
   sink-is sink label first e f g =
       ap (λ (t : ℚ). at_sink net.sink (points_at labels net.sink) t) (sym (g ∙ ap first_value f ∙ first_same passes net flow (points_at labels net.sink)))
       ∙ sym (ap (λ (l : List Point). at_sink net.sink l first) f) ∙ sym (ap (λ (s : ℕ). at_sink s label first) e)

@@ -46,7 +46,8 @@ module _ (net : Network) (sets : Sets) (slopes flows : List ℚ) (flags : List B
     last = f.closed.last;
     closes = f.closed.closes;
     highest = f.closed.highest;
-    before = forest-weaker (hops net) (λ e. (e < f.closed.last) × Has flags e) (λ e. (e < f.closed.last) × IsInterior net sets slopes flows e) (λ e w. (w.0, (are e).1 w.1)) f.closed.before;
+    before = forest-weaker (hops net) (λ e. (e < f.closed.last) × Has flags e) (λ e. (e < f.closed.last) × IsInterior net sets slopes flows e)
+        (λ e w. (w.0, (are e).1 w.1)) f.closed.before;
     lowest = f.lowest;
     grows = f.grows;
     least = f.least;
@@ -73,7 +74,9 @@ module _ (passes : Passing) (net : Network) (sets : Sets) (slopes : List ℚ) (f
   pub interior_found : {X : Type 0} (last_of : X → ℕ) (steps_of : X → List (ℕ × Bool)) (found : Option X)
       → MatchOption found (IsForest (hops net) (Has (interior_flags sets fulls flows))) (λ x. ClosesFirst (hops net) (interior_flags sets fulls flows) (last_of x) (steps_of x))
       → MatchOption found (IsForest (hops net) (IsInterior net sets slopes flows)) (λ x. ClosesNext net sets slopes flows (last_of x) (steps_of x))
-  interior_found last_of steps_of (Some x) h = closes_of net sets slopes flows (interior_flags sets fulls flows) (flags_are passes net sets slopes fulls fulls_ok flows count) (last_of x) (steps_of x) h
+  interior_found last_of steps_of (Some x) h =
+      closes_of net sets slopes flows (interior_flags sets fulls flows) (flags_are passes net sets slopes fulls fulls_ok flows count) (last_of x)
+      (steps_of x) h
   interior_found last_of steps_of None h = forest_of net sets slopes flows (interior_flags sets fulls flows) (flags_are passes net sets slopes fulls fulls_ok flows count) h
 
 -- ---- an operation that passes, as an answer
@@ -87,17 +90,21 @@ halts_of Comes flows_of list (Halt.Passed p) f said = let q = passed_of list (se
 halts_of Comes flows_of list Halt.Memory f said = tt
 
 -- ---- as a loop sees it: it reads the flows so far
-pub closes_at : {X : Type 0} (last_of : X → ℕ) (steps_of : X → List (ℕ × Bool)) (net : Network) (sets : Sets) (slopes seen flows : List ℚ) (found : Option X) (x : X) → seen ≡ flows → found ≡ Some x
-    → MatchOption found (IsForest (hops net) (IsInterior net sets slopes seen)) (λ y. ClosesNext net sets slopes seen (last_of y) (steps_of y)) → ClosesNext net sets slopes flows (last_of x) (steps_of x)
+pub closes_at : {X : Type 0} (last_of : X → ℕ) (steps_of : X → List (ℕ × Bool)) (net : Network) (sets : Sets) (slopes seen flows : List ℚ)
+    (found : Option X) (x : X) → seen ≡ flows → found ≡ Some x
+    → MatchOption found (IsForest (hops net) (IsInterior net sets slopes seen)) (λ y. ClosesNext net sets slopes seen (last_of y) (steps_of y))
+        → ClosesNext net sets slopes flows (last_of x) (steps_of x)
 closes_at last_of steps_of net sets slopes seen flows found x same is h = subst (λ (f : List ℚ). ClosesNext net sets slopes f (last_of x) (steps_of x)) same
     (MatchOption-at_some (IsForest (hops net) (IsInterior net sets slopes seen)) (λ y. ClosesNext net sets slopes seen (last_of y) (steps_of y)) x is h)
 
 pub none_at : {X : Type 0} (last_of : X → ℕ) (steps_of : X → List (ℕ × Bool)) (net : Network) (sets : Sets) (slopes seen flows : List ℚ) (found : Option X) → seen ≡ flows → found ≡ None
-    → MatchOption found (IsForest (hops net) (IsInterior net sets slopes seen)) (λ y. ClosesNext net sets slopes seen (last_of y) (steps_of y)) → IsForest (hops net) (IsInterior net sets slopes flows)
+    → MatchOption found (IsForest (hops net) (IsInterior net sets slopes seen)) (λ y. ClosesNext net sets slopes seen (last_of y) (steps_of y))
+        → IsForest (hops net) (IsInterior net sets slopes flows)
 none_at last_of steps_of net sets slopes seen flows found same is h = subst (λ (f : List ℚ). IsForest (hops net) (IsInterior net sets slopes f)) same
     (MatchOption-at_none (IsForest (hops net) (IsInterior net sets slopes seen)) (λ y. ClosesNext net sets slopes seen (last_of y) (steps_of y)) is h)
 
-pub list_at : (passes : Passing) (fulls : List (Option ℚ)) (read steps : List (ℕ × Bool)) (seen flows : List ℚ) → read ≡ steps → seen ≡ flows → cancel_list passes read fulls seen ≡ cancel_list passes steps fulls flows
+pub list_at : (passes : Passing) (fulls : List (Option ℚ)) (read steps : List (ℕ × Bool)) (seen flows : List ℚ) → read ≡ steps → seen ≡ flows
+    → cancel_list passes read fulls seen ≡ cancel_list passes steps fulls flows
 list_at passes fulls read steps seen flows e f = ap (λ (s : List (ℕ × Bool)). cancel_list passes s fulls seen) e ∙ ap (cancel_list passes steps fulls) f
 
 -- ---- one after the other
@@ -159,12 +166,14 @@ module _ (passes : Passing) (net : Network) (sets : Sets) (slopes flows : List �
   settles_stop q e = stops q e
 
   pub settles_on : {X : Type 0} (flows_of : X → List ℚ) (fulls : List (Option ℚ)) → fulls_list passes net sets slopes ≡ Ok fulls → (halt : Halt ℚ)
-      → GivesOneOf (Cancels passes net sets slopes fulls flows) flows_of (Err halt) → {Y : Type 0} (others_of : Y → List ℚ) → GivesOneOf (Settles passes net sets slopes flows) others_of (Err halt)
+      → GivesOneOf (Cancels passes net sets slopes fulls flows) flows_of (Err halt) → {Y : Type 0} (others_of : Y → List ℚ)
+          → GivesOneOf (Settles passes net sets slopes flows) others_of (Err halt)
   settles_on flows_of fulls ok (Halt.Passed p) c others_of = (c.0, settles fulls (Err c.0) ok c.1, c.2)
   settles_on flows_of fulls ok Halt.Memory c others_of = tt
 
 -- ---- the whole: the flows that fill the links are read, and all cycles are cancelled
-pub fulls_read : (passes : Passing) (net : Network) (sets : Sets) (slopes : List ℚ) (read seen : List (Option ℚ)) → at_part Verdict (fulls_list passes net sets slopes) ≡ Ok read → seen ≡ read → fulls_list passes net sets slopes ≡ Ok seen
+pub fulls_read : (passes : Passing) (net : Network) (sets : Sets) (slopes : List ℚ) (read seen : List (Option ℚ))
+    → at_part Verdict (fulls_list passes net sets slopes) ≡ Ok read → seen ≡ read → fulls_list passes net sets slopes ≡ Ok seen
 fulls_read passes net sets slopes read seen worked same = value_of (fulls_list passes net sets slopes) read (sym worked) ∙ ap (λ (f : List (Option ℚ)). Ok f) (sym same)
 
 pub with_fulls : (passes : Passing) (net : Network) (sets : Sets) (rate : ℚ) (flows slopes : List ℚ) → IsThinFlow net sets rate flows slopes → (read seen : List (Option ℚ))
@@ -176,7 +185,8 @@ pub record IsSettled (passes : Passing) (net : Network) (sets : Sets) (rate : �
   pub thin : IsThinFlow net sets rate new slopes
   pub forest : IsForest (hops net) (IsInterior net sets slopes new)
 
-pub settled_by : (passes : Passing) (net : Network) (sets : Sets) (rate : ℚ) (flows slopes : List ℚ) → AreGoodSets net sets → IsThinFlow net sets rate flows slopes → (read seen : List (Option ℚ))
+pub settled_by : (passes : Passing) (net : Network) (sets : Sets) (rate : ℚ) (flows slopes : List ℚ) → AreGoodSets net sets
+    → IsThinFlow net sets rate flows slopes → (read seen : List (Option ℚ))
     → at_part Verdict (fulls_list passes net sets slopes) ≡ Ok read → seen ≡ read → (new : List ℚ)
     → ((slopes : List ℚ) → IsThinWithFulls passes net sets slopes seen flows → Cancels passes net sets slopes seen flows (Ok new)) → IsSettled passes net sets rate flows slopes new
 settled_by passes net sets rate flows slopes good thin read seen worked same new cancelled =
@@ -185,7 +195,8 @@ settled_by passes net sets rate flows slopes good thin read seen worked same new
     let end = settles-end passes net sets rate flows slopes new (Ok new) good refl thin it in
     record { settles_it = it; thin = end.0; forest = end.1 }
 
-module _ (passes : Passing) (net : Network) (sets : Sets) (rate : ℚ) (flows slopes new : List ℚ) (good : AreGoodSets net sets) (rate_nn : 0ℚ ≤ℚ rate) (s : IsSettled passes net sets rate flows slopes new)
+module _ (passes : Passing) (net : Network) (sets : Sets) (rate : ℚ) (flows slopes new : List ℚ) (good : AreGoodSets net sets) (rate_nn : 0ℚ ≤ℚ rate)
+    (s : IsSettled passes net sets rate flows slopes new)
     (pattern : Pattern) (seen : List ℚ) (same : seen ≡ new) (is : IsSettledPattern net sets seen slopes pattern) where
   is_new : IsSettledPattern net sets new slopes pattern
   is_new = subst (λ (f : List ℚ). IsSettledPattern net sets f slopes pattern) same is

@@ -58,10 +58,13 @@ module _ (passes : Passing) (net : Network) (sets : Sets) (rate : ℚ) (flows : 
 
   -- the sum over the links with one end at a node
   module _ (v : ℕ) (end : Link → ℕ) (more : ℚ → ℕ × Link → Checked ℚ) (total : List Link → (ℕ → ℚ) → ℚ)
-      (more_by : (so_far : ℚ) (e : ℕ) (link : Link) → more so_far (e, link) ≡ sum_more passes net sets rate flows (unwrap_or (slice_get sets.active e) false && eqb (end link) v) so_far e)
+      (more_by : (so_far : ℚ) (e : ℕ) (link : Link) → more so_far (e, link) ≡ sum_more passes net sets rate flows
+          (unwrap_or (slice_get sets.active e) false && eqb (end link) v) so_far e)
       (total_none : (f : ℕ → ℚ) → total [] f ≡ 0ℚ)
-      (total_more : (link : Link) (links : List Link) (f : ℕ → ℚ) → total (link ∷ links) f ≡ (if eqb (end link) v then f 0 +ℚ total links (λ e. f (suc e)) else total links (λ e. f (suc e)))) where
-    total-is : (links : List Link) (k : ℕ) (f : ℕ → ℚ) (start y : ℚ) → ((e : ℕ) → f e ≡ carried (k + e)) → fold_checked more start (enumerate_from k links) ≡ Ok y → y ≡ start +ℚ total links f
+      (total_more : (link : Link) (links : List Link) (f : ℕ → ℚ) → total (link ∷ links) f
+          ≡ (if eqb (end link) v then f 0 +ℚ total links (λ e. f (suc e)) else total links (λ e. f (suc e)))) where
+    total-is : (links : List Link) (k : ℕ) (f : ℕ → ℚ) (start y : ℚ) → ((e : ℕ) → f e ≡ carried (k + e))
+        → fold_checked more start (enumerate_from k links) ≡ Ok y → y ≡ start +ℚ total links f
     total-is [] k f start y same h = none_added start y (sym (same_Ok start y h)) ∙ ap (λ (x : ℚ). start +ℚ x) (sym (total_none f))
     total-is (link ∷ links) k f start y same h =
         let b = bind_ok (more start (k, link)) (λ next. fold_checked more next (enumerate_from (k + 1) links)) y h in
@@ -78,10 +81,14 @@ module _ (passes : Passing) (net : Network) (sets : Sets) (rate : ℚ) (flows : 
   at_zero e = ap carried (let z : e ≡ 0 + e = omega arith in z)
 
   comes-is : (v : ℕ) (y : ℚ) → fold_checked (in_more passes net sets rate flows v) 0ℚ (enumerate_from 0 net.links) ≡ Ok y → y ≡ sum_in net.links carried v
-  comes-is v y h = from_zero y (sum_in net.links carried v) (total-is v (λ l. l.head) (in_more passes net sets rate flows v) (λ links f. sum_in links f v) (λ so_far e link. refl) (λ f. refl) (λ link links f. refl) net.links 0 carried 0ℚ y at_zero h)
+  comes-is v y h =
+      from_zero y (sum_in net.links carried v) (total-is v (λ l. l.head) (in_more passes net sets rate flows v) (λ links f. sum_in links f v)
+      (λ so_far e link. refl) (λ f. refl) (λ link links f. refl) net.links 0 carried 0ℚ y at_zero h)
 
   goes-is : (v : ℕ) (y : ℚ) → fold_checked (out_more passes net sets rate flows v) 0ℚ (enumerate_from 0 net.links) ≡ Ok y → y ≡ sum_out net.links carried v
-  goes-is v y h = from_zero y (sum_out net.links carried v) (total-is v (λ l. l.tail) (out_more passes net sets rate flows v) (λ links f. sum_out links f v) (λ so_far e link. refl) (λ f. refl) (λ link links f. refl) net.links 0 carried 0ℚ y at_zero h)
+  goes-is v y h =
+      from_zero y (sum_out net.links carried v) (total-is v (λ l. l.tail) (out_more passes net sets rate flows v) (λ links f. sum_out links f v)
+      (λ so_far e link. refl) (λ f. refl) (λ link links f. refl) net.links 0 carried 0ℚ y at_zero h)
 
   stays-is : (stays : Bool) (sum y : ℚ) → with_rate passes net sets rate flows stays sum ≡ Ok y → y ≡ (if stays then sum +ℚ rate else sum)
   stays-is true sum y h = checked-is passes Sum sum rate y h
@@ -90,9 +97,12 @@ module _ (passes : Passing) (net : Network) (sets : Sets) (rate : ℚ) (flows : 
   -- ---- a link more, by its end
   pub more_told : (r : Result ℚ (PassedAt ℚ)) (end : End) (v : ℕ) (so_far : ℚ) (e : ℕ) (at : Bool)
       → r ≡ at_part Verdict (sum_more passes net sets rate flows (unwrap_or (slice_get sets.active e) false && at) so_far e)
-      → ((here : Link) → IsLink net e here → at ≡ eqb (node_by end here) v) → (here : Link) → IsLink net e here → r ≡ at_part Verdict (more_at passes net sets rate flows end v so_far (e, here))
-  more_told r Head v so_far e at said is here p = said ∙ ap (λ (b : Bool). at_part Verdict (sum_more passes net sets rate flows (unwrap_or (slice_get sets.active e) false && b) so_far e)) (is here p)
-  more_told r Tail v so_far e at said is here p = said ∙ ap (λ (b : Bool). at_part Verdict (sum_more passes net sets rate flows (unwrap_or (slice_get sets.active e) false && b) so_far e)) (is here p)
+      → ((here : Link) → IsLink net e here → at ≡ eqb (node_by end here) v) → (here : Link) → IsLink net e here
+          → r ≡ at_part Verdict (more_at passes net sets rate flows end v so_far (e, here))
+  more_told r Head v so_far e at said is here p =
+      said ∙ ap (λ (b : Bool). at_part Verdict (sum_more passes net sets rate flows (unwrap_or (slice_get sets.active e) false && b) so_far e)) (is here p)
+  more_told r Tail v so_far e at said is here p =
+      said ∙ ap (λ (b : Bool). at_part Verdict (sum_more passes net sets rate flows (unwrap_or (slice_get sets.active e) false && b) so_far e)) (is here p)
 
   -- ---- the node
   module _ (v : ℕ) where

@@ -45,7 +45,8 @@ keeps-least false (Some c) x s t p k = ⊎_elim
     k.0
 
 -- a node takes its slope from a link that is resetting, carries flow, or has equal slopes at its ends
-pub keeps-taken : (resets : Bool) (capacity : Option ℚ) (x s t : ℚ) → IsPositive capacity → (resets ≡ true → capacity ≡ None → ⊥) → 0ℚ ≤ℚ x → 0ℚ ≤ℚ s → KeepsSlopes resets (filling capacity t) x s t
+pub keeps-taken : (resets : Bool) (capacity : Option ℚ) (x s t : ℚ) → IsPositive capacity → (resets ≡ true → capacity ≡ None → ⊥) → 0ℚ ≤ℚ x → 0ℚ ≤ℚ s
+    → KeepsSlopes resets (filling capacity t) x s t
     → (resets ≡ true) ⊎ ((x ≢ 0ℚ) ⊎ (t ≡ s)) → exit_slope resets capacity x s ≡ t
 keeps-taken true None x s t p b n m k w = absurd (b refl refl)
 keeps-taken true (Some c) x s t p b n m k w = exit_resetting (Some c) x s t p (c, refl, k)

@@ -24,7 +24,8 @@ module _ {A B : Type 0} (f : B → A → Result B (Passed ℚ)) (xs : List A) (s
       where
         go : (r : Result B (Passed ℚ)) → f so_far x ≡ r → at_part part r ≡ Err p → at_part part (fold_checked f start xs) ≡ Err p
         go (Ok y) k e = absurd (cc)
-        go (Err q) k e = ap (at_part part) (so ∙ (ap (fold_checked f so_far) (drop_at xs i x at) ∙ fold_err f so_far x (drop (suc i) xs) q k)) ∙ ap Err (same_Err {A = B} (placed part q) p e)
+        go (Err q) k e = ap (at_part part) (so ∙ (ap (fold_checked f so_far) (drop_at xs i x at) ∙ fold_err f so_far x (drop (suc i) xs) q k))
+            ∙ ap Err (same_Err {A = B} (placed part q) p e)
 
   pub fold_ends : (so_far : B) (i : ℕ) → length xs ≤ i → FoldsOn so_far i → fold_checked f start xs ≡ Ok so_far
   fold_ends so_far i end so = so ∙ ap (fold_checked f so_far) (drop_of_length-le xs end)

@@ -30,13 +30,15 @@ level_told net slopes e link b p same = says_like b
     (λ (w : IsLevelAt net slopes e). w link p)
     (says_by b (same_test (number_at slopes link.head) (number_at slopes link.tail)) same (Decides-same (number_at slopes link.head) (number_at slopes link.tail)))
 
-pub brings_told : (sets : Sets) (flows : List ℚ) (e : ℕ) (b : Bool) → (Has sets.resetting e → ⊥) → b ≡ same_test (number_at flows e) 0ℚ → MatchBool (not b) (Brings sets flows e) (Brings sets flows e → ⊥)
+pub brings_told : (sets : Sets) (flows : List ℚ) (e : ℕ) (b : Bool) → (Has sets.resetting e → ⊥) → b ≡ same_test (number_at flows e) 0ℚ
+    → MatchBool (not b) (Brings sets flows e) (Brings sets flows e → ⊥)
 brings_told sets flows e b none same = says_like (not b)
     (λ (h : number_at flows e ≢ 0ℚ). inr h)
     (λ (w : Brings sets flows e). ⊎_elim (λ (r : Has sets.resetting e). absurd (none r)) (λ (z : number_at flows e ≢ 0ℚ). z) w)
     (says_by (not b) (not (same_test (number_at flows e) 0ℚ)) (ap not same) (Decides-not (same_test (number_at flows e) 0ℚ) (Decides-same (number_at flows e) 0ℚ)))
 
-pub carries_told : (sets : Sets) (flows : List ℚ) (e : ℕ) (b : Bool) → (Has sets.active e → ⊥) → b ≡ same_test (number_at flows e) 0ℚ → MatchBool b (CarriesIfActive sets flows e) (CarriesIfActive sets flows e → ⊥)
+pub carries_told : (sets : Sets) (flows : List ℚ) (e : ℕ) (b : Bool) → (Has sets.active e → ⊥) → b ≡ same_test (number_at flows e) 0ℚ
+    → MatchBool b (CarriesIfActive sets flows e) (CarriesIfActive sets flows e → ⊥)
 carries_told sets flows e b none same = says_like b
     (λ (h : number_at flows e ≡ 0ℚ). λ _. h)
     (λ (w : CarriesIfActive sets flows e). w none)

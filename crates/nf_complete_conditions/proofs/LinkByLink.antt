@@ -29,7 +29,8 @@ module _ (f : ℚ → ℕ × Link → Checked ℚ) (net : Network) (start : ℚ)
         let later : suc e ≡ e + 1 = omega arith in
         subst (SoFar next) later (folds_more f (enumerate_from 0 net.links) start so_far e (e, here.0) at_here so next (part_ok Verdict (f so_far (e, here.0)) next (said here.0 here.1)))
 
-    pub adding_stops : (p : PassedAt ℚ) → ((link : Link) → IsLink net e link → Err p ≡ at_part Verdict (f so_far (e, link))) → Err p ≡ at_part Verdict (fold_checked f start (enumerate_from 0 net.links))
+    pub adding_stops : (p : PassedAt ℚ) → ((link : Link) → IsLink net e link → Err p ≡ at_part Verdict (f so_far (e, link)))
+        → Err p ≡ at_part Verdict (fold_checked f start (enumerate_from 0 net.links))
     adding_stops p said = sym (fold_stops f (enumerate_from 0 net.links) start so_far e (e, here.0) at_here so Verdict p (sym (said here.0 here.1)))
 
   pub adding_ends : (so_far : ℚ) (e : ℕ) → length net.links ≤ e → SoFar so_far e → Ok so_far ≡ at_part Verdict (fold_checked f start (enumerate_from 0 net.links))

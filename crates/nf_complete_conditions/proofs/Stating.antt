@@ -70,7 +70,8 @@ module _ (net : Network) (sets : Sets) (flows slopes : List ℚ) where
     pub leads_first : LeadsToBare net sets flows slopes e link → NoneLevelBefore net sets slopes v e
     leads_first l k h w = l.first.first k w.0.0 h (subst (λ (j : ℕ). Enters net sets j k w.0.0) at w.0.1) (w.1 w.0.0 w.0.1.is_link)
 
-    pub leads_told : (answer : Bool) → LevelInto net sets slopes v e → IsBare net sets flows v → MatchBool answer (NoneLevelBefore net sets slopes v e) (NoneLevelBefore net sets slopes v e → ⊥)
+    pub leads_told : (answer : Bool) → LevelInto net sets slopes v e → IsBare net sets flows v
+        → MatchBool answer (NoneLevelBefore net sets slopes v e) (NoneLevelBefore net sets slopes v e → ⊥)
         → MatchBool answer (LeadsToBare net sets flows slopes e link) (LeadsToBare net sets flows slopes e link → ⊥)
     leads_told true w b none = leads_made w b none
     leads_told false w b some = λ l. some (leads_first l)
@@ -78,7 +79,9 @@ module _ (net : Network) (sets : Sets) (flows slopes : List ℚ) where
   -- ---- the flow that fills a link
   fills_told : (capacity : Option ℚ) (x t : ℚ) → Decides (full_test (filling capacity t) x) (Fills capacity x t)
   fills_told None x t = (λ e. absurd (cc), λ f. absurd (none-some f.0 f.1))
-  fills_told (Some c) x t = Decides-like (same_test x (c *ℚ t)) (λ (e : x ≡ c *ℚ t). (c, refl, e)) (λ (f : Fills (Some c) x t). f.2 ∙ ap (λ (z : ℚ). z *ℚ t) (sym (same_Some c f.0 f.1))) (Decides-same x (c *ℚ t))
+  fills_told (Some c) x t =
+      Decides-like (same_test x (c *ℚ t)) (λ (e : x ≡ c *ℚ t). (c, refl, e))
+      (λ (f : Fills (Some c) x t). f.2 ∙ ap (λ (z : ℚ). z *ℚ t) (sym (same_Some c f.0 f.1))) (Decides-same x (c *ℚ t))
 
   module _ (passes : Passing) (fulls : List (Option ℚ)) (fulls_ok : fulls_list passes net sets slopes ≡ Ok fulls) (e : ℕ) (needs : NeedsState sets e) where
     abbrev full : Option ℚ
@@ -114,12 +117,14 @@ module _ (net : Network) (sets : Sets) (flows slopes : List ℚ) where
   pub states_whole : (n m : ℕ) (pattern : Pattern) → m ≤ n → StatesBelow n pattern → StatesBelow m pattern
   states_whole n m pattern h so = record { count = so.count; states = λ e l. so.states e (omega arith) }
 
-  pub states_more : (n : ℕ) (pattern : Pattern) (o : Option State) → n < length net.links → StatesBelow n pattern → IsStateAt net sets flows slopes n o → StatesBelow (n + 1) (slice_set pattern n o)
+  pub states_more : (n : ℕ) (pattern : Pattern) (o : Option State) → n < length net.links → StatesBelow n pattern → IsStateAt net sets flows slopes n o
+      → StatesBelow (n + 1) (slice_set pattern n o)
   states_more n pattern o inside so here = record {
     count = length-set pattern n o ∙ so.count;
     states = λ e h. ⊎_elim
         (λ (l : e < n). let s = so.states e l in (s.0, set_other pattern n e o (λ q. absurd (omega arith)) ∙ s.1, s.2))
-        (λ (q : e ≡ n). subst (λ (k : ℕ). (s : Option State) × (slice_get (slice_set pattern n o) k ≡ Some s) × IsStateAt net sets flows slopes k s) (sym q) (o, set_same pattern n o (let c = so.count in omega arith), here))
+        (λ (q : e ≡ n). subst (λ (k : ℕ). (s : Option State) × (slice_get (slice_set pattern n o) k ≡ Some s) × IsStateAt net sets flows slopes k s) (sym q)
+            (o, set_same pattern n o (let c = so.count in omega arith), here))
         (before_or_at e n h);
   }
 
@@ -147,14 +152,16 @@ module _ (net : Network) (sets : Sets) (flows slopes : List ℚ) where
     empty e link n z l (Some Full, h, f) = absurd (f.1.0 z)
     empty e link n z l (Some Zero, h, f) = h
 
-    filled : (e : ℕ) (link : Link) → NeedsState sets e → number_at flows e ≢ 0ℚ → Fills link.capacity (number_at flows e) (number_at slopes link.head) → Entry e link → HasState pattern e Full
+    filled : (e : ℕ) (link : Link) → NeedsState sets e → number_at flows e ≢ 0ℚ → Fills link.capacity (number_at flows e) (number_at slopes link.head)
+        → Entry e link → HasState pattern e Full
     filled e link n z k (None, h, f) = absurd (f n)
     filled e link n z k (Some Tight, h, f) = absurd (⊎_elim (λ (w : LeadsToBare net sets flows slopes e link). z (bare_empty e link w))
         (λ (w : (number_at flows e ≢ 0ℚ) × (Fills link.capacity (number_at flows e) (number_at slopes link.head) → ⊥)). w.1 k) f.1)
     filled e link n z k (Some Full, h, f) = h
     filled e link n z k (Some Zero, h, f) = absurd (z f.1.0)
 
-    others : (e : ℕ) (link : Link) → NeedsState sets e → number_at flows e ≢ 0ℚ → (Fills link.capacity (number_at flows e) (number_at slopes link.head) → ⊥) → Entry e link → HasState pattern e Tight
+    others : (e : ℕ) (link : Link) → NeedsState sets e → number_at flows e ≢ 0ℚ → (Fills link.capacity (number_at flows e) (number_at slopes link.head) → ⊥)
+        → Entry e link → HasState pattern e Tight
     others e link n z k (None, h, f) = absurd (f n)
     others e link n z k (Some Tight, h, f) = h
     others e link n z k (Some Full, h, f) = absurd (k f.1.1)

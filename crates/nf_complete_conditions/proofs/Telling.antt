@@ -42,7 +42,8 @@ then_passes r x f p e h = ap (λ (w : _). at_part Verdict (w >>= f)) e ∙ h
 
 -- ---- many
 module _ {A B : Type 0} (f : A → Checked B) where
-  each_err_first : (xs : List A) (i : ℕ) (x : A) (p : Passed ℚ) → slice_get xs i ≡ Some x → f x ≡ Err p → ((k : ℕ) (y : A) → k < i → slice_get xs k ≡ Some y → IsOk (f y)) → each f xs ≡ Err p
+  each_err_first : (xs : List A) (i : ℕ) (x : A) (p : Passed ℚ) → slice_get xs i ≡ Some x → f x ≡ Err p
+      → ((k : ℕ) (y : A) → k < i → slice_get xs k ≡ Some y → IsOk (f y)) → each f xs ≡ Err p
   each_err_first [] i x p at e before = absurd (none-some x at)
   each_err_first (y ∷ xs) zero x p at e before = ap (λ (r : Checked B). r >>= λ z. each f xs >>= λ zs. Ok (z ∷ zs)) (ap f (same_Some y x at) ∙ e)
   each_err_first (y ∷ xs) (suc i) x p at e before = go (f y) refl (before 0 y (omega arith) refl) (each_err_first xs i x p at e (λ k w l s. before (suc k) w (omega arith) s))
@@ -135,8 +136,10 @@ each_node P n f v h = f v v (node_at n v h)
 pub node_each : (P : ℕ → Type 0) (n : ℕ) → ((v : ℕ) → v < n → P v) → (k v : ℕ) → slice_get (range_with_len 0 n) k ≡ Some v → P v
 node_each P n f k v s = let r = in_range 0 n k v s in f v (omega arith)
 
-pub each_link : {A : Type 0} (P : ℕ → A → Type 0) (xs : List A) → ((k : ℕ) (p : ℕ × A) → slice_get (enumerate_from 0 xs) k ≡ Some p → P p.0 p.1) → (e : ℕ) (x : A) → slice_get xs e ≡ Some x → P e x
+pub each_link : {A : Type 0} (P : ℕ → A → Type 0) (xs : List A) → ((k : ℕ) (p : ℕ × A) → slice_get (enumerate_from 0 xs) k ≡ Some p → P p.0 p.1)
+    → (e : ℕ) (x : A) → slice_get xs e ≡ Some x → P e x
 each_link P xs f e x h = f e (e, x) (link_at xs e x h)
 
-pub link_each : {A : Type 0} (P : ℕ → A → Type 0) (xs : List A) → ((e : ℕ) (x : A) → slice_get xs e ≡ Some x → P e x) → (k : ℕ) (p : ℕ × A) → slice_get (enumerate_from 0 xs) k ≡ Some p → P p.0 p.1
+pub link_each : {A : Type 0} (P : ℕ → A → Type 0) (xs : List A) → ((e : ℕ) (x : A) → slice_get xs e ≡ Some x → P e x) → (k : ℕ) (p : ℕ × A)
+    → slice_get (enumerate_from 0 xs) k ≡ Some p → P p.0 p.1
 link_each {A = A} P xs f k p s = let r = in_numbered 0 xs k p s in f p.0 p.1 (subst (λ (j : ℕ). slice_get xs j ≡ Some p.1) (let n = r.0 in let e : k ≡ p.0 = omega arith in e) r.1)

@@ -86,7 +86,8 @@ module _ (hops : List Hop) (chosen : List Bool) (e : ℕ) (before : List Bool) (
   module _ (hop : Hop) (i : ℕ) (q : i ≡ e) (p : IsHop hops e hop) (c : Has chosen e) where
     flags_more : (k : ℕ) → Has (set before i true) k ↔ ((k < e + 1) × Has chosen k)
     flags_more k = (
-      (λ h. ⊎_elim (λ (s : k ≡ i). (at k (s ∙ q), subst (λ (j : ℕ). Has chosen j) (sym (s ∙ q)) c)) (λ (s : Has before k). let w = (b.flags k).0 s in (below w.0, w.1)) (Has-set_cases before i k h)),
+      (λ h. ⊎_elim (λ (s : k ≡ i). (at k (s ∙ q), subst (λ (j : ℕ). Has chosen j) (sym (s ∙ q)) c))
+          (λ (s : Has before k). let w = (b.flags k).0 s in (below w.0, w.1)) (Has-set_cases before i k h)),
       (λ w. ⊎_elim
           (λ (l : k < e). Has-set_other before i k ((b.flags k).1 (l, w.1)))
           (λ (l : e ≤ k). subst (λ (j : ℕ). Has (set before i true) j) (same k w.0 l) (Has-set_same before i (let n = slice_get_within hops e hop p in let m = b.count in omega arith)))
@@ -109,7 +110,8 @@ module _ (hops : List Hop) (chosen : List Bool) (e : ℕ) (before : List Bool) (
       flags = flags_more;
       forest = forest-weaker hops (λ k. Has before k ⊎ (k ≡ e)) (Has (set before i true))
           (λ k h. ⊎_elim (λ (s : k ≡ i). inr (s ∙ q)) (λ (s : Has before k). inl s) (Has-set_cases before i k h))
-          (forest-more hops (Has before) e hop p (flag apart.flags) (λ f g r h. flag_same apart.flags g.tail g.head (apart.closed f g r h)) (flag_other apart.flags hop.tail hop.head apart.from_in apart.to_out) b.forest);
+          (forest-more hops (Has before) e hop p (flag apart.flags) (λ f g r h. flag_same apart.flags g.tail g.head (apart.closed f g r h))
+              (flag_other apart.flags hop.tail hop.head apart.from_in apart.to_out) b.forest);
     }
 
     -- of links that are known to be a forest
@@ -132,7 +134,8 @@ module _ (hops : List Hop) (chosen : List Bool) (e : ℕ) (before : List Bool) (
   push_cases [] k c = ⊎_elim (λ (s : e ≡ k). inr (sym s)) (λ (s : Contains [] k). absurd (contains_none k s)) (contains_cases e [] k c)
   push_cases (s ∷ steps) k c = ⊎_elim
       (λ (q : s.0 ≡ k). inl (contains_first s.0 (links_of steps) k q))
-      (λ (q : Contains (links_of (steps ++ (e, true) ∷ [])) k). ⊎_elim (λ (r : Contains (links_of steps) k). inl (contains_more s.0 (links_of steps) k r)) (λ (r : k ≡ e). inr r) (push_cases steps k q))
+      (λ (q : Contains (links_of (steps ++ (e, true) ∷ [])) k). ⊎_elim (λ (r : Contains (links_of steps) k). inl (contains_more s.0 (links_of steps) k r))
+          (λ (r : k ≡ e). inr r) (push_cases steps k q))
       (contains_cases s.0 (links_of (steps ++ (e, true) ∷ [])) k c)
 
   push_contains : (steps : List (ℕ × Bool)) → Contains (links_of (steps ++ (e, true) ∷ [])) e
@@ -146,13 +149,16 @@ module _ (hops : List Hop) (chosen : List Bool) (e : ℕ) (before : List Bool) (
     push_differ steps d.1 (λ c. n (contains_more s.0 (links_of steps) e c)),
   )
 
-  push_trail : (hop : Hop) → IsHop hops e hop → Has chosen e → (steps : List (ℕ × Bool)) (v : ℕ) → IsTrail hops (Has chosen) steps v hop.tail → IsTrail hops (Has chosen) (steps ++ (e, true) ∷ []) v hop.head
+  push_trail : (hop : Hop) → IsHop hops e hop → Has chosen e → (steps : List (ℕ × Bool)) (v : ℕ) → IsTrail hops (Has chosen) steps v hop.tail
+      → IsTrail hops (Has chosen) (steps ++ (e, true) ∷ []) v hop.head
   push_trail hop p c [] v t = (hop, p, c, t, refl)
   push_trail hop p c (s ∷ steps) v (g, q, a, at, t) = (g, q, a, at, push_trail hop p c steps _ t)
 
   from_trail : (steps : List (ℕ × Bool)) (v w k : ℕ) → IsTrail hops (Has before) steps v w → Contains (links_of steps) k → Has before k
   from_trail [] v w k t (j, h, q) = absurd (omega arith)
-  from_trail (s ∷ steps) v w k (g, q, a, at, t) c = ⊎_elim (λ (r : s.0 ≡ k). subst (λ (i : ℕ). Has before i) r a) (λ (r : Contains (links_of steps) k). from_trail steps _ w k t r) (contains_cases s.0 (links_of steps) k c)
+  from_trail (s ∷ steps) v w k (g, q, a, at, t) c =
+      ⊎_elim (λ (r : s.0 ≡ k). subst (λ (i : ℕ). Has before i) r a) (λ (r : Contains (links_of steps) k). from_trail steps _ w k t r)
+      (contains_cases s.0 (links_of steps) k c)
 
   split : (steps : List (ℕ × Bool)) → (first : ℕ × Bool) × (rest : List (ℕ × Bool)) × (steps ++ (e, true) ∷ [] ≡ first ∷ rest)
   split [] = ((e, true), [], refl)
@@ -170,7 +176,8 @@ module _ (hops : List Hop) (chosen : List Bool) (e : ℕ) (before : List Bool) (
         differ = push_differ back way.differ (λ h. self (((b.flags e).0 (from_trail back hop.head hop.tail e way.trail h)).0));
         last = e;
         closes = push_contains back;
-        highest = λ k h. ⊎_elim (λ (q : Contains (links_of back) k). less (((b.flags k).0 (from_trail back hop.head hop.tail k way.trail q)).0)) (λ (q : k ≡ e). at k q) (push_cases back k h);
+        highest = λ k h. ⊎_elim (λ (q : Contains (links_of back) k). less (((b.flags k).0 (from_trail back hop.head hop.tail k way.trail q)).0))
+            (λ (q : k ≡ e). at k q) (push_cases back k h);
         before = forest-weaker hops (Has before) (λ k. (k < e) × Has chosen k) (λ k w. (b.flags k).1 w) b.forest;
       }
     where
@@ -183,7 +190,8 @@ module _ (hops : List Hop) (chosen : List Bool) (e : ℕ) (before : List Bool) (
       at : (k : ℕ) → k ≡ e → k ≤ e
       at k q = omega arith
 
-pub forest-end : (hops : List Hop) (chosen : List Bool) (e : ℕ) (before : List Bool) → AreBefore hops chosen e before → length chosen ≡ length hops → length hops ≤ e → IsForest hops (Has chosen)
+pub forest-end : (hops : List Hop) (chosen : List Bool) (e : ℕ) (before : List Bool) → AreBefore hops chosen e before → length chosen ≡ length hops
+    → length hops ≤ e → IsForest hops (Has chosen)
 forest-end hops chosen e before b l h = forest-weaker hops (Has before) (Has chosen) (λ k c. (b.flags k).1 (let w = Has-within chosen k c in omega arith, c)) b.forest
 
 -- ---- the lowest link
@@ -213,26 +221,31 @@ lowest-of (s ∷ steps) best result h = by (nat_le best.0 s.0) refl (lowest-of s
         go (found t k) = found (turn-other s.0 s.1 steps result.0 (λ q. absurd (omega arith)) ∙ t) k
 
     new : s.0 < best.0 → LowestOf steps s result → LowestOf (s ∷ steps) best result
-    new l r = (go r.0, (let m = r.1.0 in omega arith, λ e c. ⊎_elim (λ (q : s.0 ≡ e). let m = r.1.0 in omega arith) (λ (q : Contains (links_of steps) e). r.1.1 e q) (contains_cases s.0 (links_of steps) e c)))
+    new l r = (go r.0, (let m = r.1.0 in omega arith, λ e c. ⊎_elim (λ (q : s.0 ≡ e). let m = r.1.0 in omega arith)
+        (λ (q : Contains (links_of steps) e). r.1.1 e q) (contains_cases s.0 (links_of steps) e c)))
       where
         go : Chosen steps s result → Chosen (s ∷ steps) best result
-        go (kept e) = found (turn-same s.0 s.1 steps result.0 (sym (ap (λ (p : ℕ × Bool). p.0) e)) ∙ ap (λ (p : ℕ × Bool). Some p.1) (sym e)) (let m : result.0 ≡ s.0 = ap (λ (p : ℕ × Bool). p.0) e in omega arith)
+        go (kept e) = found (turn-same s.0 s.1 steps result.0 (sym (ap (λ (p : ℕ × Bool). p.0) e)) ∙ ap (λ (p : ℕ × Bool). Some p.1) (sym e))
+            (let m : result.0 ≡ s.0 = ap (λ (p : ℕ × Bool). p.0) e in omega arith)
         go (found t k) = found (turn-other s.0 s.1 steps result.0 (λ q. absurd (omega arith)) ∙ t) (omega arith)
 
     by : (t : Bool) → nat_le best.0 s.0 ≡ t → LowestOf steps (if t then best else s) result → LowestOf (s ∷ steps) best result
     by true e r = old (le_of e) r
       where
         le_of : nat_le best.0 s.0 ≡ true → best.0 ≤ s.0
-        le_of e = ⊎_elim (λ (w : (nat_le best.0 s.0 ≡ true) × (best.0 ≤ s.0)). w.1) (λ (w : (nat_le best.0 s.0 ≡ false) × (s.0 < best.0)). absurd (let q = w.0 in cc)) (leb_tells best.0 s.0)
+        le_of e = ⊎_elim (λ (w : (nat_le best.0 s.0 ≡ true) × (best.0 ≤ s.0)). w.1)
+            (λ (w : (nat_le best.0 s.0 ≡ false) × (s.0 < best.0)). absurd (let q = w.0 in cc)) (leb_tells best.0 s.0)
     by false e r = new (lt_of e) r
       where
         lt_of : nat_le best.0 s.0 ≡ false → s.0 < best.0
-        lt_of e = ⊎_elim (λ (w : (nat_le best.0 s.0 ≡ true) × (best.0 ≤ s.0)). absurd (let q = w.0 in cc)) (λ (w : (nat_le best.0 s.0 ≡ false) × (s.0 < best.0)). w.1) (leb_tells best.0 s.0)
+        lt_of e = ⊎_elim (λ (w : (nat_le best.0 s.0 ≡ true) × (best.0 ≤ s.0)). absurd (let q = w.0 in cc))
+            (λ (w : (nat_le best.0 s.0 ≡ false) × (s.0 < best.0)). w.1) (leb_tells best.0 s.0)
 
 pub lowest-is : (s : ℕ × Bool) (steps : List (ℕ × Bool)) (best : ℕ × Bool) → lowest_from None (s ∷ steps) ≡ Some best → IsLowest (s ∷ steps) best
 lowest-is s steps best h =
     let r = lowest-of steps s best h in
-    record { turn = go r.0; least = λ e c. ⊎_elim (λ (q : s.0 ≡ e). let m = r.1.0 in omega arith) (λ (q : Contains (links_of steps) e). r.1.1 e q) (contains_cases s.0 (links_of steps) e c) }
+    record { turn = go r.0; least = λ e c. ⊎_elim (λ (q : s.0 ≡ e). let m = r.1.0 in omega arith) (λ (q : Contains (links_of steps) e). r.1.1 e q)
+        (contains_cases s.0 (links_of steps) e c) }
   where
     go : Chosen steps s best → turn_of (s ∷ steps) best.0 ≡ Some best.1
     go (kept e) = turn-same s.0 s.1 steps best.0 (sym (ap (λ (p : ℕ × Bool). p.0) e)) ∙ ap (λ (p : ℕ × Bool). Some p.1) (sym e)
@@ -246,7 +259,8 @@ round-split : (steps : List (ℕ × Bool)) (e : ℕ) → Contains (links_of step
 round-split [] e (j, h, q) = absurd (omega arith)
 round-split (s ∷ steps) e c = (s, steps, refl)
 
-pub first-backward : (hops : List Hop) (chosen : List Bool) (steps : List (ℕ × Bool)) (e : ℕ) → IsClosedTrail hops chosen steps → IsLowest steps (e, false) → IsFirstCycle hops chosen (round_onto [] steps)
+pub first-backward : (hops : List Hop) (chosen : List Bool) (steps : List (ℕ × Bool)) (e : ℕ) → IsClosedTrail hops chosen steps → IsLowest steps (e, false)
+    → IsFirstCycle hops chosen (round_onto [] steps)
 first-backward hops chosen steps e c l =
     let s = round-split (round_onto [] steps) c.last (contains-round steps [] c.last c.closes) in
     record {
@@ -278,13 +292,17 @@ lowest_some (s ∷ steps) best h = lowest_some steps (lower_step (Some best) s) 
 pub lowest-none : (hops : List Hop) (chosen : List Bool) (steps : List (ℕ × Bool)) → IsClosedTrail hops chosen steps → lowest_from None steps ≡ None → ⊥
 lowest-none hops chosen steps c h = lowest_some c.rest c.first (ap (lowest_from None) (sym c.steps_are) ∙ h)
 
-pub lowest-closed : (hops : List Hop) (chosen : List Bool) (steps : List (ℕ × Bool)) (best : ℕ × Bool) → IsClosedTrail hops chosen steps → lowest_from None steps ≡ Some best → IsLowest steps best
-lowest-closed hops chosen steps best c h = subst (λ (l : List (ℕ × Bool)). IsLowest l best) (sym c.steps_are) (lowest-is c.first c.rest best (ap (lowest_from None) (sym c.steps_are) ∙ h))
+pub lowest-closed : (hops : List Hop) (chosen : List Bool) (steps : List (ℕ × Bool)) (best : ℕ × Bool) → IsClosedTrail hops chosen steps
+    → lowest_from None steps ≡ Some best → IsLowest steps best
+lowest-closed hops chosen steps best c h =
+    subst (λ (l : List (ℕ × Bool)). IsLowest l best) (sym c.steps_are) (lowest-is c.first c.rest best (ap (lowest_from None) (sym c.steps_are) ∙ h))
 
-pub kept-forward : (hops : List Hop) (chosen : List Bool) (steps : List (ℕ × Bool)) (best : ℕ × Bool) → IsClosedTrail hops chosen steps → lowest_from None steps ≡ Some best → best.1 ≡ true → IsFirstCycle hops chosen steps
+pub kept-forward : (hops : List Hop) (chosen : List Bool) (steps : List (ℕ × Bool)) (best : ℕ × Bool) → IsClosedTrail hops chosen steps
+    → lowest_from None steps ≡ Some best → best.1 ≡ true → IsFirstCycle hops chosen steps
 kept-forward hops chosen steps (e, b) c h q = first-forward hops chosen steps e c (subst (λ (t : Bool). IsLowest steps (e, t)) q (lowest-closed hops chosen steps (e, b) c h))
 
-pub turned-forward : (hops : List Hop) (chosen : List Bool) (steps : List (ℕ × Bool)) (best : ℕ × Bool) → IsClosedTrail hops chosen steps → lowest_from None steps ≡ Some best → best.1 ≡ false → IsFirstCycle hops chosen (round_onto [] steps)
+pub turned-forward : (hops : List Hop) (chosen : List Bool) (steps : List (ℕ × Bool)) (best : ℕ × Bool) → IsClosedTrail hops chosen steps
+    → lowest_from None steps ≡ Some best → best.1 ≡ false → IsFirstCycle hops chosen (round_onto [] steps)
 turned-forward hops chosen steps (e, b) c h q = first-backward hops chosen steps e c (subst (λ (t : Bool). IsLowest steps (e, t)) q (lowest-closed hops chosen steps (e, b) c h))
 
 pub if-ok : {A E : Type 0} (r : Result A E) (P Q : A → Type 0) → ((x : A) → P x → Q x) → IfOk r P → IfOk r Q

@@ -32,10 +32,12 @@ end_by P false hop x = x.0
 
 module _ (hops : List Hop) (chosen : List Bool) (from : ℕ) where
   -- both ends of its links are in the tree
-  ends_in : (tree : List (ℕ × Bool)) → IsTree hops chosen from tree → (e : ℕ) (hop : Hop) → Contains (links_of tree) e → IsHop hops e hop → InTree hops from tree hop.tail × InTree hops from tree hop.head
+  ends_in : (tree : List (ℕ × Bool)) → IsTree hops chosen from tree → (e : ℕ) (hop : Hop) → Contains (links_of tree) e → IsHop hops e hop
+      → InTree hops from tree hop.tail × InTree hops from tree hop.head
   ends_in [] t e hop c p = absurd (contains_none e c)
   ends_in (s ∷ older) (g, q, a, b, n, t) e hop c p = ⊎_elim
-      (λ (w : s.0 ≡ e). subst (λ (h : Hop). InTree hops from (s ∷ older) h.tail × InTree hops from (s ∷ older) h.head) (IsHop-unique hops e g hop (subst (λ (k : ℕ). IsHop hops k g) w q) p)
+      (λ (w : s.0 ≡ e). subst (λ (h : Hop). InTree hops from (s ∷ older) h.tail × InTree hops from (s ∷ older) h.head)
+          (IsHop-unique hops e g hop (subst (λ (k : ℕ). IsHop hops k g) w q) p)
       (ends_both (InTree hops from (s ∷ older)) s.1 g (inr b) (inl (end_is hops s g q))))
       (λ (w : Contains (links_of older) e). let r = ends_in older t e hop w p in (inr r.0, inr r.1))
       (contains_cases s.0 (links_of older) e c)
@@ -70,15 +72,19 @@ module _ (hops : List Hop) (chosen : List Bool) (from : ℕ) where
   back-trail [] t v i = (i, tt)
   back-trail (s ∷ older) (g, q, a, b, n, t) v i = ⊎_elim
       (λ (w : (eqb (end_at hops s) v ≡ true) × (end_at hops s ≡ v)).
-      let r : Back (way_back hops older (begin_at hops s)) (begin_at hops s) = back-trail older t (begin_at hops s) (subst (λ (k : ℕ). InTree hops from older k) (sym (begin_is hops s g q)) b) in
+      let r : Back (way_back hops older (begin_at hops s)) (begin_at hops s) =
+          back-trail older t (begin_at hops s) (subst (λ (k : ℕ). InTree hops from older k) (sym (begin_is hops s g q)) b) in
       by w.0 (
-        (g, q, a, first_step s.1 g v (sym (end_is hops s g q) ∙ w.1), subst (λ (k : ℕ). IsTrail hops (Has chosen) (way_back hops older (begin_at hops s)) k from) (begin_is hops s g q ∙ next_node s.1 g) r.0),
+        (g, q, a, first_step s.1 g v (sym (end_is hops s g q) ∙ w.1), subst
+            (λ (k : ℕ). IsTrail hops (Has chosen) (way_back hops older (begin_at hops s)) k from) (begin_is hops s g q ∙ next_node s.1 g) r.0),
         ((λ c. n (end_by (InTree hops from older) s.1 g (ends_in older t s.0 g (back_in older (begin_at hops s) s.0 c) q))), r.1),
       ))
-      (λ (w : (eqb (end_at hops s) v ≡ false) × (end_at hops s ≢ v)). by w.0 (back-trail older t v (⊎_elim (λ (x : end_at hops s ≡ v). absurd (w.1 x)) (λ (x : InTree hops from older v). x) i)))
+      (λ (w : (eqb (end_at hops s) v ≡ false) × (end_at hops s ≢ v)). by w.0
+          (back-trail older t v (⊎_elim (λ (x : end_at hops s ≡ v). absurd (w.1 x)) (λ (x : InTree hops from older v). x) i)))
       (eqb_tells (end_at hops s) v)
     where
-      by : {b : Bool} → eqb (end_at hops s) v ≡ b → Back (if b then (s.0, not s.1) ∷ way_back hops older (begin_at hops s) else way_back hops older v) v → Back (way_back hops (s ∷ older) v) v
+      by : {b : Bool} → eqb (end_at hops s) v ≡ b → Back (if b then (s.0, not s.1) ∷ way_back hops older (begin_at hops s) else way_back hops older v) v
+          → Back (way_back hops (s ∷ older) v) v
       by {b = b} h r = subst (λ (t : Bool). Back (if t then (s.0, not s.1) ∷ way_back hops older (begin_at hops s) else way_back hops older v) v) (sym h) r
 
   -- ---- a tree with the flags of its nodes
@@ -99,7 +105,8 @@ module _ (hops : List Hop) (chosen : List Bool) (from : ℕ) where
     );
   }
 
-  pub grown_more : (nodes i : ℕ) (flags : List Bool) (tree : List (ℕ × Bool)) (step : ℕ × Bool) → IsGrown nodes flags tree → StepsOut hops chosen flags step → i ≡ end_at hops step → i < nodes
+  pub grown_more : (nodes i : ℕ) (flags : List Bool) (tree : List (ℕ × Bool)) (step : ℕ × Bool) → IsGrown nodes flags tree → StepsOut hops chosen flags step
+      → i ≡ end_at hops step → i < nodes
       → IsGrown nodes (set flags i true) (step ∷ tree)
   grown_more nodes i flags tree step g o e h = record {
     count = length-set flags i true ∙ g.count;
@@ -117,7 +124,9 @@ module _ (hops : List Hop) (chosen : List Bool) (from : ℕ) where
   out_free flags step o h = o.crosses.1 (subst (λ (k : ℕ). Has flags k) (end_is hops step o.hop o.is_hop) h)
 
   pub out_below : (nodes : ℕ) (flags : List Bool) (step : ℕ × Bool) → AreBelow nodes hops → StepsOut hops chosen flags step → end_at hops step < nodes
-  out_below nodes flags step b o = subst (λ (k : ℕ). k < nodes) (sym (end_is hops step o.hop o.is_hop)) (end_by (λ k. k < nodes) step.1 o.hop (b.tails step.0 o.hop o.is_hop, b.heads step.0 o.hop o.is_hop))
+  out_below nodes flags step b o =
+      subst (λ (k : ℕ). k < nodes) (sym (end_is hops step o.hop o.is_hop))
+      (end_by (λ k. k < nodes) step.1 o.hop (b.tails step.0 o.hop o.is_hop, b.heads step.0 o.hop o.is_hop))
 
   -- ---- the end
   pub way_found : (nodes to : ℕ) (flags : List Bool) (tree : List (ℕ × Bool)) → IsGrown nodes flags tree → Has flags to → IsWay hops chosen from to (way_back hops tree to)
@@ -137,12 +146,15 @@ module _ (hops : List Hop) (chosen : List Bool) (from : ℕ) where
       by (Some false) = inr false_true
       by None = inr none_true
 
-  pub apart_found : (nodes to : ℕ) (flags : List Bool) (tree : List (ℕ × Bool)) → IsGrown nodes flags tree → NoneStepsOut hops chosen flags → (Has flags to → ⊥) → AreApart hops chosen from to
+  pub apart_found : (nodes to : ℕ) (flags : List Bool) (tree : List (ℕ × Bool)) → IsGrown nodes flags tree → NoneStepsOut hops chosen flags
+      → (Has flags to → ⊥) → AreApart hops chosen from to
   apart_found nodes to flags tree g none out = record {
     flags = flags;
     closed = λ e hop p c. (
-      (λ h. ⊎_elim (λ (k : Has flags hop.head). k) (λ (n : Has flags hop.head → ⊥). absurd (none (e, true) (record { hop = hop; is_hop = p; chosen_is = c; crosses = (h, n) }))) (has_or_not flags hop.head)),
-      (λ h. ⊎_elim (λ (k : Has flags hop.tail). k) (λ (n : Has flags hop.tail → ⊥). absurd (none (e, false) (record { hop = hop; is_hop = p; chosen_is = c; crosses = (h, n) }))) (has_or_not flags hop.tail)),
+      (λ h. ⊎_elim (λ (k : Has flags hop.head). k) (λ (n : Has flags hop.head → ⊥). absurd
+          (none (e, true) (record { hop = hop; is_hop = p; chosen_is = c; crosses = (h, n) }))) (has_or_not flags hop.head)),
+      (λ h. ⊎_elim (λ (k : Has flags hop.tail). k) (λ (n : Has flags hop.tail → ⊥). absurd
+          (none (e, false) (record { hop = hop; is_hop = p; chosen_is = c; crosses = (h, n) }))) (has_or_not flags hop.tail)),
     );
     from_in = (g.marks from).1 (from_in tree);
     to_out = out;
@@ -153,11 +165,13 @@ module _ (hops : List Hop) (chosen : List Bool) (from : ℕ) where
       from_in (s ∷ older) = inr (from_in older)
 
 -- the first chosen hop that leads out, or none does
-pub none_out : (hops : List Hop) (chosen flags : List Bool) (e : ℕ) → ((k : ℕ) → k < e → (forward : Bool) → StepsOut hops chosen flags (k, forward) → ⊥) → length hops ≤ e → NoneStepsOut hops chosen flags
+pub none_out : (hops : List Hop) (chosen flags : List Bool) (e : ℕ) → ((k : ℕ) → k < e → (forward : Bool) → StepsOut hops chosen flags (k, forward) → ⊥)
+    → length hops ≤ e → NoneStepsOut hops chosen flags
 none_out hops chosen flags e f h step o = let w : step.0 < length hops = slice_get_within hops step.0 o.hop o.is_hop in f step.0 (omega arith) step.1 o
 
 -- the steps of a tree are along hops
-pub tree_below : (hops : List Hop) (chosen : List Bool) (from : ℕ) (tree : List (ℕ × Bool)) → IsTree hops chosen from tree → AllByRecursion (λ (step : ℕ × Bool). step.0 < length hops) tree
+pub tree_below : (hops : List Hop) (chosen : List Bool) (from : ℕ) (tree : List (ℕ × Bool)) → IsTree hops chosen from tree
+    → AllByRecursion (λ (step : ℕ × Bool). step.0 < length hops) tree
 tree_below hops chosen from [] t = tt
 tree_below hops chosen from (s ∷ older) (g, q, a, b, n, t) = (slice_get_within hops s.0 g q, tree_below hops chosen from older t)
 

@@ -9,7 +9,8 @@ use Rattle.nf_complete_cycles.specs.Cycles.{round_onto, lower_step, lowest_from}
 use Rattle.nf_model_laws.proofs.Contained.{contains_cases, contains_more, contains_first}
 
 -- one step more is turned
-pub round_more : (steps done next : List (ℕ × Bool)) (i : ℕ) (step turned : ℕ × Bool) → i < length steps → step ≡ get_or steps i step → turned ≡ (step.0, not step.1) → next ≡ turned ∷ done
+pub round_more : (steps done next : List (ℕ × Bool)) (i : ℕ) (step turned : ℕ × Bool) → i < length steps → step ≡ get_or steps i step
+    → turned ≡ (step.0, not step.1) → next ≡ turned ∷ done
     → round_onto done (drop i steps) ≡ round_onto [] steps → round_onto next (drop (i + 1) steps) ≡ round_onto [] steps
 round_more steps done next i step turned h is t n so =
     let first : drop i steps ≡ step ∷ drop (i + 1) steps = rw (add-one, drop-cons steps i step) (ap (λ (s : ℕ × Bool). s ∷ drop (suc i) steps) (sym is)) in
@@ -40,7 +41,8 @@ module _ (hops : List Hop) (Allowed : ℕ → Type 0) where
 pub round-contains : (steps done : List (ℕ × Bool)) (e : ℕ) → Contains (links_of (round_onto done steps)) e → Contains (links_of done) e ⊎ Contains (links_of steps) e
 round-contains [] done e c = inl c
 round-contains (s ∷ steps) done e c = ⊎_elim
-    (λ (h : Contains (s.0 ∷ links_of done) e). ⊎_elim (λ (q : s.0 ≡ e). inr (contains_first s.0 (links_of steps) e q)) (λ (q : Contains (links_of done) e). inl q) (contains_cases s.0 (links_of done) e h))
+    (λ (h : Contains (s.0 ∷ links_of done) e). ⊎_elim (λ (q : s.0 ≡ e). inr (contains_first s.0 (links_of steps) e q))
+        (λ (q : Contains (links_of done) e). inl q) (contains_cases s.0 (links_of done) e h))
     (λ (h : Contains (links_of steps) e). inr (contains_more s.0 (links_of steps) e h))
     (round-contains steps ((s.0, not s.1) ∷ done) e c)
 
@@ -55,11 +57,13 @@ contains-round (s ∷ steps) done e c = ⊎_elim
     (λ (q : Contains (links_of steps) e). contains-round steps ((s.0, not s.1) ∷ done) e q)
     (contains_cases s.0 (links_of steps) e c)
 
-pub round-differ : (steps done : List (ℕ × Bool)) → AllDiffer (links_of steps) → AllDiffer (links_of done) → ((e : ℕ) → Contains (links_of steps) e → Contains (links_of done) e → ⊥) → AllDiffer (links_of (round_onto done steps))
+pub round-differ : (steps done : List (ℕ × Bool)) → AllDiffer (links_of steps) → AllDiffer (links_of done)
+    → ((e : ℕ) → Contains (links_of steps) e → Contains (links_of done) e → ⊥) → AllDiffer (links_of (round_onto done steps))
 round-differ [] done d f n = f
 round-differ (s ∷ steps) done d f n = round-differ steps ((s.0, not s.1) ∷ done) d.1
     ((λ c. n s.0 (contains_first s.0 (links_of steps) s.0 refl) c), f)
-    (λ e c k. ⊎_elim (λ (q : s.0 ≡ e). d.0 (subst (λ (i : ℕ). Contains (links_of steps) i) (sym q) c)) (λ (q : Contains (links_of done) e). n e (contains_more s.0 (links_of steps) e c) q) (contains_cases s.0 (links_of done) e k))
+    (λ e c k. ⊎_elim (λ (q : s.0 ≡ e). d.0 (subst (λ (i : ℕ). Contains (links_of steps) i) (sym q) c))
+        (λ (q : Contains (links_of done) e). n e (contains_more s.0 (links_of steps) e c) q) (contains_cases s.0 (links_of done) e k))
 
 -- ---- each link is used in the opposite direction
 pub turn-same : (f : ℕ) (b : Bool) (steps : List (ℕ × Bool)) (e : ℕ) → f ≡ e → turn_of ((f, b) ∷ steps) e ≡ Some b

@@ -155,7 +155,9 @@ module _ (net : Network) (sets : Sets) (rate : ℚ) where
       (Described-some net.links (LedBy v) (led_by_described v))
 
   led_described : Described Led
-  led_described = Described-to net.nodes (λ v x. v ≢ net.source → LedAt v x) (λ v _. Described-when (v ≢ net.source) (LedAt v) (not_so (same_node v net.source)) (λ _. led_at_described v))
+  led_described =
+      Described-to net.nodes (λ v x. v ≢ net.source → LedAt v x) (λ v _. Described-when (v ≢ net.source) (LedAt v) (not_so (same_node v net.source))
+      (λ _. led_at_described v))
 
   enough_described : Described Enough
   enough_described = Described-to net.nodes (λ v x. v ≢ net.source → EnoughAt v x) (λ v _. Described-when (v ≢ net.source) (EnoughAt v) (not_so (same_node v net.source))
@@ -196,7 +198,8 @@ module _ (net : Network) (sets : Sets) (rate : ℚ) where
       (λ x h. record { starts = h.0.0.0; no_negative_slope = h.0.0.1; inactive = h.1.0; resetting = h.1.1.0; others = h.1.1.1; led = h.0.1.0; enough = h.0.1.1 })
       (λ x o. (((o.starts, o.no_negative_slope), (o.led, o.enough)), (o.inactive, (o.resetting, o.others))))
       (Described-both AtNodes AtLinks
-      (Described-both (λ x. Starts x × NotNegative x) (λ x. Led x × Enough x) (Described-both Starts NotNegative starts_described not_negative_described) (Described-both Led Enough led_described enough_described))
+      (Described-both (λ x. Starts x × NotNegative x) (λ x. Led x × Enough x) (Described-both Starts NotNegative starts_described not_negative_described)
+          (Described-both Led Enough led_described enough_described))
       (Described-both (EachLink net.links InactiveAt) (λ x. EachLink net.links ResettingAt x × EachLink net.links OthersAt x) inactive_described
       (Described-both (EachLink net.links ResettingAt) (EachLink net.links OthersAt) resetting_described others_described)))
 

@@ -29,7 +29,9 @@ module _ (net : Network) (sets : Sets) (rate : ℚ) (flows slopes : ℕ → ℚ)
 
   -- ---- the surplus of a node
   surplus_is : (v : ℕ) → surplus net flow_list v ≡ out_less_in net.links flows v
-  surplus_is v = same (sum_out-same net.links (number_at flow_list) flows v (λ e link p _. flow_at e link p)) (sum_in-same net.links (number_at flow_list) flows v (λ e link p _. flow_at e link p))
+  surplus_is v =
+      same (sum_out-same net.links (number_at flow_list) flows v (λ e link p _. flow_at e link p))
+      (sum_in-same net.links (number_at flow_list) flows v (λ e link p _. flow_at e link p))
     where
       same : {a b c d : ℚ} → a ≡ b → c ≡ d → a -ℚ c ≡ b -ℚ d
       same {a = a} {b = b} {c = c} {d = d} e f = linear_eq (a ∷ b ∷ c ∷ d ∷ []) (eq e ∷ eq f ∷ []) (search reading_of) tt tt
@@ -59,7 +61,9 @@ module _ (net : Network) (sets : Sets) (rate : ℚ) (flows slopes : ℕ → ℚ)
       none y d e f = linear_eq (y ∷ d ∷ []) (eq e ∷ eq f ∷ []) (search reading_of) tt tt
 
   source : out_less_in net.links flows net.source ≡ rate
-  source = gives _ _ _ (two_cancel net.nodes net.source net.sink (out_less_in net.links flows) good.source good.sink good.apart inner (all_zero net.nodes net.links flows (EndsBelow-net net good)))
+  source =
+      gives _ _ _ (two_cancel net.nodes net.source net.sink (out_less_in net.links flows) good.source good.sink good.apart inner
+      (all_zero net.nodes net.links flows (EndsBelow-net net good)))
       (balance net.sink good.sink (λ e. good.apart (sym e))) demand_sink
     where
       gives : (y z d : ℚ) → y +ℚ z ≡ 0ℚ → z ≡ 0ℚ -ℚ d → d ≡ rate → y ≡ rate
@@ -81,16 +85,20 @@ module _ (net : Network) (sets : Sets) (rate : ℚ) (flows slopes : ℕ → ℚ)
   exits : (e : ℕ) (link : Link) → IsLink net e link → Has sets.active e → Exits e link
   exits e link p a = ⊎_elim
       (λ (w : (flag sets.resetting e ≡ true) × Has sets.resetting e).
-      let just : exit_of e link ≡ slopes link.head = exit-is e link p true w.0 ∙ exit_resetting link.capacity (flows e) (slopes link.tail) (slopes link.head) (IsPositive-link net e link good p) (over.resetting e link p w.1) in
+      let just : exit_of e link ≡ slopes link.head = exit-is e link p true w.0
+          ∙ exit_resetting link.capacity (flows e) (slopes link.tail) (slopes link.head) (IsPositive-link net e link good p)
+          (over.resetting e link p w.1) in
       (≤ℚ_of_same _ _ (sym just), λ _. just))
       (λ (w : (flag sets.resetting e ≡ false) × (Has sets.resetting e → ⊥)).
       let fits : Fits link.capacity (flows e) (slopes link.tail) (slopes link.head) = over.others e link p (a, w.1) in
       let is : exit_of e link ≡ exit_slope false link.capacity (flows e) (slopes link.tail) = exit-is e link p false w.0 in
-      let just : slopes link.tail ≤ℚ slopes link.head → exit_of e link ≡ slopes link.head = λ h. is ∙ fits_exit link.capacity (flows e) (slopes link.tail) (slopes link.head) (IsPositive-link net e link good p) fits h in (
+      let just : slopes link.tail ≤ℚ slopes link.head → exit_of e link ≡ slopes link.head = λ h. is
+          ∙ fits_exit link.capacity (flows e) (slopes link.tail) (slopes link.head) (IsPositive-link net e link good p) fits h in (
         subst (λ (z : ℚ). slopes link.head ≤ℚ z) (sym is) (fits_least link.capacity (flows e) (slopes link.tail) (slopes link.head) (IsPositive-link net e link good p) fits),
         λ c. ⊎_elim
             (λ (k : 0ℚ <ℚ flows e). just (fits_used link.capacity (flows e) (slopes link.tail) (slopes link.head) fits k))
-            (λ (o : Has sets.resetting e ⊎ (slopes link.tail ≤ℚ slopes link.head)). ⊎_elim (λ (r : Has sets.resetting e). absurd (w.1 r)) (λ (k : slopes link.tail ≤ℚ slopes link.head). just k) o)
+            (λ (o : Has sets.resetting e ⊎ (slopes link.tail ≤ℚ slopes link.head)). ⊎_elim (λ (r : Has sets.resetting e). absurd (w.1 r))
+                (λ (k : slopes link.tail ≤ℚ slopes link.head). just k) o)
             c,
       ))
       (flag-cases sets.resetting e)

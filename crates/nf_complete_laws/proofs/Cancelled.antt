@@ -86,7 +86,8 @@ module _ (net : Network) (sets : Sets) (slopes flows : List ℚ) where
   abbrev Backward : List (ℕ × Bool) → Type 0
   Backward steps = (e : ℕ) × (turn_of steps e ≡ Some false)
 
-  backward-or : (steps : List (ℕ × Bool)) (v w : ℕ) → IsTrail (hops net) (IsInterior net sets slopes flows) steps v w → AllDiffer (links_of steps) → Backward steps ⊎ IsActiveWalk net sets (links_of steps) v w
+  backward-or : (steps : List (ℕ × Bool)) (v w : ℕ) → IsTrail (hops net) (IsInterior net sets slopes flows) steps v w → AllDiffer (links_of steps)
+      → Backward steps ⊎ IsActiveWalk net sets (links_of steps) v w
   backward-or [] v w t d = inr t
   backward-or ((e, false) ∷ steps) v w t d = inl (e, turn-first e false steps)
   backward-or ((e, true) ∷ steps) v w t d = ⊎_elim
@@ -112,7 +113,8 @@ module _ (net : Network) (sets : Sets) (slopes flows : List ℚ) where
       (backward-or steps c.start c.start c.trail c.differ)
 
 -- ---- one cycle
-module _ (passes : Passing) (net : Network) (sets : Sets) (rate : ℚ) (flows slopes : List ℚ) (good : IsNetwork net) (acyclic : HoldNoCycle net sets) (thin : IsThinFlow net sets rate flows slopes)
+module _ (passes : Passing) (net : Network) (sets : Sets) (rate : ℚ) (flows slopes : List ℚ) (good : IsNetwork net) (acyclic : HoldNoCycle net sets)
+    (thin : IsThinFlow net sets rate flows slopes)
     (fulls : List (Option ℚ)) (fulls_ok : fulls_list passes net sets slopes ≡ Ok fulls) (steps : List (ℕ × Bool)) (cycle : IsCycle net sets slopes flows steps)
     (new : List ℚ) (ok : cancel_list passes steps fulls flows ≡ Ok new) where
   abbrev amount_of : List (Option ℚ) → ℚ
@@ -140,44 +142,54 @@ module _ (passes : Passing) (net : Network) (sets : Sets) (rate : ℚ) (flows sl
   interior e b h = trail-allowed (hops net) (IsInterior net sets slopes flows) steps cycle.start cycle.start e b cycle.trail h
 
   -- the flow that fills a link
-  full_here : (e : ℕ) (link : Link) → IsLink net e link → (y : Option ℚ) × (slice_get fulls e ≡ Some y) × (full_on passes (unwrap_or (slice_get sets.active e) false) link.capacity (number_at slopes link.head) ≡ Ok y)
+  full_here : (e : ℕ) (link : Link) → IsLink net e link → (y : Option ℚ) × (slice_get fulls e ≡ Some y)
+      × (full_on passes (unwrap_or (slice_get sets.active e) false) link.capacity (number_at slopes link.head) ≡ Ok y)
   full_here e link p = let g = each-at (full_at passes sets slopes) net.links 0 fulls fulls_each e link p in
-      (g.0, g.1, subst (λ (k : ℕ). full_on passes (unwrap_or (slice_get sets.active k) false) link.capacity (number_at slopes link.head) ≡ Ok g.0) (let z : 0 + e ≡ e = omega arith in z) g.2)
+      (g.0, g.1, subst (λ (k : ℕ). full_on passes (unwrap_or (slice_get sets.active k) false) link.capacity (number_at slopes link.head) ≡ Ok g.0)
+          (let z : 0 + e ≡ e = omega arith in z) g.2)
 
-  full_bounded : (e : ℕ) (link : Link) (c : ℚ) → IsLink net e link → Has sets.active e → link.capacity ≡ Some c → unwrap_or (slice_get fulls e) None ≡ Some (c *ℚ number_at slopes link.head)
+  full_bounded : (e : ℕ) (link : Link) (c : ℚ) → IsLink net e link → Has sets.active e → link.capacity ≡ Some c
+      → unwrap_or (slice_get fulls e) None ≡ Some (c *ℚ number_at slopes link.head)
   full_bounded e link c p a h = let g = full_here e link p in
       ap (λ (o : Option (Option ℚ)). unwrap_or o None) g.1
-      ∙ full-some passes c (number_at slopes link.head) g.0 (subst (λ (b : Bool). full_on passes b (Some c) (number_at slopes link.head) ≡ Ok g.0) (ap (λ (o : Option Bool). unwrap_or o false) a)
+      ∙ full-some passes c (number_at slopes link.head) g.0 (subst (λ (b : Bool). full_on passes b (Some c) (number_at slopes link.head) ≡ Ok g.0)
+          (ap (λ (o : Option Bool). unwrap_or o false) a)
       (subst (λ (k : Option ℚ). full_on passes (unwrap_or (slice_get sets.active e) false) k (number_at slopes link.head) ≡ Ok g.0) h g.2))
 
   full_unbounded : (e : ℕ) (link : Link) → IsLink net e link → link.capacity ≡ None → unwrap_or (slice_get fulls e) None ≡ None
   full_unbounded e link p h = let g = full_here e link p in
       ap (λ (o : Option (Option ℚ)). unwrap_or o None) g.1
-      ∙ full-none passes (unwrap_or (slice_get sets.active e) false) (number_at slopes link.head) g.0 (subst (λ (k : Option ℚ). full_on passes (unwrap_or (slice_get sets.active e) false) k (number_at slopes link.head) ≡ Ok g.0) h g.2)
+      ∙ full-none passes (unwrap_or (slice_get sets.active e) false) (number_at slopes link.head) g.0
+          (subst (λ (k : Option ℚ). full_on passes (unwrap_or (slice_get sets.active e) false) k (number_at slopes link.head) ≡ Ok g.0) h g.2)
 
   -- the room of a link
-  room_here : (e : ℕ) (x : ℚ) → slice_get flows e ≡ Some x → (r : Option ℚ) × (slice_get rooms e ≡ Some r) × (room_on passes (turn_of steps e) (unwrap_or (slice_get fulls e) None) x ≡ Ok r)
+  room_here : (e : ℕ) (x : ℚ) → slice_get flows e ≡ Some x → (r : Option ℚ) × (slice_get rooms e ≡ Some r)
+      × (room_on passes (turn_of steps e) (unwrap_or (slice_get fulls e) None) x ≡ Ok r)
   room_here e x p = let g = each-at (room_at passes steps fulls) flows 0 rooms parts.1 e x p in
       (g.0, g.1, subst (λ (k : ℕ). room_on passes (turn_of steps k) (unwrap_or (slice_get fulls k) None) x ≡ Ok g.0) (let z : 0 + e ≡ e = omega arith in z) g.2)
 
   room_back : (e : ℕ) (x : ℚ) → slice_get flows e ≡ Some x → turn_of steps e ≡ Some false → slice_get rooms e ≡ Some (Some x)
   room_back e x p h = let g = room_here e x p in
-      g.1 ∙ ap (λ (o : Option ℚ). Some o) (room-back passes (unwrap_or (slice_get fulls e) None) x g.0 (subst (λ (o : Option Bool). room_on passes o (unwrap_or (slice_get fulls e) None) x ≡ Ok g.0) h g.2))
+      g.1 ∙ ap (λ (o : Option ℚ). Some o) (room-back passes (unwrap_or (slice_get fulls e) None) x g.0
+          (subst (λ (o : Option Bool). room_on passes o (unwrap_or (slice_get fulls e) None) x ≡ Ok g.0) h g.2))
 
   room_forth : (e : ℕ) (x : ℚ) (link : Link) (c : ℚ) → slice_get flows e ≡ Some x → turn_of steps e ≡ Some true → IsLink net e link → Has sets.active e → link.capacity ≡ Some c
       → slice_get rooms e ≡ Some (Some (c *ℚ number_at slopes link.head -ℚ x))
   room_forth e x link c p h l a k = let g = room_here e x p in
       g.1 ∙ ap (λ (o : Option ℚ). Some o) (room-forth passes (c *ℚ number_at slopes link.head) x g.0
-      (subst (λ (f : Option ℚ). room_on passes (Some true) f x ≡ Ok g.0) (full_bounded e link c l a k) (subst (λ (o : Option Bool). room_on passes o (unwrap_or (slice_get fulls e) None) x ≡ Ok g.0) h g.2)))
+      (subst (λ (f : Option ℚ). room_on passes (Some true) f x ≡ Ok g.0) (full_bounded e link c l a k)
+          (subst (λ (o : Option Bool). room_on passes o (unwrap_or (slice_get fulls e) None) x ≡ Ok g.0) h g.2)))
 
   room_free : (e : ℕ) (x : ℚ) (link : Link) → slice_get flows e ≡ Some x → turn_of steps e ≡ Some true → IsLink net e link → link.capacity ≡ None → slice_get rooms e ≡ Some None
   room_free e x link p h l k = let g = room_here e x p in
       g.1 ∙ ap (λ (o : Option ℚ). Some o) (room-free passes x g.0
-      (subst (λ (f : Option ℚ). room_on passes (Some true) f x ≡ Ok g.0) (full_unbounded e link l k) (subst (λ (o : Option Bool). room_on passes o (unwrap_or (slice_get fulls e) None) x ≡ Ok g.0) h g.2)))
+      (subst (λ (f : Option ℚ). room_on passes (Some true) f x ≡ Ok g.0) (full_unbounded e link l k)
+          (subst (λ (o : Option Bool). room_on passes o (unwrap_or (slice_get fulls e) None) x ≡ Ok g.0) h g.2)))
 
   room_none : (e : ℕ) (x : ℚ) → slice_get flows e ≡ Some x → turn_of steps e ≡ None → slice_get rooms e ≡ Some None
   room_none e x p h = let g = room_here e x p in
-      g.1 ∙ ap (λ (o : Option ℚ). Some o) (room-none passes (unwrap_or (slice_get fulls e) None) x g.0 (subst (λ (o : Option Bool). room_on passes o (unwrap_or (slice_get fulls e) None) x ≡ Ok g.0) h g.2))
+      g.1 ∙ ap (λ (o : Option ℚ). Some o) (room-none passes (unwrap_or (slice_get fulls e) None) x g.0
+          (subst (λ (o : Option Bool). room_on passes o (unwrap_or (slice_get fulls e) None) x ≡ Ok g.0) h g.2))
 
   -- a link with a room is used forward, up to the flow that fills it, or backward, down to 0
   data Room (e : ℕ) (x y : ℚ) : Type 0 where
@@ -199,12 +211,17 @@ module _ (passes : Passing) (net : Network) (sets : Sets) (rate : ℚ) (flows sl
       by (Some false) h = back h (same_Some x y (some_same (Some x) (Some y) (room_back e x p h) q))
       by (Some true) h = by_capacity (interior e true h).link.capacity (interior e true h) refl h
 
-  interior_most : (e : ℕ) (i : IsInterior net sets slopes flows e) (link : Link) (c : ℚ) → IsLink net e link → link.capacity ≡ Some c → number_at flows e <ℚ c *ℚ number_at slopes link.head
-  interior_most e i link c p k = subst (λ (l : Link). (c : ℚ) → l.capacity ≡ Some c → number_at flows e <ℚ c *ℚ number_at slopes l.head) (IsLink-unique net e i.link link i.is_link p) i.not_full c k
+  interior_most : (e : ℕ) (i : IsInterior net sets slopes flows e) (link : Link) (c : ℚ) → IsLink net e link → link.capacity ≡ Some c
+      → number_at flows e <ℚ c *ℚ number_at slopes link.head
+  interior_most e i link c p k =
+      subst (λ (l : Link). (c : ℚ) → l.capacity ≡ Some c → number_at flows e <ℚ c *ℚ number_at slopes l.head)
+      (IsLink-unique net e i.link link i.is_link p) i.not_full c k
 
   room_positive : (e : ℕ) (x y : ℚ) → slice_get flows e ≡ Some x → Room e x y → 0ℚ <ℚ y
   room_positive e x y p (back h k) = subst (λ (z : ℚ). 0ℚ <ℚ z) (number_at-is flows e x p ∙ k) (interior e false h).some
-  room_positive e x y p (forth link c h l k s) = subst (λ (z : ℚ). 0ℚ <ℚ z) s (less_ps x _ (subst (λ (z : ℚ). z <ℚ c *ℚ number_at slopes link.head) (number_at-is flows e x p) (interior_most e (interior e true h) link c l k)))
+  room_positive e x y p (forth link c h l k s) =
+      subst (λ (z : ℚ). 0ℚ <ℚ z) s (less_ps x _ (subst (λ (z : ℚ). z <ℚ c *ℚ number_at slopes link.head) (number_at-is flows e x p)
+      (interior_most e (interior e true h) link c l k)))
 
   count_rooms : length rooms ≡ length flows
   count_rooms = each-length (room_at passes steps fulls) flows 0 rooms parts.1
@@ -273,13 +290,15 @@ module _ (passes : Passing) (net : Network) (sets : Sets) (rate : ℚ) (flows sl
   new_most : (e : ℕ) (b : Bool) → turn_of steps e ≡ Some b → (link : Link) (c : ℚ) → IsLink net e link → link.capacity ≡ Some c → number_at new e ≤ℚ c *ℚ number_at slopes link.head
   new_most e true h link c p k = let x = entry flows e (let b = below e true h in let n = thin.flow_count in omega arith) in
       grown_most (number_at flows e) amount _ _ (moved_by e true h)
-      (subst (λ (z : ℚ). amount ≤ℚ c *ℚ number_at slopes link.head -ℚ z) (sym (number_at-is flows e x.0 x.1)) (amount_bound e _ (room_forth e x.0 link c x.1 h p (interior e true h).needs.0 k)))
+      (subst (λ (z : ℚ). amount ≤ℚ c *ℚ number_at slopes link.head -ℚ z) (sym (number_at-is flows e x.0 x.1))
+          (amount_bound e _ (room_forth e x.0 link c x.1 h p (interior e true h).needs.0 k)))
   new_most e false h link c p k = shrunk_most (number_at flows e) amount _ _ (moved_by e false h) amount_nn (≤ℚ_of_lt _ _ (interior_most e (interior e false h) link c p k))
 
   same_or_level : (e : ℕ) → (number_at new e ≡ number_at flows e) ⊎ (Has sets.active e × ((link : Link) → IsLink net e link → IsLevel net sets slopes e link (number_at new e)))
   same_or_level e = by (turn_of steps e) refl
     where
-      by : (o : Option Bool) → turn_of steps e ≡ o → (number_at new e ≡ number_at flows e) ⊎ (Has sets.active e × ((link : Link) → IsLink net e link → IsLevel net sets slopes e link (number_at new e)))
+      by : (o : Option Bool) → turn_of steps e ≡ o → (number_at new e ≡ number_at flows e) ⊎ (Has sets.active e
+          × ((link : Link) → IsLink net e link → IsLevel net sets slopes e link (number_at new e)))
       by None h = inl (unmoved e h)
       by (Some b) h = inr (
         (interior e b h).needs.0,
@@ -295,8 +314,10 @@ module _ (passes : Passing) (net : Network) (sets : Sets) (rate : ℚ) (flows sl
 
   same_surplus : (v : ℕ) → v < net.nodes → surplus net new v ≡ surplus net flows v
   same_surplus v h = node_line _ _ _ _ (sum_out net.links (carried_by steps) v) (sum_in net.links (carried_by steps) v) amount
-      (sum_out-same net.links (number_at new) (λ e. number_at flows e +ℚ carried_by steps e *ℚ amount) v (λ e l p at. new_is e (slice_get_within net.links e l p)) ∙ sum_out-line net.links (number_at flows) (carried_by steps) amount v)
-      (sum_in-same net.links (number_at new) (λ e. number_at flows e +ℚ carried_by steps e *ℚ amount) v (λ e l p at. new_is e (slice_get_within net.links e l p)) ∙ sum_in-line net.links (number_at flows) (carried_by steps) amount v)
+      (sum_out-same net.links (number_at new) (λ e. number_at flows e +ℚ carried_by steps e *ℚ amount) v
+          (λ e l p at. new_is e (slice_get_within net.links e l p)) ∙ sum_out-line net.links (number_at flows) (carried_by steps) amount v)
+      (sum_in-same net.links (number_at new) (λ e. number_at flows e +ℚ carried_by steps e *ℚ amount) v
+          (λ e l p at. new_is e (slice_get_within net.links e l p)) ∙ sum_in-line net.links (number_at flows) (carried_by steps) amount v)
       (carried-closed net (IsInterior net sets slopes flows) steps cycle.start cycle.trail cycle.differ v)
 
   pub IsThinFlow-cancelled : IsThinFlow net sets rate new slopes
@@ -320,13 +341,16 @@ module _ (passes : Passing) (net : Network) (sets : Sets) (rate : ℚ) (flows sl
   Ended = (e : ℕ) × IsInterior net sets slopes flows e × (IsInterior net sets slopes new e → ⊥)
 
   ended_by : (e : ℕ) (x a : ℚ) → slice_get flows e ≡ Some x → amount ≡ a → Room e x a → Ended
-  ended_by e x a p s (back h k) = (e, interior e false h, λ i. not_both_ℚ _ _ i.some (≤ℚ_of_same _ _ (emptied (number_at flows e) amount _ (moved_by e false h) (number_at-is flows e x p ∙ k ∙ sym s))))
+  ended_by e x a p s (back h k) =
+      (e, interior e false h, λ i. not_both_ℚ _ _ i.some (≤ℚ_of_same _ _ (emptied (number_at flows e) amount _ (moved_by e false h)
+      (number_at-is flows e x p ∙ k ∙ sym s))))
   ended_by e x a p s (forth link c h l k g) = (
     e,
     interior e true h,
     λ i. not_both_ℚ _ _
         (subst (λ (m : Link). (c : ℚ) → m.capacity ≡ Some c → number_at new e <ℚ c *ℚ number_at slopes m.head) (IsLink-unique net e i.link link i.is_link l) i.not_full c k)
-        (≤ℚ_of_same _ _ (sym (filled (number_at flows e) amount _ (c *ℚ number_at slopes link.head) (moved_by e true h) (ap (λ (z : ℚ). c *ℚ number_at slopes link.head -ℚ z) (number_at-is flows e x p) ∙ g ∙ sym s)))),
+        (≤ℚ_of_same _ _ (sym (filled (number_at flows e) amount _ (c *ℚ number_at slopes link.head) (moved_by e true h)
+            (ap (λ (z : ℚ). c *ℚ number_at slopes link.head -ℚ z) (number_at-is flows e x p) ∙ g ∙ sym s)))),
   )
 
   pub one-ended : Ended

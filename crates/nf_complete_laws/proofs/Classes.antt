@@ -128,16 +128,22 @@ module _ (net : Network) (sets : Sets) (rate : ℚ) (flows slopes : List ℚ) (p
       zero : y ≡ 0ℚ → 0ℚ ≤ℚ d → y ≤ℚ d *ℚ t
       zero h k = let q : 0ℚ ≤ℚ d *ℚ t = nn_times d t k m in linear_le (y ∷ d ∷ t ∷ []) (eq h ∷ le q ∷ []) (search reading_of) tt
 
-  known-inequality : (e : ℕ) (link : Link) → IsLink net e link → NeedsState sets e → (state : State) → Known e link state → Inequality (Some state) link.capacity (x e) (l link.tail) (l link.head)
-  known-inequality e link p n Tight k = at_most link.capacity (x e) (l link.tail) (l link.head) (IsPositive-link net e link good.network p) (law e link p n) (thin.no_negative_flow e) (thin.no_negative_slope link.head)
+  known-inequality : (e : ℕ) (link : Link) → IsLink net e link → NeedsState sets e → (state : State) → Known e link state
+      → Inequality (Some state) link.capacity (x e) (l link.tail) (l link.head)
+  known-inequality e link p n Tight k =
+      at_most link.capacity (x e) (l link.tail) (l link.head) (IsPositive-link net e link good.network p) (law e link p n) (thin.no_negative_flow e)
+      (thin.no_negative_slope link.head)
   known-inequality e link p n Full k = full_up link.capacity (x e) (l link.tail) (l link.head) (law e link p n) k.0 k.1
-  known-inequality e link p n Zero k = empty_slopes link.capacity (x e) (l link.tail) (l link.head) (IsPositive-link net e link good.network p) (law e link p n) k (thin.no_negative_slope link.tail)
+  known-inequality e link p n Zero k =
+      empty_slopes link.capacity (x e) (l link.tail) (l link.head) (IsPositive-link net e link good.network p) (law e link p n) k
+      (thin.no_negative_slope link.tail)
 
   stateless : (e : ℕ) (link : Link) → IsLink net e link → (NeedsState sets e → ⊥) → Equation None (flag sets.resetting e) link.capacity (x e) (l link.tail) (l link.head)
   stateless e link p n = ⊎_elim
       (λ (r : (flag sets.resetting e ≡ true) × Has sets.resetting e). subst (λ (b : Bool). Equation None b link.capacity (x e) (l link.tail) (l link.head)) (sym r.0)
       (reset_fills link.capacity (x e) (l link.tail) (l link.head) (λ h. good.bounded e link p h r.1)
-      (subst (λ (b : Bool). LinkLaw b link.capacity (x e) (l link.tail) (l link.head)) r.0 (link_law net sets rate good.network good.acyclic flows slopes thin e link p (good.sets_are.resetting e r.1)))))
+      (subst (λ (b : Bool). LinkLaw b link.capacity (x e) (l link.tail) (l link.head)) r.0
+          (link_law net sets rate good.network good.acyclic flows slopes thin e link p (good.sets_are.resetting e r.1)))))
       (λ (r : (flag sets.resetting e ≡ false) × (Has sets.resetting e → ⊥)). subst (λ (b : Bool). Equation None b link.capacity (x e) (l link.tail) (l link.head)) (sym r.0)
       (thin.active_only e (λ a. n (a, r.1))))
       (flag-cases sets.resetting e)
@@ -172,12 +178,15 @@ module _ (net : Network) (sets : Sets) (rate : ℚ) (flows slopes : List ℚ) (p
   Meets-settled = record {
     no_negative_flow = thin.no_negative_flow;
     no_negative_slope = thin.no_negative_slope;
-    links = λ e link entry p h. by_entry e link (λ o. Inequality o link.capacity (x e) (l link.tail) (l link.head)) p (λ n state k. known-inequality e link p n state k) (λ n. tt) entry h;
+    links = λ e link entry p h. by_entry e link (λ o. Inequality o link.capacity (x e) (l link.tail) (l link.head)) p
+        (λ n state k. known-inequality e link p n state k) (λ n. tt) entry h;
   }
 
   -- ---- listed: states
   unbounded_none : (e : ℕ) (link : Link) → IsLink net e link → Has (unbounded net) e → link.capacity ≡ None
-  unbounded_none e link p h = by link.capacity (same_Some (is_none link.capacity) true (sym (slice_get-map (λ (m : Link). is_none m.capacity) net.links e ∙ ap (option_map (λ (m : Link). is_none m.capacity)) p) ∙ h))
+  unbounded_none e link p h =
+      by link.capacity (same_Some (is_none link.capacity) true (sym (slice_get-map (λ (m : Link). is_none m.capacity) net.links e
+      ∙ ap (option_map (λ (m : Link). is_none m.capacity)) p) ∙ h))
     where
       by : (o : Option ℚ) → is_none o ≡ true → o ≡ None
       by None k = refl
@@ -228,7 +237,8 @@ module _ (net : Network) (sets : Sets) (rate : ℚ) (flows slopes : List ℚ) (p
         f.3.1.1,
   )
 
-  level_taken : (v e : ℕ) (link : Link) → IsBare net sets flows v → Enters net sets v e link → exit_slope_at sets flows slopes e link ≡ l v → number_at slopes link.head ≡ number_at slopes link.tail
+  level_taken : (v e : ℕ) (link : Link) → IsBare net sets flows v → Enters net sets v e link → exit_slope_at sets flows slopes e link ≡ l v
+      → number_at slopes link.head ≡ number_at slopes link.tail
   level_taken v e link b n t =
       let z = b.bare e link n in
       ap l n.head ∙ sym t ∙ ap (λ (r : Bool). exit_slope r link.capacity (x e) (l link.tail)) (not_reset e (n.active, z.0))

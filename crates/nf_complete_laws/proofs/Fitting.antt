@@ -62,7 +62,8 @@ pub capped-not_negative : (capacity : Option ℚ) (x t : ℚ) → IsPositive cap
 capped-not_negative capacity x t positive h n = capped-ge capacity x t 0ℚ h (IsAtMost-none capacity 0ℚ t positive refl n)
 
 pub capped-none : (capacity : Option ℚ) (x t : ℚ) → IsPositive capacity → x ≡ 0ℚ → 0ℚ ≤ℚ t → capped capacity x t ≡ 0ℚ
-capped-none capacity x t positive e n = ≤ℚ_antisymm _ _ (≤ℚ_trans _ _ _ (capped-le capacity x t) (≤ℚ_of_same _ _ e)) (capped-not_negative capacity x t positive (≤ℚ_of_same _ _ (sym e)) n)
+capped-none capacity x t positive e n =
+    ≤ℚ_antisymm _ _ (≤ℚ_trans _ _ _ (capped-le capacity x t) (≤ℚ_of_same _ _ e)) (capped-not_negative capacity x t positive (≤ℚ_of_same _ _ (sym e)) n)
 
 -- If the slope of the head falls by at most h, at most h times the capacity is cut off.
 pub capped-near : (capacity : Option ℚ) (x t u h : ℚ) → IsPositive capacity → 0ℚ ≤ℚ h → IsAtMost capacity x t → t -ℚ h ≤ℚ u → x ≤ℚ capped capacity x u +ℚ unwrap_or capacity 0ℚ *ℚ h

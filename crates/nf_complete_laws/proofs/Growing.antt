@@ -110,7 +110,8 @@ module _ (net : Network) (sets : Sets) (rate : ℚ) (slopes : ℕ → ℚ) (good
 
       -- ---- a push of the amount a from one node to another
       module _ (d : ℚ) (giver gainer : ℕ) (a : ℚ) (above : 0ℚ <ℚ a) (nn : 0ℚ ≤ℚ flows e +ℚ d) (most : IsAtMost link.capacity (flows e +ℚ d) (slopes link.head))
-          (gives : spare net rate (pushed net rate flows e link p d) giver ≡ spare net rate flows giver -ℚ a) (has : HasSpare net rate flows giver) (less : a <ℚ spare net rate flows giver)
+          (gives : spare net rate (pushed net rate flows e link p d) giver ≡ spare net rate flows giver -ℚ a) (has : HasSpare net rate flows giver)
+              (less : a <ℚ spare net rate flows giver)
           (gains : spare net rate (pushed net rate flows e link p d) gainer ≡ spare net rate flows gainer +ℚ a) (is_node : gainer < net.nodes) (not_source : gainer ≢ net.source)
           (had_none : HasSpare net rate flows gainer → ⊥)
           (others : (v : ℕ) → v ≢ giver → v ≢ gainer → spare net rate (pushed net rate flows e link p d) v ≡ spare net rate flows v)
@@ -210,7 +211,8 @@ module _ (net : Network) (sets : Sets) (rate : ℚ) (slopes : ℕ → ℚ) (good
     level_or_not e link = both (both (flagged sets.active e) (not_so (flagged sets.resetting e))) (same_or_not (slopes link.head) (slopes link.tail))
 
     forth_or_not : (e : ℕ) (link : Link) → Decided (Forth e link)
-    forth_or_not e link = both (level_or_not e link) (both (room_or_not link.capacity (flows e) (slopes link.head)) (both (spare_or_not net rate flows link.tail) (not_so (spare_or_not net rate flows link.head))))
+    forth_or_not e link = both (level_or_not e link) (both (room_or_not link.capacity (flows e) (slopes link.head))
+        (both (spare_or_not net rate flows link.tail) (not_so (spare_or_not net rate flows link.head))))
 
     back_or_not : (e : ℕ) (link : Link) → Decided (Back e link)
     back_or_not e link = both (level_or_not e link) (both (less_or_not 0ℚ (flows e)) (both (spare_or_not net rate flows link.head) (not_so (spare_or_not net rate flows link.tail))))

@@ -91,7 +91,8 @@ module _ (net : Network) (sets : Sets) where
     height_by v f = least_into v 0 (λ e link. bound (flag sets.resetting e) link.capacity (f link.tail) (time_of v))
 
     height_by-local : (v : ℕ) (f g : ℕ → ℕ) → ((e : ℕ) (link : Link) → Enters net sets v e link → f link.tail ≡ g link.tail) → height_by v f ≡ height_by v g
-    height_by-local v f g same = into-same v 0 (λ e link. bound (flag sets.resetting e) link.capacity (f link.tail) (time_of v)) (λ e link. bound (flag sets.resetting e) link.capacity (g link.tail) (time_of v))
+    height_by-local v f g same = into-same v 0 (λ e link. bound (flag sets.resetting e) link.capacity (f link.tail) (time_of v))
+        (λ e link. bound (flag sets.resetting e) link.capacity (g link.tail) (time_of v))
         (λ e link n. ap (λ (x : ℕ). bound (flag sets.resetting e) link.capacity x (time_of v)) (same e link n))
 
     abbrev height_of : ℕ → ℕ

@@ -14,11 +14,13 @@ level_by (Some c) x s t l h k = ⊎_elim
 
 module _ (net : Network) (sets : Sets) (rate : ℚ) (flows slopes : List ℚ) (good : IsNetwork net) (acyclic : HoldNoCycle net sets) (thin : IsThinFlow net sets rate flows slopes) where
   -- the condition of a thin flow on a link that needs a state
-  pub state_law : (e : ℕ) (link : Link) → IsLink net e link → NeedsState sets e → LinkLaw false link.capacity (number_at flows e) (number_at slopes link.tail) (number_at slopes link.head)
+  pub state_law : (e : ℕ) (link : Link) → IsLink net e link → NeedsState sets e
+      → LinkLaw false link.capacity (number_at flows e) (number_at slopes link.tail) (number_at slopes link.head)
   state_law e link p n = ⊎_elim
       (λ (w : (flag sets.resetting e ≡ true) × Has sets.resetting e). absurd (n.1 w.1))
       (λ (w : (flag sets.resetting e ≡ false) × (Has sets.resetting e → ⊥)).
-      subst (λ (b : Bool). LinkLaw b link.capacity (number_at flows e) (number_at slopes link.tail) (number_at slopes link.head)) w.0 (link_law net sets rate good acyclic flows slopes thin e link p n.0))
+      subst (λ (b : Bool). LinkLaw b link.capacity (number_at flows e) (number_at slopes link.tail) (number_at slopes link.head)) w.0
+          (link_law net sets rate good acyclic flows slopes thin e link p n.0))
       (flag-cases sets.resetting e)
 
   pub interior-level : (e : ℕ) → IsInterior net sets slopes flows e → (link : Link) → IsLink net e link → number_at slopes link.head ≡ number_at slopes link.tail

@@ -98,7 +98,8 @@ module _ (k : ℚ) (one : 1ℚ ≤ℚ k) (a b t : ℕ) where
         flow = c *ℚ power k t;
         no_negative = nn_times c (power k t) n (power-nn k one t);
         fills = λ e. absurd (cc);
-        fits = λ _. within (c *ℚ power k t) (nn_times c (power k t) n (power-nn k one t)) (times_le c (power k t) (power k b) n (rises t b (omega arith))) (inr (rises a b l)) (inl (rises b a (omega arith)));
+        fits = λ _. within (c *ℚ power k t) (nn_times c (power k t) n (power-nn k one t)) (times_le c (power k t) (power k b) n (rises t b (omega arith)))
+            (inr (rises a b l)) (inl (rises b a (omega arith)));
         most = ≤ℚ_refl (c *ℚ power k t);
         least = λ _. ≤ℚ_refl (c *ℚ power k t);
       }

@@ -86,7 +86,8 @@ enough_by_rest o d i p q k h l m = linear_le (o ∷ d ∷ i ∷ p ∷ q ∷ k �
 pub enough_by_same : (o d i p q : ℚ) → p ≤ℚ o → q ≡ i → o +ℚ d ≤ℚ i → p +ℚ d ≤ℚ q
 enough_by_same o d i p q h e m = linear_le (o ∷ d ∷ i ∷ p ∷ q ∷ []) (le h ∷ eq e ∷ le m ∷ []) (search reading_of) tt
 
-module _ (net : Network) (sets : Sets) (rate : ℚ) (flows slopes : ℕ → ℚ) (good : IsNetwork net) (are : AreSets net sets) (acyclic : HoldNoCycle net sets) (bounded : ResetsAreBounded net sets)
+module _ (net : Network) (sets : Sets) (rate : ℚ) (flows slopes : ℕ → ℚ) (good : IsNetwork net) (are : AreSets net sets) (acyclic : HoldNoCycle net sets)
+    (bounded : ResetsAreBounded net sets)
     (rate_nn : 0ℚ ≤ℚ rate) (over : IsOversupply net sets rate flows slopes) (closed : IsClosed net sets rate flows slopes) where
   abbrev Spares : ℕ → Type 0
   Spares v = HasSpare net rate flows v
@@ -153,10 +154,14 @@ module _ (net : Network) (sets : Sets) (rate : ℚ) (flows slopes : ℕ → ℚ)
   Paid h = (v : ℕ) → v < net.nodes → Spares v → sum_in net.links (capacity_at net) v *ℚ h ≤ℚ spare net rate flows v
 
   rising : Small Rising
-  rising = Small-links net.links (λ e link h. slopes link.tail <ℚ slopes link.head → h ≤ℚ slopes link.head -ℚ slopes link.tail) (λ e link. Small-apart (slopes link.tail) (slopes link.head))
+  rising =
+      Small-links net.links (λ e link h. slopes link.tail <ℚ slopes link.head → h ≤ℚ slopes link.head -ℚ slopes link.tail)
+      (λ e link. Small-apart (slopes link.tail) (slopes link.head))
 
   falling : Small Falling
-  falling = Small-links net.links (λ e link h. slopes link.head <ℚ slopes link.tail → h ≤ℚ slopes link.tail -ℚ slopes link.head) (λ e link. Small-apart (slopes link.head) (slopes link.tail))
+  falling =
+      Small-links net.links (λ e link h. slopes link.head <ℚ slopes link.tail → h ≤ℚ slopes link.tail -ℚ slopes link.head)
+      (λ e link. Small-apart (slopes link.head) (slopes link.tail))
 
   above : Small Above
   above = Small-to net.nodes (λ v h. Spares v → h ≤ℚ slopes v)
@@ -213,7 +218,8 @@ module _ (net : Network) (sets : Sets) (rate : ℚ) (flows slopes : ℕ → ℚ)
 
     -- Slopes keep their order along a link with flow, and against a link with room.
     rises : (e : ℕ) (link : Link) → IsLink net e link → NeedsState sets e → 0ℚ <ℚ flows e → lowered link.tail ≤ℚ lowered link.head
-    rises e link p m some = ordered-low (slopes link.tail) (slopes link.head) (lowered link.tail) (lowered link.head) h (fits_used link.capacity _ _ _ (fits_of e link p m) some) (lowered-le link.tail)
+    rises e link p m some = ordered-low (slopes link.tail) (slopes link.head) (lowered link.tail) (lowered link.head) h
+        (fits_used link.capacity _ _ _ (fits_of e link p m) some) (lowered-le link.tail)
         (⊎_elim
         (λ (w : Spares link.head × (lowered link.head ≡ slopes link.head -ℚ h)).
         inr (w.1, (is_small.rising e link p, λ same. lowered-is link.tail (closed.back e link p m (sym same) some w.0))))
@@ -254,11 +260,13 @@ module _ (net : Network) (sets : Sets) (rate : ℚ) (flows slopes : ℕ → ℚ)
 
     new-same : (e : ℕ) (link : Link) → IsLink net e link → (Spares link.head → ⊥) → new e ≡ flows e
     new-same e link p none = new-is e link p
-        ∙ capped-same link.capacity (flows e) (lowered link.head) (subst (λ (t : ℚ). IsAtMost link.capacity (flows e) t) (sym (lowered-not link.head none)) (at_most net sets rate flows slopes good over e link p))
+        ∙ capped-same link.capacity (flows e) (lowered link.head) (subst (λ (t : ℚ). IsAtMost link.capacity (flows e) t) (sym (lowered-not link.head none))
+            (at_most net sets rate flows slopes good over e link p))
 
     new-near : (e : ℕ) (link : Link) → IsLink net e link → flows e ≤ℚ new e +ℚ capacity_at net e *ℚ h
     new-near e link p = subst (λ (o : Option Link). flows e ≤ℚ lowered_by o (flows e) +ℚ capacity_by o *ℚ h) (sym p)
-        (capped-near link.capacity (flows e) (slopes link.head) (lowered link.head) h (IsPositive-link net e link good p) n (at_most net sets rate flows slopes good over e link p) (lowered-near link.head))
+        (capped-near link.capacity (flows e) (slopes link.head) (lowered link.head) h (IsPositive-link net e link good p) n
+            (at_most net sets rate flows slopes good over e link p) (lowered-near link.head))
 
     less_out : (v : ℕ) → sum_out net.links new v ≤ℚ sum_out net.links flows v
     less_out v = sum_out-order net.links new flows v (λ e link p _. new-le e link p)
@@ -307,7 +315,8 @@ module _ (net : Network) (sets : Sets) (rate : ℚ) (flows slopes : ℕ → ℚ)
       starts = lowered-not net.source (λ s. s.0 refl) ∙ over.starts;
       no_negative_slope = lowered-not_negative;
       inactive = λ e link p none. new-is e link p
-          ∙ capped-none link.capacity (flows e) (lowered link.head) (IsPositive-link net e link good p) (over.inactive e link p none) (lowered-not_negative link.head (good.heads e link p));
+          ∙ capped-none link.capacity (flows e) (lowered link.head) (IsPositive-link net e link good p) (over.inactive e link p none)
+              (lowered-not_negative link.head (good.heads e link p));
       resetting = λ e link p r. subst (λ (x : ℚ). Fills link.capacity x (lowered link.head)) (sym (new-is e link p))
           (capped-fills link.capacity (flows e) (slopes link.head) (lowered link.head) (IsPositive-link net e link good p) (over.resetting e link p r) (lowered-le link.head));
       others = others;

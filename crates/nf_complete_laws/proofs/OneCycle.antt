@@ -8,7 +8,8 @@ use Rattle.nf_thin_laws.proofs.Forests.{Carries, forest-none}
 use Rattle.nf_complete_laws.proofs.Trails.{signed, carried_by, turn-contains, trail-allowed, carried-closed}
 use Rattle.nf_complete_laws.proofs.Deciding.{same_or_not}
 
-pub weaker : (hops : List Hop) (Allowed Other : ℕ → Type 0) (steps : List (ℕ × Bool)) (v w : ℕ) → IsTrail hops Allowed steps v w → ((e : ℕ) → Contains (links_of steps) e → Allowed e → Other e) → IsTrail hops Other steps v w
+pub weaker : (hops : List Hop) (Allowed Other : ℕ → Type 0) (steps : List (ℕ × Bool)) (v w : ℕ) → IsTrail hops Allowed steps v w
+    → ((e : ℕ) → Contains (links_of steps) e → Allowed e → Other e) → IsTrail hops Other steps v w
 weaker hops Allowed Other [] v w t f = t
 weaker hops Allowed Other ((e, b) ∷ steps) v w (g, p, a, at, t) f =
     (g, p, f e (contains_first e (links_of steps) e refl) a, at, weaker hops Allowed Other steps _ w t (λ k c. f k (contains_more e (links_of steps) k c)))
@@ -99,7 +100,8 @@ module _ (net : Network) (sets : Sets) (slopes flows : List ℚ) (good : IsNetwo
           (carried-closed net Interior steps s.cycle.start s.cycle.trail s.cycle.differ v) (carried-closed net Interior others t.cycle.start t.cycle.trail t.cycle.differ v)
 
       mixed_none : (e : ℕ) (link : Link) → IsLink net e link → mixed e ≡ 0ℚ
-      mixed_none e link p = forest-none net mixed (λ k. (k < s.last) × Interior k) s.before (λ k forward u v dart. inside k (not_level forward (mixed k) dart.carries)) good balanced e link p
+      mixed_none e link p = forest-none net mixed (λ k. (k < s.last) × Interior k) s.before
+          (λ k forward u v dart. inside k (not_level forward (mixed k) dart.carries)) good balanced e link p
 
       mixed_all : (e : ℕ) → mixed e ≡ 0ℚ
       mixed_all e = ⊎_elim (λ (z : mixed e ≡ 0ℚ). z) (λ (n : mixed e ≡ 0ℚ → ⊥). let i = (inside e n).1 in mixed_none e i.link i.is_link) (same_or_not (mixed e) 0ℚ)

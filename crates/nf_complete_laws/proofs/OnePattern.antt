@@ -27,7 +27,8 @@ module _ (net : Network) (sets : Sets) (rate : ℚ) (flows slopes : List ℚ) (g
     count = settled.count ∙ good.sets_are.count
 
     pub entry_is : (e : ℕ) (link : Link) (p : IsLink net e link) → e < length net.links → slice_get pattern e ≡ Some (chosen net sets rate flows slopes good thin e link p).0
-    entry_is e link p h = fits_there e link p (let c = count in omega arith) (chosen net sets rate flows slopes good thin e link p).0 (chosen net sets rate flows slopes good thin e link p).1
+    entry_is e link p h = fits_there e link p (let c = count in omega arith) (chosen net sets rate flows slopes good thin e link p).0
+        (chosen net sets rate flows slopes good thin e link p).1
 
   pub one_pattern : (pattern other : Pattern) → IsSettledPattern net sets flows slopes pattern → IsSettledPattern net sets flows slopes other → pattern ≡ other
   one_pattern pattern other h k = same_entries (length net.links) pattern other (count pattern h) (count other k) (λ e below.

@@ -57,7 +57,9 @@ module _ (net : Network) (rate : ℚ) (flows : ℕ → ℚ) (e : ℕ) (link : Li
       (same_differences _ _ 1ℚ 0ℚ (only_at-here link.head 1ℚ) (only_at-else link.tail 1ℚ link.head (λ k. h (sym k))) ∙ one_less_none) (spare-moved link.head)
 
   pub spare-tail : link.head ≢ link.tail → spare net rate pushed link.tail ≡ spare net rate flows link.tail -ℚ d
-  spare-tail h = less_by _ _ (only_at link.head 1ℚ link.tail) (only_at link.tail 1ℚ link.tail) d (only_at-else link.head 1ℚ link.tail h) (only_at-here link.tail 1ℚ) (spare-moved link.tail)
+  spare-tail h =
+      less_by _ _ (only_at link.head 1ℚ link.tail) (only_at link.tail 1ℚ link.tail) d (only_at-else link.head 1ℚ link.tail h) (only_at-here link.tail 1ℚ)
+      (spare-moved link.tail)
 
   module _ (sets : Sets) (slopes : ℕ → ℚ) (over : IsOversupply net sets rate flows slopes) (needs : NeedsState sets e) (level : slopes link.head ≡ slopes link.tail) where
     fits : 0ℚ ≤ℚ flows e +ℚ d → IsAtMost link.capacity (flows e +ℚ d) (slopes link.head) → Fits link.capacity (flows e +ℚ d) (slopes link.tail) (slopes link.head)
@@ -78,7 +80,8 @@ module _ (net : Network) (rate : ℚ) (flows : ℕ → ℚ) (e : ℕ) (link : Li
           (pushed-cases k);
       others = λ k other q a. ⊎_elim
           (λ (w : (k ≡ e) × (pushed k ≡ flows e +ℚ d)). subst (λ (x : ℚ). Fits other.capacity x (slopes other.tail) (slopes other.head)) (sym w.1)
-          (subst (λ (l : Link). Fits l.capacity (flows e +ℚ d) (slopes l.tail) (slopes l.head)) (IsLink-unique net e link other p (subst (λ (j : ℕ). IsLink net j other) w.0 q)) (fits n m)))
+          (subst (λ (l : Link). Fits l.capacity (flows e +ℚ d) (slopes l.tail) (slopes l.head))
+              (IsLink-unique net e link other p (subst (λ (j : ℕ). IsLink net j other) w.0 q)) (fits n m)))
           (λ (w : (k ≢ e) × (pushed k ≡ flows k)). subst (λ (x : ℚ). Fits other.capacity x (slopes other.tail) (slopes other.head)) (sym w.1) (over.others k other q a))
           (pushed-cases k);
       led = over.led;

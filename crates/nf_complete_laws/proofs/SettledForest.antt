@@ -36,7 +36,8 @@ module _ (net : Network) (sets : Sets) (good : IsNetwork net) (acyclic : HoldNoC
             (λ way. no_way_round net sets acyclic g.1.head g.0 g.1 (record { is_link = g.2; active = g.3; head = refl }) (subst (λ (k : ℕ). Way net sets g.1.head k) (sym g.4) way)),
           )
 
-module _ (net : Network) (sets : Sets) (rate : ℚ) (flows slopes : List ℚ) (pattern : Pattern) (good : AreGoodSets net sets) (rate_nn : 0ℚ ≤ℚ rate) (thin : IsThinFlow net sets rate flows slopes)
+module _ (net : Network) (sets : Sets) (rate : ℚ) (flows slopes : List ℚ) (pattern : Pattern) (good : AreGoodSets net sets) (rate_nn : 0ℚ ≤ℚ rate)
+    (thin : IsThinFlow net sets rate flows slopes)
     (settled : IsSettledPattern net sets flows slopes pattern) (forest : IsForest (hops net) (IsInterior net sets slopes flows)) where
   abbrev IsTight : ℕ → Type 0
   IsTight e = HasState pattern e Tight

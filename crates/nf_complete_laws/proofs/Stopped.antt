@@ -62,13 +62,15 @@ pub phases_other : (m phase : ℕ) → Wants (Cause.Phases m) phase → ⊥
 phases_other m phase h = cc
 
 module _ (passes : Passing) (net : Network) (good : IsNetwork net) (bounds : Bounds) where
-  no_answer : (s : Standing) (phase : ℕ) (a : SearchAnswer) → Seeks passes net bounds.horizon bounds.patterns s a → cause_of_search (suc s.made) bounds.patterns a ≡ Some (Cause.NoPattern phase) → WellRun net s
+  no_answer : (s : Standing) (phase : ℕ) (a : SearchAnswer) → Seeks passes net bounds.horizon bounds.patterns s a
+      → cause_of_search (suc s.made) bounds.patterns a ≡ Some (Cause.NoPattern phase) → WellRun net s
       → NoneGoesOn net s
   no_answer s phase (Found place pattern f l) k h well flows slopes thin = none-some _ h
   no_answer s phase OverBudget k h well flows slopes thin = over_other (suc s.made) bounds.patterns phase (same_Some _ _ h)
   no_answer s phase (PassesAt place at) k h well flows slopes thin = passed_other (suc s.made) (Some place) at phase (same_Some _ _ h)
   no_answer s phase NoPattern k h well flows slopes thin =
-      none-search passes net (sets_at net s.labels) (rate_at net s.time) k.search.base bounds.patterns flows slopes (AreGoodSets-well net good s well) (rate_from-not_negative net.pieces s.time good.pieces) k.search.is_search thin
+      none-search passes net (sets_at net s.labels) (rate_at net s.time) k.search.base bounds.patterns flows slopes (AreGoodSets-well net good s well)
+          (rate_from-not_negative net.pieces s.time good.pieces) k.search.is_search thin
 
   none_fails : (s : Standing) (c : Cause ℚ) (phase : ℕ) → c ≡ Cause.NoPattern phase → WellRun net s → Fails passes net bounds.horizon bounds.patterns s c → NoneGoesOn net s
   none_fails s _ phase e well (at_slack p below h) flows slopes thin = passed_other _ _ _ phase e
@@ -96,6 +98,7 @@ pub end_stops : (net : Network) (last : Standing) (stop : Option (Cause ℚ)) �
 end_stops net last stop good ends phase h flows slopes =
     subst (λ (l : List ℚ). IsThinFlow net (sets_at net l) (rate_at net last.time) flows slopes → ⊥) (sym (labels_are net good last ends.well)) (ends.none phase h flows slopes)
 
-pub stops_for_none : (passes : Passing) (net : Network) (bounds : Bounds) (report : Report) → IsNetwork net → IsRunReport passes net bounds report → StopsForNoThinFlow net report.stop report.flow
+pub stops_for_none : (passes : Passing) (net : Network) (bounds : Bounds) (report : Report) → IsNetwork net → IsRunReport passes net bounds report
+    → StopsForNoThinFlow net report.stop report.flow
 stops_for_none passes net bounds report good r = subst (λ (w : Report). StopsForNoThinFlow net w.stop w.flow) (sym r.report_is)
     (end_stops net r.last r.stop good (run_ends passes net good bounds r.run.first r.last r.stop (WellRun-start net good r.run.first r.run.start) r.run.runs))

@@ -53,7 +53,8 @@ module _ (net : Network) (sets : Sets) (rate : ℚ) (good : IsNetwork net) (are 
   nn_asked : (e : ℕ) (link : Link) → IsLink net e link → 0ℚ ≤ℚ asked link
   nn_asked e link p = nn_times (room link.capacity) _ (≤ℚ_of_lt _ _ (IsPositive-room net good e link p)) (power-nn k one (by.time link.head))
 
-  by_load : (e : ℕ) (link : Link) → Has sets.active e → Load k (flag sets.resetting e) link.capacity (by.height link.tail) (by.height link.head) (by.time link.head) → (x : ℚ) × Carries e link x
+  by_load : (e : ℕ) (link : Link) → Has sets.active e → Load k (flag sets.resetting e) link.capacity (by.height link.tail) (by.height link.head)
+      (by.time link.head) → (x : ℚ) × Carries e link x
   by_load e link a l = (
     l.flow,
     record {

@@ -20,7 +20,8 @@ point_first front p (Err e) = refl
 
 piece_goes : (part : Part) (front : List Point) (time y : ℚ) (v : Checked ℚ) (corners : Checked (List Point)) → at_part part v ≡ Ok y
     → behind front (v >>= λ y. corners >>= λ more. Ok ((time, y) ∷ more)) ≡ behind (front ++ (time, y) ∷ []) corners
-piece_goes part front time y v corners e = ap (λ (v : Checked ℚ). behind front (v >>= λ y. corners >>= λ more. Ok ((time, y) ∷ more))) (was_ok part v y e) ∙ point_first front (time, y) corners
+piece_goes part front time y v corners e =
+    ap (λ (v : Checked ℚ). behind front (v >>= λ y. corners >>= λ more. Ok ((time, y) ∷ more))) (was_ok part v y e) ∙ point_first front (time, y) corners
 
 -- once its first point is there, a piece goes on with its corners
 pub piece_begun : (part : Part) (front begun : List Point) (time y : ℚ) (v : Checked ℚ) (corners : Checked (List Point)) → at_part part v ≡ Ok y → begun ≡ front ++ (time, y) ∷ []
@@ -62,7 +63,8 @@ module _ (passes : Passing) (part : Part) (outer inner : List Point) (front : Li
     is_last = ap (λ (l : List Point). behind front (composed_all passes outer l)) (sym (drop-at inner h p e ∙ ap (λ (l : List Point). p ∷ l) (none inner (suc h) last))) ∙ so_far
 
     pub last_stops : (a : PassedAt ℚ) → at_part part (checked_value passes outer p.1) ≡ Err a → at_part part all ≡ Err a
-    last_stops a g = ap (at_part part) (sym is_last) ∙ after_err part (checked_value passes outer p.1 >>= λ y. Ok ((p.0, y) ∷ [])) _ a (after_err part (checked_value passes outer p.1) _ a g)
+    last_stops a g = ap (at_part part) (sym is_last) ∙ after_err part (checked_value passes outer p.1 >>= λ y. Ok ((p.0, y) ∷ [])) _ a
+        (after_err part (checked_value passes outer p.1) _ a g)
 
     pub last_goes : (y : ℚ) → at_part part (checked_value passes outer p.1) ≡ Ok y → at_part part all ≡ Ok (front ++ (p.0, y) ∷ [])
     last_goes y g = ap (at_part part) (sym is_last ∙ ap (λ (v : Checked ℚ). behind front (v >>= λ y. Ok ((p.0, y) ∷ []))) (was_ok part (checked_value passes outer p.1) y g))
@@ -73,6 +75,7 @@ module _ (passes : Passing) (part : Part) (outer inner : List Point) (last : ℚ
   unfolding checked_composed
   cut_stops a e = after_err part (checked_cut passes inner last) _ a e
 
-  pub cut_goes : (cut points : List Point) → at_part part (checked_cut passes inner last) ≡ Ok cut → points ≡ cut → at_part part (checked_composed passes outer inner last) ≡ at_part part (composed_all passes outer points)
+  pub cut_goes : (cut points : List Point) → at_part part (checked_cut passes inner last) ≡ Ok cut → points ≡ cut
+      → at_part part (checked_composed passes outer inner last) ≡ at_part part (composed_all passes outer points)
   unfolding checked_composed
   cut_goes cut points e f = after_ok part (checked_cut passes inner last) _ cut e ∙ ap (λ (l : List Point). at_part part (composed_all passes outer l)) (sym f)

@@ -24,7 +24,8 @@ or_later (Some sides) later = Ok (Some sides)
 or_later None later = later
 
 module _ (passes : Passing) (left right : List Point) (last : ℚ) where
-  from-step : (time : ℚ) (times : List ℚ) → difference_from passes left right last (time ∷ times) ≡ (difference_step passes left right time >>= λ found. or_later found (difference_from passes left right last times))
+  from-step : (time : ℚ) (times : List ℚ) → difference_from passes left right last
+      (time ∷ times) ≡ (difference_step passes left right time >>= λ found. or_later found (difference_from passes left right last times))
   unfolding or_later
   from-step time times = by_sides (sides_at passes left right time)
     where
@@ -34,8 +35,10 @@ module _ (passes : Passing) (left right : List Point) (last : ℚ) where
       by_corner s (Ok false) = refl
       by_corner s (Err q) = refl
 
-      by_sides : (r : Checked Sides) → (r >>= λ s. differ_at passes (do_differ s) time left right >>= λ ends. difference_here passes left right s ends (difference_from passes left right last times))
-          ≡ ((r >>= λ s. differ_at passes (do_differ s) time left right >>= λ ends. Ok (if ends then Some s else None)) >>= λ found. or_later found (difference_from passes left right last times))
+      by_sides : (r : Checked Sides) → (r >>= λ s. differ_at passes (do_differ s) time left right >>= λ ends. difference_here passes left right s ends
+          (difference_from passes left right last times))
+          ≡ ((r >>= λ s. differ_at passes (do_differ s) time left right >>= λ ends. Ok (if ends then Some s else None)) >>= λ found. or_later found
+              (difference_from passes left right last times))
       by_sides (Ok s) = by_corner s (differ_at passes (do_differ s) time left right)
       by_sides (Err q) = refl
 
@@ -45,7 +48,8 @@ module _ (passes : Passing) (left right : List Point) (last : ℚ) where
       (λ (w : (lt_ℚ time last ≡ false) × (last ≤ℚ time)). absurd (not_both_ℚ time last h w.1))
       (lt_ℚ_cases time last)
 
-  module _ (part : Part) (time : ℚ) (times : List ℚ) (all : Checked (Option Sides)) (before : time <ℚ last) (so_far : difference_from passes left right last (times_before last (time ∷ times)) ≡ all) where
+  module _ (part : Part) (time : ℚ) (times : List ℚ) (all : Checked (Option Sides)) (before : time <ℚ last)
+      (so_far : difference_from passes left right last (times_before last (time ∷ times)) ≡ all) where
     is-step : (difference_step passes left right time >>= λ found. or_later found (difference_from passes left right last (times_before last times))) ≡ all
     is-step = sym (ap (difference_from passes left right last) (before-goes time times before) ∙ from-step time (times_before last times)) ∙ so_far
 
@@ -58,14 +62,16 @@ module _ (passes : Passing) (left right : List Point) (last : ℚ) where
 
     pub step_goes : at_part part (difference_step passes left right time) ≡ Ok None → difference_from passes left right last (times_before last times) ≡ all
     unfolding or_later
-    step_goes e = sym (ap (λ (r : Checked (Option Sides)). r >>= λ found. or_later found (difference_from passes left right last (times_before last times))) (was_ok part (difference_step passes left right time) None e)) ∙ is-step
+    step_goes e = sym (ap (λ (r : Checked (Option Sides)). r >>= λ found. or_later found (difference_from passes left right last (times_before last times)))
+        (was_ok part (difference_step passes left right time) None e)) ∙ is-step
 
   -- the last time
   module _ (part : Part) (all : Checked (Option Sides)) (so_far : difference_from passes left right last [] ≡ all) where
     pub last_stops : (p : PassedAt ℚ) → at_part part (sides_at passes left right last) ≡ Err p → at_part part all ≡ Err p
     last_stops p e = ap (at_part part) (sym so_far) ∙ after_err part (sides_at passes left right last) _ p e
 
-    pub last_found : (sides : Sides) (differ : Bool) → Ok sides ≡ at_part part (sides_at passes left right last) → do_differ sides ≡ differ → Ok (if differ then Some sides else None) ≡ at_part part all
+    pub last_found : (sides : Sides) (differ : Bool) → Ok sides ≡ at_part part (sides_at passes left right last) → do_differ sides ≡ differ
+        → Ok (if differ then Some sides else None) ≡ at_part part all
     last_found sides differ e t = sym (ap (at_part part) (sym so_far) ∙ after_ok part (sides_at passes left right last) (λ sides. Ok (if_differ sides)) sides (sym e)
         ∙ ap (λ (t : Bool). Ok (if t then Some sides else None)) t)
 
@@ -110,11 +116,15 @@ module _ (last : ℚ) (left right : List Point) where
     pub fewer : length (times_left left right kept) ≤ length (times_left left right now)
 
   pub kept-before : (now kept : Option Moment) → kept ≡ only_before last now → IsThere left right now → Kept now kept
-  kept-before now kept e w = subst (λ (k : Option Moment). Kept now k) (sym e) (record { there = only-there now w; before = only-before now; times = only-times now; fewer = only-fewer now })
+  kept-before now kept e w =
+      subst (λ (k : Option Moment). Kept now k) (sym e) (record { there = only-there now w; before = only-before now; times = only-times now; fewer =
+      only-fewer now })
 
 -- what a step gives, by the tests that it makes
-pub step_found : (passes : Passing) (left right : List Point) (time : ℚ) (part : Part) (sides : Sides) (differ ends found : Bool) → Ok sides ≡ at_part part (sides_at passes left right time)
-    → do_differ sides ≡ differ → Ok ends ≡ at_part part (differ_at passes differ time left right) → ends ≡ found → Ok (if found then Some sides else None) ≡ at_part part (difference_step passes left right time)
+pub step_found : (passes : Passing) (left right : List Point) (time : ℚ) (part : Part) (sides : Sides) (differ ends found : Bool)
+    → Ok sides ≡ at_part part (sides_at passes left right time)
+    → do_differ sides ≡ differ → Ok ends ≡ at_part part (differ_at passes differ time left right) → ends ≡ found
+        → Ok (if found then Some sides else None) ≡ at_part part (difference_step passes left right time)
 step_found passes left right time part sides differ ends found e t d f =
     sym (after_ok part (sides_at passes left right time) (λ sides. differ_at passes (do_differ sides) time left right >>= λ ends. Ok (if ends then Some sides else None)) sides (sym e)
     ∙ ap (λ (t : Bool). at_part part (differ_at passes t time left right >>= λ ends. Ok (if ends then Some sides else None))) t

@@ -29,7 +29,8 @@ pub after_ok : {A B : Type 0} (part : Part) (r : Result A (Passed ℚ)) (f : A �
 after_ok part r f x e = ap (λ s. at_part part (s >>= f)) (was_ok part r x e)
 
 -- ---- a loop over a list, each of whose steps is a computation: what is there so far, before what the rest gives
-module _ {A B : Type 0} (part : Part) (f : A → Result B (Passed ℚ)) (front : List B) (all : Result (List B) (Passed ℚ)) (x : A) (rest : List A) (so_far : with_front front (each f (x ∷ rest)) ≡ all) where
+module _ {A B : Type 0} (part : Part) (f : A → Result B (Passed ℚ)) (front : List B) (all : Result (List B) (Passed ℚ)) (x : A) (rest : List A)
+    (so_far : with_front front (each f (x ∷ rest)) ≡ all) where
   pub each_goes : (y : B) → at_part part (f x) ≡ Ok y → with_front (front ++ y ∷ []) (each f rest) ≡ all
   each_goes y e = sym (each_ok f front x rest y (was_ok part (f x) y e)) ∙ so_far
 
@@ -40,7 +41,8 @@ module _ {A B : Type 0} (part : Part) (f : A → Result B (Passed ℚ)) (front :
       stop (Ok y) d i = absurd (true≢false (ap is_ok i))
       stop (Err q) d i = ap (at_part part) (each_err f front x rest q d) ∙ ap Err (err_same i)
 
-pub each_ends : {A B : Type 0} (f : A → Result B (Passed ℚ)) (front : List B) (all : Result (List B) (Passed ℚ)) (part : Part) → with_front front (each f []) ≡ all → at_part part all ≡ Ok front
+pub each_ends : {A B : Type 0} (f : A → Result B (Passed ℚ)) (front : List B) (all : Result (List B) (Passed ℚ)) (part : Part)
+    → with_front front (each f []) ≡ all → at_part part all ≡ Ok front
 each_ends f front all part e = ap (at_part part) (sym e) ∙ ap Ok (append-nil front)
 
 -- what holds of a computation's value holds of what is returned
@@ -74,6 +76,7 @@ pub front_ends : {B : Type 0} (part : Part) (front : List B) (all : Result (List
 front_ends part front all e = ap (at_part part) (sym e) ∙ ap Ok (append-nil front)
 
 -- ---- where a step ends, so does the whole
-pub stops_on : {A B : Type 0} (h : Halt ℚ) (said : Result A (PassedAt ℚ)) (all : Result B (PassedAt ℚ)) → ((p : PassedAt ℚ) → said ≡ Err p → all ≡ Err p) → Stops (λ (q : ℚ). q) h said → Stops (λ (q : ℚ). q) h all
+pub stops_on : {A B : Type 0} (h : Halt ℚ) (said : Result A (PassedAt ℚ)) (all : Result B (PassedAt ℚ)) → ((p : PassedAt ℚ) → said ≡ Err p → all ≡ Err p)
+    → Stops (λ (q : ℚ). q) h said → Stops (λ (q : ℚ). q) h all
 stops_on (Halt.Passed p) said all f s = f _ s
 stops_on Halt.Memory said all f s = tt

@@ -39,7 +39,9 @@ change_apart passes a b before after change r s u t e1 e2 f1 f2 g1 g2 zero =
     go (is_crossed a b) t d k l (is_crossed-is a b)
   where
     go : (c : _) → c ≡ true → before ≡ a.left -ℚ a.right → after ≡ b.left -ℚ b.right → change ≡ before -ℚ after → Crossing a.left a.right b.left b.right c → ⊥
-    go c s d k l (rises p q) = linear_false (a.left ∷ a.right ∷ b.left ∷ b.right ∷ before ∷ after ∷ change ∷ []) (lt p ∷ lt q ∷ eq d ∷ eq k ∷ eq l ∷ eq zero ∷ []) (search reading_of depth 12) tt
-    go c s d k l (falls p q) = linear_false (a.left ∷ a.right ∷ b.left ∷ b.right ∷ before ∷ after ∷ change ∷ []) (lt p ∷ lt q ∷ eq d ∷ eq k ∷ eq l ∷ eq zero ∷ []) (search reading_of depth 12) tt
+    go c s d k l (rises p q) = linear_false (a.left ∷ a.right ∷ b.left ∷ b.right ∷ before ∷ after ∷ change ∷ [])
+        (lt p ∷ lt q ∷ eq d ∷ eq k ∷ eq l ∷ eq zero ∷ []) (search reading_of depth 12) tt
+    go c s d k l (falls p q) = linear_false (a.left ∷ a.right ∷ b.left ∷ b.right ∷ before ∷ after ∷ change ∷ [])
+        (lt p ∷ lt q ∷ eq d ∷ eq k ∷ eq l ∷ eq zero ∷ []) (search reading_of depth 12) tt
     go c s d k l (left_below p q) = absurd (cc)
     go c s d k l (right_below p q) = absurd (cc)

@@ -60,7 +60,8 @@ before-place time (x ∷ rest) i p g h = ⊎_elim
     (λ (w : (lt_ℚ time x.0 ≡ false) × (x.0 ≤ℚ time)). at (λ i g k. before-place time rest i p g k) i g (let e = place-past time x rest w.1 in omega arith) w.1)
     (lt_ℚ_cases time x.0)
   where
-    at : ((i : ℕ) → slice_get rest i ≡ Some p → i < place_of time rest → p.0 ≤ℚ time) → (i : ℕ) → slice_get (x ∷ rest) i ≡ Some p → i < suc (place_of time rest) → x.0 ≤ℚ time → p.0 ≤ℚ time
+    at : ((i : ℕ) → slice_get rest i ≡ Some p → i < place_of time rest → p.0 ≤ℚ time) → (i : ℕ) → slice_get (x ∷ rest) i ≡ Some p
+        → i < suc (place_of time rest) → x.0 ≤ℚ time → p.0 ≤ℚ time
     at further zero g h k = subst (λ (q : Point). q.0 ≤ℚ time) (same_Some x p g) k
     at further (suc i) g h k = further i g (omega arith)
 
@@ -142,7 +143,8 @@ place-there time points k p r g t = ⊎_elim
     (λ (w : (is_same p.0 time ≡ false) × (¬ (p.0 ≡ time))). absurd (cc))
     (is_same_cases p.0 time)
 
-pub place-apart : (time : ℚ) (points : List Point) (k : ℕ) (p : Point) → k ≤ place_of time points → IfSome (slice_get points k) (λ p. time ≤ℚ p.0) → slice_get points k ≡ Some p → is_same p.0 time ≡ false → k ≡ place_of time points
+pub place-apart : (time : ℚ) (points : List Point) (k : ℕ) (p : Point) → k ≤ place_of time points → IfSome (slice_get points k) (λ p. time ≤ℚ p.0)
+    → slice_get points k ≡ Some p → is_same p.0 time ≡ false → k ≡ place_of time points
 place-apart time points k p h next g t = place-stays time points k h (λ q i. subst (λ (p : Point). time <ℚ p.0) (same_Some _ _ (sym g ∙ i)) before)
   where
     after : time ≤ℚ p.0
@@ -163,7 +165,8 @@ value_from-between : (passes : Passing) (time : ℚ) (p : Point) (rest : List Po
 value_from-between passes time p [] r h = sym (ap (λ (k : ℕ). value_between passes time (slice_get (p ∷ []) (k - 1)) (slice_get (p ∷ []) k)) (place-past time p [] h))
 value_from-between passes time p (q ∷ rest) r h = ⊎_elim
     (λ (w : (lt_ℚ time q.0 ≡ true) × (time <ℚ q.0)). here w.0 w.1)
-    (λ (w : (lt_ℚ time q.0 ≡ false) × (q.0 ≤ℚ time)). ap (λ (b : Bool). if b then Ok p.1 else (if lt_ℚ time q.0 then checked_line passes p q time else value_from passes q rest time)) (apart w.1)
+    (λ (w : (lt_ℚ time q.0 ≡ false) × (q.0 ≤ℚ time)). ap (λ (b : Bool). if b then Ok p.1 else
+        (if lt_ℚ time q.0 then checked_line passes p q time else value_from passes q rest time)) (apart w.1)
     ∙ ap (λ (b : Bool). if b then checked_line passes p q time else value_from passes q rest time) w.0
     ∙ value_from-between passes time q rest r.1 w.1 ∙ sym (further w.1 (place_of time rest) refl))
     (lt_ℚ_cases time q.0)
@@ -172,7 +175,8 @@ value_from-between passes time p (q ∷ rest) r h = ⊎_elim
         → (if is_same time p.0 then Ok p.1 else (if lt_ℚ time q.0 then checked_line passes p q time else value_from passes q rest time))
         ≡ value_between passes time (slice_get (p ∷ q ∷ rest) (place_of time (p ∷ q ∷ rest) - 1)) (slice_get (p ∷ q ∷ rest) (place_of time (p ∷ q ∷ rest)))
     here t k = ap (λ (b : Bool). if is_same time p.0 then Ok p.1 else (if b then checked_line passes p q time else value_from passes q rest time)) t
-        ∙ sym (ap (λ (k : ℕ). value_between passes time (slice_get (p ∷ q ∷ rest) (k - 1)) (slice_get (p ∷ q ∷ rest) k)) (place-past time p (q ∷ rest) h ∙ ap suc (place-behind time q rest k)))
+        ∙ sym (ap (λ (k : ℕ). value_between passes time (slice_get (p ∷ q ∷ rest) (k - 1)) (slice_get (p ∷ q ∷ rest) k))
+            (place-past time p (q ∷ rest) h ∙ ap suc (place-behind time q rest k)))
 
     apart : q.0 ≤ℚ time → is_same time p.0 ≡ false
     apart k = ⊎_elim
@@ -186,8 +190,10 @@ value_from-between passes time p (q ∷ rest) r h = ⊎_elim
         ≡ value_between passes time (slice_get (q ∷ rest) (place_of time (q ∷ rest) - 1)) (slice_get (q ∷ rest) (place_of time (q ∷ rest)))
     further k n e =
         ap (λ (k : ℕ). value_between passes time (slice_get (p ∷ q ∷ rest) (k - 1)) (slice_get (p ∷ q ∷ rest) k)) (place-past time p (q ∷ rest) h ∙ ap suc (place-past time q rest k))
-        ∙ ap (λ (k : ℕ). value_between passes time (slice_get (p ∷ q ∷ rest) k) (slice_get (q ∷ rest) (suc (place_of time rest)))) (let one : suc (suc (place_of time rest)) - 1 ≡ suc (place_of time rest) = omega arith in one)
-        ∙ ap (λ (k : ℕ). value_between passes time (slice_get (q ∷ rest) k) (slice_get (q ∷ rest) (suc (place_of time rest)))) (let one : place_of time rest ≡ suc (place_of time rest) - 1 = omega arith in one)
+        ∙ ap (λ (k : ℕ). value_between passes time (slice_get (p ∷ q ∷ rest) k) (slice_get (q ∷ rest) (suc (place_of time rest))))
+            (let one : suc (suc (place_of time rest)) - 1 ≡ suc (place_of time rest) = omega arith in one)
+        ∙ ap (λ (k : ℕ). value_between passes time (slice_get (q ∷ rest) k) (slice_get (q ∷ rest) (suc (place_of time rest))))
+            (let one : place_of time rest ≡ suc (place_of time rest) - 1 = omega arith in one)
         ∙ sym (ap (λ (k : ℕ). value_between passes time (slice_get (q ∷ rest) (k - 1)) (slice_get (q ∷ rest) k)) (place-past time q rest k))
 
 -- the first point is at time 0, so its place is at least 1
@@ -213,7 +219,8 @@ below_all : (x y z : ℚ) → x ≤ℚ y → y <ℚ z → x <ℚ z
 below_all x y z h k = linear_lt (x ∷ y ∷ z ∷ []) (le h ∷ lt k ∷ []) (search reading_of depth 12) tt
 
 -- a point before the place and one at it
-pub around-place : (time : ℚ) (points : List Point) (k : ℕ) (p q : Point) → TimesRise points → k ≡ place_of time points → 0 < k → slice_get points (k - 1) ≡ Some p → slice_get points k ≡ Some q → p.0 <ℚ q.0
+pub around-place : (time : ℚ) (points : List Point) (k : ℕ) (p q : Point) → TimesRise points → k ≡ place_of time points → 0 < k
+    → slice_get points (k - 1) ≡ Some p → slice_get points k ≡ Some q → p.0 <ℚ q.0
 around-place time points k p q r e o f g = below_all p.0 time q.0 (before-place time points (k - 1) p f (omega arith)) (from-place time points k q r g (omega arith))
 
 pub curve-rises : (points : List Point) → IsCurve points → TimesRise points
@@ -221,14 +228,16 @@ curve-rises [] c = absurd c
 curve-rises (p ∷ rest) c = c.1
 
 -- ---- the exits of the value at a place
-module _ (passes : Passing) (part : Part) (time : ℚ) (points : List Point) (k : ℕ) (p : Point) (c : IsCurve points) (h : 0ℚ ≤ℚ time) (e : k ≡ place_of time points) (f : slice_get points (k - 1) ≡ Some p) where
+module _ (passes : Passing) (part : Part) (time : ℚ) (points : List Point) (k : ℕ) (p : Point) (c : IsCurve points) (h : 0ℚ ≤ℚ time)
+    (e : k ≡ place_of time points) (f : slice_get points (k - 1) ≡ Some p) where
   pub value-last : slice_get points k ≡ None → ◌≡◌ {A = Result ℚ (PassedAt ℚ)} (Ok p.1) (at_part part (checked_value passes points time))
   value-last g = sym (ap (at_part part) (value-at passes time points k p None c h e f g))
 
   pub value-same : (q : Point) → slice_get points k ≡ Some q → is_same time p.0 ≡ true → ◌≡◌ {A = Result ℚ (PassedAt ℚ)} (Ok p.1) (at_part part (checked_value passes points time))
   value-same q g t = sym (ap (at_part part) (value-at passes time points k p (Some q) c h e f g ∙ ap (λ (b : Bool). if b then Ok p.1 else checked_line passes p q time) t))
 
-  pub value-line : (q : Point) (r : Result ℚ (PassedAt ℚ)) → slice_get points k ≡ Some q → is_same time p.0 ≡ false → r ≡ at_part part (checked_line passes p q time) → r ≡ at_part part (checked_value passes points time)
+  pub value-line : (q : Point) (r : Result ℚ (PassedAt ℚ)) → slice_get points k ≡ Some q → is_same time p.0 ≡ false
+      → r ≡ at_part part (checked_line passes p q time) → r ≡ at_part part (checked_value passes points time)
   value-line q r g t i = i ∙ sym (ap (at_part part) (value-at passes time points k p (Some q) c h e f g ∙ ap (λ (b : Bool). if b then Ok p.1 else checked_line passes p q time) t))
 
 -- ---- a number before the last one

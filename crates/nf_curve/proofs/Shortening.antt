@@ -27,15 +27,18 @@ module _ (passes : Passing) where
   front_of true q later = refl
   front_of false q later = refl
 
-  short_from-slopes : (before : ℚ) (q : Point) (rest : List Point) → (checked_slopes passes (q ∷ rest) >>= λ ks. Ok (turning (q ∷ rest) (before ∷ ks))) ≡ short_from passes before (q ∷ rest)
+  short_from-slopes : (before : ℚ) (q : Point) (rest : List Point) → (checked_slopes passes (q ∷ rest) >>= λ ks. Ok (turning (q ∷ rest) (before ∷ ks)))
+      ≡ short_from passes before (q ∷ rest)
   short_from-slopes before q [] = refl
   short_from-slopes before q (r ∷ rest) = by_slope (checked_slope passes q r) (λ after. short_from-slopes after r rest)
     where
-      by_later : (after : ℚ) (s : Checked (List ℚ)) → (s >>= λ ks. Ok (turning (q ∷ r ∷ rest) (before ∷ after ∷ ks))) ≡ ((s >>= λ ks. Ok (turning (r ∷ rest) (after ∷ ks))) >>= λ later. Ok ((if is_same before after then [] else q ∷ []) ++ later))
+      by_later : (after : ℚ) (s : Checked (List ℚ)) → (s >>= λ ks. Ok (turning (q ∷ r ∷ rest) (before ∷ after ∷ ks)))
+          ≡ ((s >>= λ ks. Ok (turning (r ∷ rest) (after ∷ ks))) >>= λ later. Ok ((if is_same before after then [] else q ∷ []) ++ later))
       by_later after (Ok ks) = ap Ok (front_of (is_same before after) q (turning (r ∷ rest) (after ∷ ks)))
       by_later after (Err p) = refl
 
-      unite : (after : ℚ) (s : Checked (List ℚ)) → ((s >>= λ ks. Ok (after ∷ ks)) >>= λ ks. Ok (turning (q ∷ r ∷ rest) (before ∷ ks))) ≡ (s >>= λ ks. Ok (turning (q ∷ r ∷ rest) (before ∷ after ∷ ks)))
+      unite : (after : ℚ) (s : Checked (List ℚ)) → ((s >>= λ ks. Ok (after ∷ ks)) >>= λ ks. Ok (turning (q ∷ r ∷ rest) (before ∷ ks)))
+          ≡ (s >>= λ ks. Ok (turning (q ∷ r ∷ rest) (before ∷ after ∷ ks)))
       unite after (Ok ks) = refl
       unite after (Err p) = refl
 
@@ -48,15 +51,18 @@ module _ (passes : Passing) where
           ∙ ap (λ (s : Checked (List Point)). s >>= λ later. Ok ((if is_same before after then [] else q ∷ []) ++ later)) (rec after)
 
   -- the whole, by the first slope
-  short-begins : (p q : Point) (rest : List Point) → checked_short passes (p ∷ q ∷ rest) ≡ (checked_slope passes p q >>= λ before. with_front (p ∷ []) (short_from passes before (q ∷ rest)))
+  short-begins : (p q : Point) (rest : List Point) → checked_short passes
+      (p ∷ q ∷ rest) ≡ (checked_slope passes p q >>= λ before. with_front (p ∷ []) (short_from passes before (q ∷ rest)))
   unfolding checked_short
   short-begins p q rest = by_slope (checked_slope passes p q)
     where
-      by_slopes : (before : ℚ) (s : Checked (List ℚ)) → ((s >>= λ ks. Ok (before ∷ ks)) >>= λ ks. Ok (p ∷ turning (q ∷ rest) ks)) ≡ with_front (p ∷ []) (s >>= λ ks. Ok (turning (q ∷ rest) (before ∷ ks)))
+      by_slopes : (before : ℚ) (s : Checked (List ℚ)) → ((s >>= λ ks. Ok (before ∷ ks)) >>= λ ks. Ok (p ∷ turning (q ∷ rest) ks)) ≡ with_front (p ∷ [])
+          (s >>= λ ks. Ok (turning (q ∷ rest) (before ∷ ks)))
       by_slopes before (Ok ks) = refl
       by_slopes before (Err e) = refl
 
-      by_slope : (k : Checked ℚ) → ((k >>= λ k. checked_slopes passes (q ∷ rest) >>= λ ks. Ok (k ∷ ks)) >>= λ ks. Ok (p ∷ turning (q ∷ rest) ks)) ≡ (k >>= λ before. with_front (p ∷ []) (short_from passes before (q ∷ rest)))
+      by_slope : (k : Checked ℚ) → ((k >>= λ k. checked_slopes passes (q ∷ rest) >>= λ ks. Ok (k ∷ ks)) >>= λ ks. Ok (p ∷ turning (q ∷ rest) ks))
+          ≡ (k >>= λ before. with_front (p ∷ []) (short_from passes before (q ∷ rest)))
       by_slope (Err e) = refl
       by_slope (Ok before) = by_slopes before (checked_slopes passes (q ∷ rest)) ∙ ap (with_front (p ∷ [])) (short_from-slopes before q rest)
 
@@ -84,13 +90,16 @@ module _ (passes : Passing) (part : Part) (points : List Point) where
     begin_stops a g = ap (at_part part) begins ∙ after_err part (checked_slope passes p q) _ a g
 
     pub begin_goes : (before : ℚ) → at_part part (checked_slope passes p q) ≡ Ok before → with_front (p ∷ []) (short_from passes before (drop 1 points)) ≡ checked_short passes points
-    begin_goes before g = sym (begins ∙ ap (λ (k : Checked ℚ). k >>= λ before. with_front (p ∷ []) (short_from passes before (drop 1 points))) (was_ok part (checked_slope passes p q) before g))
+    begin_goes before g = sym (begins ∙ ap (λ (k : Checked ℚ). k >>= λ before. with_front (p ∷ []) (short_from passes before (drop 1 points)))
+        (was_ok part (checked_slope passes p q) before g))
 
   -- from an inner point to the next
   module _ (front : List Point) (before : ℚ) (i j : ℕ) (q r : Point) (next : j ≡ suc i) (e : slice_get points i ≡ Some q) (f : slice_get points j ≡ Some r)
       (so_far : with_front front (short_from passes before (drop i points)) ≡ checked_short passes points) where
-    is_step : with_front front (checked_slope passes q r >>= λ after. short_from passes after (drop j points) >>= λ later. Ok ((if is_same before after then [] else q ∷ []) ++ later)) ≡ checked_short passes points
-    is_step = ap (with_front front) (ap (λ (l : List Point). checked_slope passes q r >>= λ after. short_from passes after l >>= λ later. Ok ((if is_same before after then [] else q ∷ []) ++ later)) (drop-at points j r f)
+    is_step : with_front front (checked_slope passes q r >>= λ after. short_from passes after (drop j points) >>= λ later. Ok
+        ((if is_same before after then [] else q ∷ []) ++ later)) ≡ checked_short passes points
+    is_step = ap (with_front front) (ap (λ (l : List Point). checked_slope passes q r >>= λ after. short_from passes after l >>= λ later. Ok
+        ((if is_same before after then [] else q ∷ []) ++ later)) (drop-at points j r f)
         ∙ ap (short_from passes before) (sym (drop-two points i j q r next e f))) ∙ so_far
 
     pub step_stops : (a : PassedAt ℚ) → at_part part (checked_slope passes q r) ≡ Err a → at_part part (checked_short passes points) ≡ Err a
@@ -101,7 +110,8 @@ module _ (passes : Passing) (part : Part) (points : List Point) where
     step_goes after kept g h =
         ap (λ (l : List Point). with_front l (short_from passes after (drop j points))) (h ∙ by_test (is_same before after))
         ∙ sym (front_more front (if is_same before after then [] else q ∷ []) (short_from passes after (drop j points)))
-        ∙ ap (λ (k : Checked ℚ). with_front front (k >>= λ after. short_from passes after (drop j points) >>= λ later. Ok ((if is_same before after then [] else q ∷ []) ++ later))) (sym (was_ok part (checked_slope passes q r) after g))
+        ∙ ap (λ (k : Checked ℚ). with_front front (k >>= λ after. short_from passes after (drop j points) >>= λ later. Ok
+            ((if is_same before after then [] else q ∷ []) ++ later))) (sym (was_ok part (checked_slope passes q r) after g))
         ∙ is_step
       where
         by_test : (b : Bool) → (if b then front else front ++ q ∷ []) ≡ front ++ (if b then [] else q ∷ [])
@@ -109,9 +119,12 @@ module _ (passes : Passing) (part : Part) (points : List Point) where
         by_test false = refl
 
   -- the last point
-  pub short_ends : (front : List Point) (before : ℚ) (i : ℕ) (q : Point) → slice_get points i ≡ Some q → length points ≡ suc i → with_front front (short_from passes before (drop i points)) ≡ checked_short passes points
+  pub short_ends : (front : List Point) (before : ℚ) (i : ℕ) (q : Point) → slice_get points i ≡ Some q → length points ≡ suc i
+      → with_front front (short_from passes before (drop i points)) ≡ checked_short passes points
       → at_part part (checked_short passes points) ≡ Ok (front ++ q ∷ [])
-  short_ends front before i q e n so_far = ap (at_part part) (sym so_far ∙ ap (λ (l : List Point). with_front front (short_from passes before l)) (drop-at points i q e ∙ ap (λ (l : List Point). q ∷ l) (none points (suc i) n)))
+  short_ends front before i q e n so_far =
+      ap (at_part part) (sym so_far ∙ ap (λ (l : List Point). with_front front (short_from passes before l))
+      (drop-at points i q e ∙ ap (λ (l : List Point). q ∷ l) (none points (suc i) n)))
     where
       none : (xs : List Point) (k : ℕ) → length xs ≡ k → drop k xs ≡ []
       none [] k e = Rattle.std.proofs.Math.Seq.drop-nil k

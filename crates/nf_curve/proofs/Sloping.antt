@@ -26,7 +26,8 @@ keeps-found points place p q slope f g e =
 
 -- a kept slope is that of its piece
 pub keeps-kept : (part : Part) (points : List Point) (place : ℕ) (kept : Option PieceSlope) (known : PieceSlope) → Keeps points kept → kept ≡ Some known → known.place ≡ place
-    → (p q : Point) → slice_get points (place - 1) ≡ Some p → slice_get points place ≡ Some q → ◌≡◌ {A = Result ℚ (PassedAt ℚ)} (Ok known.slope) (at_part part (checked_slope passes_Q p q))
+    → (p q : Point) → slice_get points (place - 1) ≡ Some p → slice_get points place ≡ Some q
+        → ◌≡◌ {A = Result ℚ (PassedAt ℚ)} (Ok known.slope) (at_part part (checked_slope passes_Q p q))
 keeps-kept part points place kept known k is at p q f g =
     let w = subst (λ (o : Option PieceSlope). Keeps points o) is k in
     sym (ap (at_part part) (w p q (ap (λ (n : ℕ). slice_get points (n - 1)) at ∙ f) (ap (slice_get points) at ∙ g)))
@@ -39,7 +40,9 @@ module _ (part : Part) (p q : Point) (time : ℚ) (slope : Result ℚ (PassedAt 
   line-goes k r e f = f ∙ sym (ap (at_part part) (line-along passes_Q p q time) ∙ after_ok part (checked_slope passes_Q p q) (λ k. checked_along passes_Q p k time) k (sym is ∙ e))
 
 -- what is computed from the points that were read is computed from those there
-pub slope-read : (part : Part) (points : List Point) (place : ℕ) (p q : Point) (r : Result ℚ (PassedAt ℚ)) → slice_get points (place - 1) ≡ Some p → slice_get points place ≡ Some q → r ≡ at_part part (checked_slope passes_Q p q)
+pub slope-read : (part : Part) (points : List Point) (place : ℕ) (p q : Point) (r : Result ℚ (PassedAt ℚ)) → slice_get points (place - 1) ≡ Some p
+    → slice_get points place ≡ Some q → r ≡ at_part part (checked_slope passes_Q p q)
     → (a b : Point) → slice_get points (place - 1) ≡ Some a → slice_get points place ≡ Some b → r ≡ at_part part (checked_slope passes_Q a b)
 slope-read part points place p q r f g e a b i j =
-    e ∙ ap (λ (p : Point). at_part part (checked_slope passes_Q p q)) (same_Some _ _ (sym f ∙ i)) ∙ ap (λ (q : Point). at_part part (checked_slope passes_Q a q)) (same_Some _ _ (sym g ∙ j))
+    e ∙ ap (λ (p : Point). at_part part (checked_slope passes_Q p q)) (same_Some _ _ (sym f ∙ i))
+        ∙ ap (λ (q : Point). at_part part (checked_slope passes_Q a q)) (same_Some _ _ (sym g ∙ j))

@@ -50,7 +50,8 @@ module _ (passes : Passing) (time : ℚ) where
   at_none p q [] m r s e = sym e
   at_none p q (x ∷ rest) m r s e = sym e ∙ place-behind time x rest (subst (λ (t : ℚ). t <ℚ x.0) (sym (Rattle.nf_curve_laws.proofs.Operations.same_of time q.0 s)) r.0)
 
-  turns-place : (p : Point) (rest : List Point) (k : ℕ) → TimesRise (p ∷ rest) → p.0 ≤ℚ time → place_of time (p ∷ rest) ≡ k → turns_from passes time p rest ≡ turn_place passes time (p ∷ rest) k
+  turns-place : (p : Point) (rest : List Point) (k : ℕ) → TimesRise (p ∷ rest) → p.0 ≤ℚ time → place_of time (p ∷ rest) ≡ k
+      → turns_from passes time p rest ≡ turn_place passes time (p ∷ rest) k
   turns-place p [] k r h e = ap (turn_place passes time (p ∷ [])) (sym (place-past time p [] h) ∙ e)
   turns-place p (q ∷ rest) k r h e = ⊎_elim
       (λ (w : (lt_ℚ time q.0 ≡ true) × (time <ℚ q.0)).
@@ -95,22 +96,27 @@ module _ (passes : Passing) (time : ℚ) where
   late points zero p q j f g = absurd (omega arith)
   late points (suc zero) p q j f g = absurd (omega arith)
   late points (suc (suc n)) p q j f g =
-      ap (λ (o : Option Point). turn_here passes time o (slice_get points (suc n)) (slice_get points (suc (suc n)))) (ap (slice_get points) (let d : n ≡ suc (suc n) - 2 = omega arith in d) ∙ f)
+      ap (λ (o : Option Point). turn_here passes time o (slice_get points (suc n)) (slice_get points (suc (suc n))))
+          (ap (slice_get points) (let d : n ≡ suc (suc n) - 2 = omega arith in d) ∙ f)
       ∙ ap (λ (o : Option Point). turn_here passes time (Some p) o (slice_get points (suc (suc n)))) (ap (slice_get points) (let d : suc n ≡ suc (suc n) - 1 = omega arith in d) ∙ g)
 
-  pub turn-apart : (points : List Point) (k : ℕ) (p q : Point) → IsCurve points → 0ℚ ≤ℚ time → k ≡ place_of time points → 2 ≤ k → slice_get points (k - 2) ≡ Some p → slice_get points (k - 1) ≡ Some q
+  pub turn-apart : (points : List Point) (k : ℕ) (p q : Point) → IsCurve points → 0ℚ ≤ℚ time → k ≡ place_of time points → 2 ≤ k
+      → slice_get points (k - 2) ≡ Some p → slice_get points (k - 1) ≡ Some q
       → is_same time q.0 ≡ false → checked_turn passes time points ≡ Ok false
   turn-apart points k p q c h e j f g t = checked_turn-place points k c h e ∙ late points k p q j f g
       ∙ ap (λ (b : Bool). if b then turn_between passes (Some p) (Some q) (slice_get points k) else Ok false) t
 
-  pub turn-there : (points : List Point) (k : ℕ) (p q : Point) → IsCurve points → 0ℚ ≤ℚ time → k ≡ place_of time points → 2 ≤ k → slice_get points (k - 2) ≡ Some p → slice_get points (k - 1) ≡ Some q
+  pub turn-there : (points : List Point) (k : ℕ) (p q : Point) → IsCurve points → 0ℚ ≤ℚ time → k ≡ place_of time points → 2 ≤ k
+      → slice_get points (k - 2) ≡ Some p → slice_get points (k - 1) ≡ Some q
       → is_same time q.0 ≡ true → checked_turn passes time points ≡ turn_between passes (slice_get points (k - 2)) (slice_get points (k - 1)) (slice_get points k)
   turn-there points k p q c h e j f g t = checked_turn-place points k c h e ∙ late points k p q j f g
       ∙ ap (λ (b : Bool). if b then turn_between passes (Some p) (Some q) (slice_get points k) else Ok false) t
-      ∙ sym (ap (λ (o : Option Point). turn_between passes o (slice_get points (k - 1)) (slice_get points k)) f ∙ ap (λ (o : Option Point). turn_between passes (Some p) o (slice_get points k)) g)
+      ∙ sym (ap (λ (o : Option Point). turn_between passes o (slice_get points (k - 1)) (slice_get points k)) f
+          ∙ ap (λ (o : Option Point). turn_between passes (Some p) o (slice_get points k)) g)
 
 -- by the three points
-pub turn-by : (passes : Passing) (points : List Point) (k : ℕ) (p q : Point) (r : Option Point) → slice_get points (k - 2) ≡ Some p → slice_get points (k - 1) ≡ Some q → slice_get points k ≡ r
+pub turn-by : (passes : Passing) (points : List Point) (k : ℕ) (p q : Point) (r : Option Point) → slice_get points (k - 2) ≡ Some p
+    → slice_get points (k - 1) ≡ Some q → slice_get points k ≡ r
     → turn_between passes (slice_get points (k - 2)) (slice_get points (k - 1)) (slice_get points k) ≡ turn_between passes (Some p) (Some q) r
 turn-by passes points k p q r e f g =
     ap (λ (o : Option Point). turn_between passes o (slice_get points (k - 1)) (slice_get points k)) e

@@ -108,24 +108,30 @@ module _ (time : ℚ) (left right : List Point) (r : TimesRise left) (s : TimesR
       (sym (ap (λ (l : List Point). merged (times_of l) (times_of (later time right))) e ∙ ap (λ (l : List Point). merged (times_of (p ∷ ls)) (times_of l)) f))
       (merged_from-cases (λ (l : List ℚ). (time <ℚ min_ℚ p.0 q.0) × (l ≡ min_ℚ p.0 q.0 ∷ times_after (min_ℚ p.0 q.0) left right)) p.0 (merged (times_of ls)) q.0 (times_of rs)
       (λ h. on p.0 (p.0 ∷ merged (times_of ls) (times_of (q ∷ rs))) (min_is_left p.0 q.0 (≤ℚ_of_lt _ _ h)) v.after
-      (ap (λ (l : List Point). p.0 ∷ merged (times_of l) (times_of (later p.0 right))) v.next ∙ ap (λ (l : List Point). p.0 ∷ merged (times_of ls) (times_of l)) (w.stays p.0 (≤ℚ_of_lt _ _ v.after) h)))
+      (ap (λ (l : List Point). p.0 ∷ merged (times_of l) (times_of (later p.0 right))) v.next
+          ∙ ap (λ (l : List Point). p.0 ∷ merged (times_of ls) (times_of l)) (w.stays p.0 (≤ℚ_of_lt _ _ v.after) h)))
       (λ h. on q.0 (q.0 ∷ merged (times_of (p ∷ ls)) (times_of rs)) (min_is_right p.0 q.0 (≤ℚ_of_lt _ _ h)) w.after
-      (ap (λ (l : List Point). q.0 ∷ merged (times_of l) (times_of (later q.0 right))) (v.stays q.0 (≤ℚ_of_lt _ _ w.after) h) ∙ ap (λ (l : List Point). q.0 ∷ merged (times_of (p ∷ ls)) (times_of l)) w.next))
+      (ap (λ (l : List Point). q.0 ∷ merged (times_of l) (times_of (later q.0 right))) (v.stays q.0 (≤ℚ_of_lt _ _ w.after) h)
+          ∙ ap (λ (l : List Point). q.0 ∷ merged (times_of (p ∷ ls)) (times_of l)) w.next))
       (λ h. on p.0 (p.0 ∷ merged (times_of ls) (times_of rs)) (min_is_left p.0 q.0 (≤ℚ_of_same _ _ h)) v.after
       (ap (λ (l : List Point). p.0 ∷ merged (times_of l) (times_of (later p.0 right))) v.next
       ∙ ap (λ (l : List Point). p.0 ∷ merged (times_of ls) (times_of l)) (ap (λ (t : ℚ). later t right) h ∙ w.next))))
     where
-      on : (next : ℚ) (l : List ℚ) → min_ℚ p.0 q.0 ≡ next → time <ℚ next → next ∷ times_after next left right ≡ l → (time <ℚ min_ℚ p.0 q.0) × (l ≡ min_ℚ p.0 q.0 ∷ times_after (min_ℚ p.0 q.0) left right)
+      on : (next : ℚ) (l : List ℚ) → min_ℚ p.0 q.0 ≡ next → time <ℚ next → next ∷ times_after next left right ≡ l
+          → (time <ℚ min_ℚ p.0 q.0) × (l ≡ min_ℚ p.0 q.0 ∷ times_after (min_ℚ p.0 q.0) left right)
       on next l i h j = (subst (λ (t : ℚ). time <ℚ t) (sym i) h, sym j ∙ ap (λ (t : ℚ). t ∷ times_after t left right) (sym i))
 
   -- the earlier of the times at both point counts is next
-  pub comes-next : (next : Option ℚ) → next ≡ earlier_of (option_map (λ (p : Point). p.0) (slice_get left (place_of time left))) (option_map (λ (p : Point). p.0) (slice_get right (place_of time right))) → ComesNext time left right next
+  pub comes-next : (next : Option ℚ) → next ≡ earlier_of (option_map (λ (p : Point). p.0) (slice_get left (place_of time left)))
+      (option_map (λ (p : Point). p.0) (slice_get right (place_of time right))) → ComesNext time left right next
   comes-next next e = subst (λ (o : Option ℚ). ComesNext time left right o)
-      (sym (e ∙ ap (λ (o : Option ℚ). earlier_of o (option_map (λ (p : Point). p.0) (slice_get right (place_of time right)))) (place-head time left) ∙ ap (λ (o : Option ℚ). earlier_of (head_of (later time left)) o) (place-head time right)))
+      (sym (e ∙ ap (λ (o : Option ℚ). earlier_of o (option_map (λ (p : Point). p.0) (slice_get right (place_of time right)))) (place-head time left)
+          ∙ ap (λ (o : Option ℚ). earlier_of (head_of (later time left)) o) (place-head time right)))
       (steps (later time left) (later time right) refl refl)
 
 -- ---- the merge begins at time 0
-begins : (p q : Point) (left right : List Point) → TimesRise (p ∷ left) → TimesRise (q ∷ right) → p.0 ≡ q.0 → both_times (p ∷ left) (q ∷ right) ≡ p.0 ∷ times_after p.0 (p ∷ left) (q ∷ right)
+begins : (p q : Point) (left right : List Point) → TimesRise (p ∷ left) → TimesRise (q ∷ right) → p.0 ≡ q.0
+    → both_times (p ∷ left) (q ∷ right) ≡ p.0 ∷ times_after p.0 (p ∷ left) (q ∷ right)
 unfolding both_times
 begins p q left right r s e = merged_from-cases (λ (l : List ℚ). l ≡ p.0 ∷ times_after p.0 (p ∷ left) (q ∷ right)) p.0 (merged (times_of left)) q.0 (times_of right)
     (λ h. absurd (not_both_ℚ p.0 q.0 h (≤ℚ_of_same _ _ (sym e))))
@@ -136,7 +142,9 @@ begins p q left right r s e = merged_from-cases (λ (l : List ℚ). l ≡ p.0 �
 pub walk-begins : (left right : List Point) (time : ℚ) → IsCurve left → IsCurve right → time ≡ 0ℚ → both_times left right ≡ time ∷ times_after time left right
 walk-begins [] right time c d e = absurd c
 walk-begins (p ∷ left) [] time c d e = absurd d
-walk-begins (p ∷ left) (q ∷ right) time c d e = subst (λ (t : ℚ). both_times (p ∷ left) (q ∷ right) ≡ t ∷ times_after t (p ∷ left) (q ∷ right)) (c.0 ∙ sym e) (begins p q left right c.1 d.1 (c.0 ∙ sym d.0))
+walk-begins (p ∷ left) (q ∷ right) time c d e =
+    subst (λ (t : ℚ). both_times (p ∷ left) (q ∷ right) ≡ t ∷ times_after t (p ∷ left) (q ∷ right)) (c.0 ∙ sym e)
+    (begins p q left right c.1 d.1 (c.0 ∙ sym d.0))
 
 -- ---- the next time of the merge
 module _ (left right : List Point) (c : IsCurve left) (d : IsCurve right) (now : Moment) (there : IsMoment left right now) (s t next : Option ℚ)
@@ -144,7 +152,8 @@ module _ (left right : List Point) (c : IsCurve left) (d : IsCurve right) (now :
   next-is : ComesNext now.time left right next
   next-is = comes-next now.time left right (curve-rises left c) (curve-rises right d) next
       (g ∙ ap (λ (o : Option ℚ). earlier_of o t) (e ∙ ap (λ (k : ℕ). option_map (λ (p : Point). p.0) (slice_get left k)) there.left_place)
-      ∙ ap (λ (o : Option ℚ). earlier_of (option_map (λ (p : Point). p.0) (slice_get left (place_of now.time left))) o) (f ∙ ap (λ (k : ℕ). option_map (λ (p : Point). p.0) (slice_get right k)) there.right_place))
+      ∙ ap (λ (o : Option ℚ). earlier_of (option_map (λ (p : Point). p.0) (slice_get left (place_of now.time left))) o)
+          (f ∙ ap (λ (k : ℕ). option_map (λ (p : Point). p.0) (slice_get right k)) there.right_place))
 
   pub walk-ends : next ≡ None → times_after now.time left right ≡ []
   walk-ends h = subst (λ (o : Option ℚ). ComesNext now.time left right o) h next-is

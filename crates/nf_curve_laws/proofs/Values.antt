@@ -12,7 +12,8 @@ module _ (passes : Passing) where
   piece_cases : {P : Type 0} (p q : Point) (rest : List Point) (time y : ℚ) → value_from passes p (q ∷ rest) time ≡ Ok y
       → (time ≡ p.0 → y ≡ p.1 → P) → (time <ℚ q.0 → checked_line passes p q time ≡ Ok y → P) → (q.0 ≤ℚ time → value_from passes q rest time ≡ Ok y → P) → P
   piece_cases {P} p q rest time y e f g h = ⊎_elim
-      (λ (a : (is_same time p.0 ≡ true) × (time ≡ p.0)). f a.1 (same_Ok _ _ (sym e ∙ ap (λ (b : Bool). if b then Ok p.1 else (if lt_ℚ time q.0 then checked_line passes p q time else value_from passes q rest time)) a.0)))
+      (λ (a : (is_same time p.0 ≡ true) × (time ≡ p.0)). f a.1 (same_Ok _ _
+          (sym e ∙ ap (λ (b : Bool). if b then Ok p.1 else (if lt_ℚ time q.0 then checked_line passes p q time else value_from passes q rest time)) a.0)))
       (λ (a : (is_same time p.0 ≡ false) × (¬ (time ≡ p.0))).
       let e' : (if lt_ℚ time q.0 then checked_line passes p q time else value_from passes q rest time) ≡ Ok y =
       sym (ap (λ (b : Bool). if b then Ok p.1 else (if lt_ℚ time q.0 then checked_line passes p q time else value_from passes q rest time)) a.0) ∙ e in
@@ -40,7 +41,8 @@ module _ (passes : Passing) where
   still x t s z e = linear_eq (x ∷ t ∷ s ∷ z ∷ []) (eq e ∷ []) (search reading_of) tt tt
 
   -- up to a time of the first piece
-  first_piece : (f : ℚ → ℚ) (p q : Point) (rest : List Point) (b : ℚ) → TimesRise (p ∷ q ∷ rest) → b ≤ℚ q.0 → ((t : ℚ) → p.0 ≤ℚ t → f t ≡ value (p ∷ q ∷ rest) t) → IsAffine f p.0 b (slope p q)
+  first_piece : (f : ℚ → ℚ) (p q : Point) (rest : List Point) (b : ℚ) → TimesRise (p ∷ q ∷ rest) → b ≤ℚ q.0
+      → ((t : ℚ) → p.0 ≤ℚ t → f t ≡ value (p ∷ q ∷ rest) t) → IsAffine f p.0 b (slope p q)
   first_piece f p q rest b r h same = record {
     line = λ t i j. same t i ∙ value-line p q rest t r (≤ℚ_trans _ _ _ j h) ∙ ap (λ (x : ℚ). x +ℚ slope p q *ℚ (t -ℚ p.0)) (sym (same p.0 (≤ℚ_refl p.0) ∙ value-first p (q ∷ rest) r));
   }
@@ -75,7 +77,8 @@ module _ (passes : Passing) where
       subst (λ (l : List Point). Cut (p ∷ rest) last l) (same_Ok _ _ w.next)
       (⊎_elim
       (λ (v : (lt_ℚ p.0 last ≡ true) × (p.0 <ℚ last)). subst (λ (b : Bool). Cut (p ∷ rest) last ((if b then p ∷ points_before last rest else []) ++ (last, w.between) ∷ [])) (sym v.0)
-      (record { first = p; rest = points_before last rest ++ (last, w.between) ∷ []; cut_is = refl; begins = c.0; follows = cut_from p rest last w.between c.1 v.1 y (value (p ∷ rest)) (λ t i. refl) }))
+      (record { first = p; rest = points_before last rest ++ (last, w.between) ∷ []; cut_is = refl; begins = c.0; follows =
+          cut_from p rest last w.between c.1 v.1 y (value (p ∷ rest)) (λ t i. refl) }))
       (λ (v : (lt_ℚ p.0 last ≡ false) × (last ≤ℚ p.0)). subst (λ (b : Bool). Cut (p ∷ rest) last ((if b then p ∷ points_before last rest else []) ++ (last, w.between) ∷ [])) (sym v.0)
       (record { first = (last, w.between); rest = []; cut_is = refl; begins = ≤ℚ_antisymm last 0ℚ (subst (λ (z : ℚ). last ≤ℚ z) c.0 v.1) h; follows = ends (sym y) refl }))
       (lt_ℚ_cases p.0 last))
@@ -84,14 +87,18 @@ module _ (passes : Passing) where
 pub cut-follows : (passes : Passing) (points : List Point) (last : ℚ) → IsCurve points → 0ℚ ≤ℚ last → Cut passes points last (points_before last points ++ (last, value points last) ∷ [])
 cut-follows passes [] last c h = absurd c
 cut-follows passes (p ∷ rest) last c h = ⊎_elim
-    (λ (v : (lt_ℚ p.0 last ≡ true) × (p.0 <ℚ last)). subst (λ (b : Bool). Cut passes (p ∷ rest) last ((if b then p ∷ points_before last rest else []) ++ (last, value (p ∷ rest) last) ∷ [])) (sym v.0)
-    (record { first = p; rest = points_before last rest ++ (last, value (p ∷ rest) last) ∷ []; cut_is = refl; begins = c.0; follows = cut_from passes p rest last (value (p ∷ rest) last) c.1 v.1 refl (value (p ∷ rest)) (λ t i. refl) }))
-    (λ (v : (lt_ℚ p.0 last ≡ false) × (last ≤ℚ p.0)). subst (λ (b : Bool). Cut passes (p ∷ rest) last ((if b then p ∷ points_before last rest else []) ++ (last, value (p ∷ rest) last) ∷ [])) (sym v.0)
+    (λ (v : (lt_ℚ p.0 last ≡ true) × (p.0 <ℚ last)). subst (λ (b : Bool). Cut passes (p ∷ rest) last
+        ((if b then p ∷ points_before last rest else []) ++ (last, value (p ∷ rest) last) ∷ [])) (sym v.0)
+    (record { first = p; rest = points_before last rest ++ (last, value (p ∷ rest) last) ∷ []; cut_is = refl; begins = c.0; follows =
+        cut_from passes p rest last (value (p ∷ rest) last) c.1 v.1 refl (value (p ∷ rest)) (λ t i. refl) }))
+    (λ (v : (lt_ℚ p.0 last ≡ false) × (last ≤ℚ p.0)). subst (λ (b : Bool). Cut passes (p ∷ rest) last
+        ((if b then p ∷ points_before last rest else []) ++ (last, value (p ∷ rest) last) ∷ [])) (sym v.0)
     (record { first = (last, value (p ∷ rest) last); rest = []; cut_is = refl; begins = ≤ℚ_antisymm last 0ℚ (subst (λ (z : ℚ). last ≤ℚ z) c.0 v.1) h; follows = ends refl refl }))
     (lt_ℚ_cases p.0 last)
 
 -- what is computed is the exact cut
-pub checked_cut-exact : (passes : Passing) (points : List Point) (last : ℚ) (cut : List Point) → IsCurve points → 0ℚ ≤ℚ last → checked_cut passes points last ≡ Ok cut → cut ≡ points_before last points ++ (last, value points last) ∷ []
+pub checked_cut-exact : (passes : Passing) (points : List Point) (last : ℚ) (cut : List Point) → IsCurve points → 0ℚ ≤ℚ last
+    → checked_cut passes points last ≡ Ok cut → cut ≡ points_before last points ++ (last, value points last) ∷ []
 unfolding checked_cut
 checked_cut-exact passes points last cut c h e =
     let w = then_ok (checked_value passes points last) _ cut e in
@@ -105,7 +112,8 @@ pub follows-values : (f : ℚ → ℚ) (last : ℚ) (p : Point) (rest : List Poi
 follows-values f last p rest t e w h k = value-follows f last p rest t w (subst (λ (z : ℚ). z ≤ℚ t) (sym e) h) k
 
 -- a cut is a curve with the values of what is cut
-pub checked_cut-values : (passes : Passing) (points : List Point) (last : ℚ) (cut : List Point) → IsCurve points → 0ℚ ≤ℚ last → checked_cut passes points last ≡ Ok cut → IsCutOf points last cut
+pub checked_cut-values : (passes : Passing) (points : List Point) (last : ℚ) (cut : List Point) → IsCurve points → 0ℚ ≤ℚ last
+    → checked_cut passes points last ≡ Ok cut → IsCutOf points last cut
 checked_cut-values passes points last cut c h e =
     let w : Cut passes points last cut = checked_cut-is passes points last cut c h e in
     subst (λ (l : List Point). IsCutOf points last l) (sym w.cut_is)
@@ -115,7 +123,8 @@ checked_cut-values passes points last cut c h e =
     })
 
 -- each point of a cut is on the curve, at a time up to the last one
-pub checked_cut-each : (passes : Passing) (points : List Point) (last : ℚ) (cut : List Point) (i : ℕ) (x : Point) → IsCurve points → 0ℚ ≤ℚ last → checked_cut passes points last ≡ Ok cut → slice_get cut i ≡ Some x
+pub checked_cut-each : (passes : Passing) (points : List Point) (last : ℚ) (cut : List Point) (i : ℕ) (x : Point) → IsCurve points → 0ℚ ≤ℚ last
+    → checked_cut passes points last ≡ Ok cut → slice_get cut i ≡ Some x
     → LiesOn (value points) last 0ℚ x
 checked_cut-each passes points last cut i x c h e g =
     let w : Cut passes points last cut = checked_cut-is passes points last cut c h e in

@@ -41,20 +41,24 @@ module _ (passes : Passing) (net : Network) (phases patterns : ℕ) (first : Sta
 
     -- If no thin flow is returned, a phase was added.
     pub gone_further : count < phases → (answer : Option ThinFlow) → answer ≡ None → (t : Standing) → Reaches passes net t
-        → MatchOption answer (GoesToEnd passes net patterns s t) (λ thin. GoesForever passes net patterns s thin.pattern (tail_by thin)) → GoneOn passes net phases patterns first (count + 1) t
+        → MatchOption answer (GoesToEnd passes net patterns s t) (λ thin. GoesForever passes net patterns s thin.pattern (tail_by thin))
+            → GoneOn passes net phases patterns first (count + 1) t
     gone_further may answer is t reaches g =
-        further may t reaches (subst (λ (o : Option ThinFlow). MatchOption o (GoesToEnd passes net patterns s t) (λ thin. GoesForever passes net patterns s thin.pattern (tail_by thin))) is g)
+        further may t reaches (subst (λ (o : Option ThinFlow). MatchOption o (GoesToEnd passes net patterns s t)
+            (λ thin. GoesForever passes net patterns s thin.pattern (tail_by thin))) is g)
 
     -- ---- the end of the run
     pub ends_at_phases : count ≡ phases → (made : ℕ) → made ≡ s.made → IsForeverRun passes net phases patterns s (Stops (Cause.Phases made))
-    ends_at_phases all made e = subst (λ (n : ℕ). IsForeverRun passes net phases patterns s (Stops (Cause.Phases n))) (sym e) (run_of (Stops (Cause.Phases s.made)) (at_phases (gone.made ∙ all)))
+    ends_at_phases all made e = subst (λ (n : ℕ). IsForeverRun passes net phases patterns s (Stops (Cause.Phases n))) (sym e)
+        (run_of (Stops (Cause.Phases s.made)) (at_phases (gone.made ∙ all)))
 
     -- The returned thin flow, if no phase is added.
     pub ends_never : count < phases → (answer : Option ThinFlow) (thin : ThinFlow) → answer ≡ Some thin → (after : Standing)
         → MatchOption answer (GoesToEnd passes net patterns s after) (λ thin. GoesForever passes net patterns s thin.pattern (tail_by thin)) → (IsSome answer → after ≡ s)
         → IsForeverRun passes net phases patterns after (NeverEnds thin.pattern (tail_by thin))
     ends_never may answer thin is after g stays =
-        let goes_forever = subst (λ (o : Option ThinFlow). MatchOption o (GoesToEnd passes net patterns s after) (λ thin. GoesForever passes net patterns s thin.pattern (tail_by thin))) is g in
+        let goes_forever = subst (λ (o : Option ThinFlow). MatchOption o (GoesToEnd passes net patterns s after)
+            (λ thin. GoesForever passes net patterns s thin.pattern (tail_by thin))) is g in
         let same : after ≡ s = subst (λ (o : Option ThinFlow). IsSome o → after ≡ s) is stays refl in
         subst (λ (t : Standing). IsForeverRun passes net phases patterns t (NeverEnds thin.pattern (tail_by thin))) (sym same)
         (run_of (NeverEnds thin.pattern (tail_by thin)) (never_ends (may_go may) goes_forever))
@@ -62,7 +66,8 @@ module _ (passes : Passing) (net : Network) (phases patterns : ℕ) (first : Sta
     ends_by : count < phases → (cause : Cause ℚ) → FailsOn passes net patterns s cause → IsForeverRun passes net phases patterns s (Stops cause)
     ends_by may cause f = run_of (Stops cause) (fails (may_go may) f)
 
-    stops_by : count < phases → (fault : StepFault) → IsCauseOn passes net patterns s fault → (end : End) → IsStopBy (suc s.made) fault end → IsForeverRun passes net phases patterns s end
+    stops_by : count < phases → (fault : StepFault) → IsCauseOn passes net patterns s fault → (end : End) → IsStopBy (suc s.made) fault end
+        → IsForeverRun passes net phases patterns s end
     stops_by may fault h (Stops cause) e = ends_by may cause (stands_stop (FailsOn passes net patterns s) (suc s.made) fault h cause e)
     stops_by may fault h (NeverEnds pattern tail) e = absurd e
 

@@ -66,6 +66,7 @@ outflows_to_4 : traces_in (extended two_links flow_to_1 tail_from_1 (n 4)).outfl
 unfolding whole ratio gcd neg_ℚ inv_ℚ ◌+ℚ◌ ◌-ℚ◌ ◌*ℚ◌ ◌/ℚ◌ le_ℚ lt_ℚ max_ℚ
 outflows_to_4 = refl
 
-queues_to_4 : curves_in (extended two_links flow_to_1 tail_from_1 (n 4)).queues ≡ ((i 0, i 0) ∷ (i 1, i 2) ∷ (i 4, (pos 7, 2)) ∷ []) ∷ ((i 0, i 0) ∷ (i 1, i 0) ∷ (i 4, (pos 3, 2)) ∷ []) ∷ []
+queues_to_4 : curves_in (extended two_links flow_to_1 tail_from_1 (n 4)).queues
+    ≡ ((i 0, i 0) ∷ (i 1, i 2) ∷ (i 4, (pos 7, 2)) ∷ []) ∷ ((i 0, i 0) ∷ (i 1, i 0) ∷ (i 4, (pos 3, 2)) ∷ []) ∷ []
 unfolding whole ratio gcd neg_ℚ inv_ℚ ◌+ℚ◌ ◌-ℚ◌ ◌*ℚ◌ ◌/ℚ◌ le_ℚ lt_ℚ max_ℚ
 queues_to_4 = refl

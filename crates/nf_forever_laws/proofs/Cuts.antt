@@ -137,7 +137,8 @@ module _ (net : Network) (cut : Cut) (is : IsStaticCut net cut) where
     where
       has_capacity : (e : ℕ) (link : Link) → IsLink net e link → LeadsOut cut link → (capacity : Option ℚ) → link.capacity ≡ capacity → 0ℚ <ℚ outward cut link
       has_capacity e link p out None none = absurd (is.unbounded e link p none out)
-      has_capacity e link p out (Some c) some = subst (λ (z : ℚ). 0ℚ <ℚ z) (sym (outward_capacity-is (cut link.tail) (cut link.head) link.capacity c out.tail out.head some)) (good.capacities e link c p some)
+      has_capacity e link p out (Some c) some = subst (λ (z : ℚ). 0ℚ <ℚ z)
+          (sym (outward_capacity-is (cut link.tail) (cut link.head) link.capacity c out.tail out.head some)) (good.capacities e link c p some)
 
 -- ---- the network of one link
 module _ (transit : ℚ) (pieces : List Piece) where

@@ -8,7 +8,8 @@ pub labels_then_at : (w : ℚ) (slopes : List ℚ) (curves : List (List Point)) 
     → slice_get (labels_then w slopes curves) v ≡ Some (value_after ps w r)
 labels_then_at w [] curves v r ps h k = absurd (none-some r h)
 labels_then_at w (q ∷ slopes) [] v r ps h k = absurd (none-some ps k)
-labels_then_at w (q ∷ slopes) (d ∷ curves) zero r ps h k = ap (λ (r : ℚ). Some (value_after d w r)) (same_Some q r h) ∙ ap (λ (d : List Point). Some (value_after d w r)) (same_Some d ps k)
+labels_then_at w (q ∷ slopes) (d ∷ curves) zero r ps h k =
+    ap (λ (r : ℚ). Some (value_after d w r)) (same_Some q r h) ∙ ap (λ (d : List Point). Some (value_after d w r)) (same_Some d ps k)
 labels_then_at w (q ∷ slopes) (d ∷ curves) (suc v) r ps h k = labels_then_at w slopes curves v r ps h k
 
 pub labels_with_end_at : (until : ℚ) (labels : List ℚ) (curves : List (List Point)) (v : ℕ) (x : ℚ) (ps : List Point) → slice_get labels v ≡ Some x → slice_get curves v ≡ Some ps

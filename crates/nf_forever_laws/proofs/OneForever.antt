@@ -34,7 +34,8 @@ ends_later passes net slacks slopes time end pieces h = by b.0 b.1 b.2
     by None e k = absurd (no_end end k)
     by (Some length) e k =
         let c = bind_ok (checked passes Sum time length) (λ end. Ok (Some end)) (Some end) k in
-        later end length (IsExtension-some net slacks slopes time length (extension_is net slacks slopes time passes length pieces e)) (sym (same_end c.0 end c.2) ∙ checked-is passes Sum time length c.0 c.1)
+        later end length (IsExtension-some net slacks slopes time length (extension_is net slacks slopes time passes length pieces e))
+            (sym (same_end c.0 end c.2) ∙ checked-is passes Sum time length c.0 c.1)
 
 -- ---- the unique end
 moves_not_ends : (t : Standing) (p : Pattern) (tail : Tail) → Moves t ≡ Ends p tail → ⊥
@@ -65,16 +66,31 @@ module _ (passes : Passing) (net : Network) (phases patterns : ℕ) where
   one_end s l m o r knows (at_phases e) (never_ends may g) = absurd (omega arith)
   one_end s l m o r knows (at_phases e) (goes may g rest) = absurd (omega arith)
   one_end s l m o r knows (fails may f) (at_phases e) = absurd (omega arith)
-  one_end s l m o r knows (fails may f) (fails may' g) = (refl, same_fault _ _ (one_outcome passes net patterns s knows _ _ (fails-comes passes net patterns s _ f) (fails-comes passes net patterns s _ g)))
-  one_end s l m o r knows (fails may f) (never_ends may' g) = absurd (ends_not_fault _ _ _ (one_outcome passes net patterns s knows _ _ (ends-comes passes net patterns s _ _ g) (fails-comes passes net patterns s _ f)))
-  one_end s l m o r knows (fails may f) (goes may' g rest) = absurd (moves_not_fault _ _ (one_outcome passes net patterns s knows _ _ (goes-comes passes net patterns s _ g) (fails-comes passes net patterns s _ f)))
+  one_end s l m o r knows (fails may f) (fails may' g) =
+      (refl, same_fault _ _ (one_outcome passes net patterns s knows _ _ (fails-comes passes net patterns s _ f) (fails-comes passes net patterns s _ g)))
+  one_end s l m o r knows (fails may f) (never_ends may' g) =
+      absurd (ends_not_fault _ _ _ (one_outcome passes net patterns s knows _ _ (ends-comes passes net patterns s _ _ g)
+      (fails-comes passes net patterns s _ f)))
+  one_end s l m o r knows (fails may f) (goes may' g rest) =
+      absurd (moves_not_fault _ _ (one_outcome passes net patterns s knows _ _ (goes-comes passes net patterns s _ g)
+      (fails-comes passes net patterns s _ f)))
   one_end s l m o r knows (never_ends may g) (at_phases e) = absurd (omega arith)
-  one_end s l m o r knows (never_ends may g) (fails may' f) = absurd (ends_not_fault _ _ _ (one_outcome passes net patterns s knows _ _ (ends-comes passes net patterns s _ _ g) (fails-comes passes net patterns s _ f)))
-  one_end s l m o r knows (never_ends may g) (never_ends may' h) = (refl, same_tail _ _ _ _ (one_outcome passes net patterns s knows _ _ (ends-comes passes net patterns s _ _ g) (ends-comes passes net patterns s _ _ h)))
-  one_end s l m o r knows (never_ends may g) (goes may' h rest) = absurd (moves_not_ends _ _ _ (one_outcome passes net patterns s knows _ _ (goes-comes passes net patterns s _ h) (ends-comes passes net patterns s _ _ g)))
+  one_end s l m o r knows (never_ends may g) (fails may' f) =
+      absurd (ends_not_fault _ _ _ (one_outcome passes net patterns s knows _ _ (ends-comes passes net patterns s _ _ g)
+      (fails-comes passes net patterns s _ f)))
+  one_end s l m o r knows (never_ends may g) (never_ends may' h) =
+      (refl, same_tail _ _ _ _ (one_outcome passes net patterns s knows _ _ (ends-comes passes net patterns s _ _ g)
+      (ends-comes passes net patterns s _ _ h)))
+  one_end s l m o r knows (never_ends may g) (goes may' h rest) =
+      absurd (moves_not_ends _ _ _ (one_outcome passes net patterns s knows _ _ (goes-comes passes net patterns s _ h)
+      (ends-comes passes net patterns s _ _ g)))
   one_end s l m o r knows (goes may g rest) (at_phases e) = absurd (omega arith)
-  one_end s l m o r knows (goes may g rest) (fails may' f) = absurd (moves_not_fault _ _ (one_outcome passes net patterns s knows _ _ (goes-comes passes net patterns s _ g) (fails-comes passes net patterns s _ f)))
-  one_end s l m o r knows (goes may g rest) (never_ends may' h) = absurd (moves_not_ends _ _ _ (one_outcome passes net patterns s knows _ _ (goes-comes passes net patterns s _ g) (ends-comes passes net patterns s _ _ h)))
+  one_end s l m o r knows (goes may g rest) (fails may' f) =
+      absurd (moves_not_fault _ _ (one_outcome passes net patterns s knows _ _ (goes-comes passes net patterns s _ g)
+      (fails-comes passes net patterns s _ f)))
+  one_end s l m o r knows (goes may g rest) (never_ends may' h) =
+      absurd (moves_not_ends _ _ _ (one_outcome passes net patterns s knows _ _ (goes-comes passes net patterns s _ g)
+      (ends-comes passes net patterns s _ _ h)))
   one_end s l m o r knows (goes {new = t} may g rest) (goes {new = u} may' h other) =
       let same : t ≡ u = same_moves t u (one_outcome passes net patterns s knows _ _ (goes-comes passes net patterns s _ g) (goes-comes passes net patterns s _ h)) in
       one_end t l m o r (goes_knows passes net g.end patterns s t g.goes) rest (subst (λ (w : Standing). RunsForever passes net phases patterns w m r) (sym same) other)

@@ -54,11 +54,13 @@ module _ (passes : Passing) (net : Network) (good : IsNetwork net) (phases patte
   Equilibrium-forever last end run = Equilibrium-well net good last (well_forever last end run)
 
   -- ---- the tail
-  tail_on : (s last : Standing) (pattern : Pattern) (tail : Tail) (end : End) → end ≡ NeverEnds pattern tail → RunsForever passes net phases patterns s last end → GoesForever passes net patterns last pattern tail
+  tail_on : (s last : Standing) (pattern : Pattern) (tail : Tail) (end : End) → end ≡ NeverEnds pattern tail
+      → RunsForever passes net phases patterns s last end → GoesForever passes net patterns last pattern tail
   tail_on s last pattern tail _ e (at_phases h) = absurd (cc)
   tail_on s last pattern tail _ e (fails may f) = absurd (cc)
   tail_on s last pattern tail _ e (never_ends {pattern = p} {tail = t} may g) =
-      subst (λ (q : Pattern). GoesForever passes net patterns s q tail) (same_pattern p pattern t tail e) (subst (λ (u : Tail). GoesForever passes net patterns s p u) (same_tail p pattern t tail e) g)
+      subst (λ (q : Pattern). GoesForever passes net patterns s q tail) (same_pattern p pattern t tail e)
+          (subst (λ (u : Tail). GoesForever passes net patterns s p u) (same_tail p pattern t tail e) g)
     where
       same_pattern : (p q : Pattern) (t u : Tail) → NeverEnds p t ≡ NeverEnds q u → p ≡ q
       same_pattern p q t u e = cc
@@ -77,13 +79,16 @@ module _ (passes : Passing) (net : Network) (good : IsNetwork net) (phases patte
     pub IsThinFlow-tail : IsThinFlow net (sets_at net last.labels) (rate_at net last.time) tail.flows tail.slopes
     IsThinFlow-tail = let first = forever.finds.is_search.answers in
         let listed = forever.finds.is_search.is_listing.listed forever.place pattern first.has_place in
-        IsThinFlow-accepted net (sets_at net last.labels) (rate_at net last.time) pattern tail.flows tail.slopes good (AreSets-sets_at net last.labels) listed.states listed.entered first.solution.solves first.solution.meets
+        IsThinFlow-accepted net (sets_at net last.labels) (rate_at net last.time) pattern tail.flows tail.slopes good
+            (AreSets-sets_at net last.labels) listed.states listed.entered first.solution.solves first.solution.meets
 
     pub IsUnending-tail : IsUnending net (slacks_of (hops net) last.labels) tail.slopes last.time
-    IsUnending-tail = unending_is net (slacks_of (hops net) last.labels) tail.slopes last.time passes good.pieces (endless passes net (slacks_of (hops net) last.labels) tail.slopes last.time forever.no_end)
+    IsUnending-tail = unending_is net (slacks_of (hops net) last.labels) tail.slopes last.time passes good.pieces
+        (endless passes net (slacks_of (hops net) last.labels) tail.slopes last.time forever.no_end)
 
     after : (until : ℚ) → last.time <ℚ until → Equilibrium net (extended net (flow_of last) tail until)
-    after until h = Equilibrium-extended net (flow_of last) tail until last.labels good well.grow (HasShape-well net good last well) (HasSlopes-well net good last well).0 (HasSlopes-well net good last well).1 IsThinFlow-tail IsUnending-tail h
+    after until h = Equilibrium-extended net (flow_of last) tail until last.labels good well.grow (HasShape-well net good last well)
+        (HasSlopes-well net good last well).0 (HasSlopes-well net good last well).1 IsThinFlow-tail IsUnending-tail h
 
     pub Equilibrium-until : (until : ℚ) → 0ℚ ≤ℚ until → Equilibrium net (flow_until net (flow_of last) tail until)
     Equilibrium-until until from_0 = ⊎_elim
@@ -91,5 +96,6 @@ module _ (passes : Passing) (net : Network) (good : IsNetwork net) (phases patte
         (λ (w : (lt_ℚ last.time until ≡ false) × (until ≤ℚ last.time)). by false w.0 (Equilibrium-before net (flow_of last) until good (Equilibrium-well net good last well) from_0 w.1))
         (lt_ℚ_cases last.time until)
       where
-        by : (b : Bool) → lt_ℚ last.time until ≡ b → Equilibrium net (if b then extended net (flow_of last) tail until else up_to (flow_of last) until) → Equilibrium net (flow_until net (flow_of last) tail until)
+        by : (b : Bool) → lt_ℚ last.time until ≡ b → Equilibrium net (if b then extended net (flow_of last) tail until else up_to (flow_of last) until)
+            → Equilibrium net (flow_until net (flow_of last) tail until)
         by b e h = subst (λ (c : Bool). Equilibrium net (if c then extended net (flow_of last) tail until else up_to (flow_of last) until)) (sym e) h

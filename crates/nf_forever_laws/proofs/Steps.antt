@@ -11,9 +11,11 @@ use Rattle.nf_phase_laws.proofs.Points.{AreSlopes-appended}
 pub last_point-is : (points : List Point) (last : Point) → LastPoint points last → last_point points ≡ last
 last_point-is points last l = ap last_point l.same ∙ ap (λ (o : Option Point). option_map_or (λ (p : Point). p) o (0ℚ, 0ℚ)) (last-append None l.front last)
 
-pub AreSlopes-more : (points : List Point) (rates : List ℚ) (last new : Point) → LastPoint points last → AreSlopes points rates → AreSlopes (points ++ new ∷ []) (rates ++ slope (last_point points) new ∷ [])
+pub AreSlopes-more : (points : List Point) (rates : List ℚ) (last new : Point) → LastPoint points last → AreSlopes points rates
+    → AreSlopes (points ++ new ∷ []) (rates ++ slope (last_point points) new ∷ [])
 AreSlopes-more points rates last new l are = subst (λ (ps : List Point). AreSlopes (ps ++ new ∷ []) (rates ++ slope (last_point points) new ∷ [])) (sym l.same)
-    (AreSlopes-appended l.front last new rates (slope (last_point points) new) (subst (λ (ps : List Point). AreSlopes ps rates) l.same are) (ap (λ (p : Point). slope p new) (last_point-is points last l)))
+    (AreSlopes-appended l.front last new rates (slope (last_point points) new) (subst (λ (ps : List Point). AreSlopes ps rates) l.same are)
+        (ap (λ (p : Point). slope p new) (last_point-is points last l)))
 
 -- ---- a curve with its rates
 module _ (trace : Trace) (flow sl a y t label amount : ℚ) (are : AreSlopes trace.points trace.rates) (l : LastPoint trace.points (a, y)) (some : 0ℚ <ℚ t)

@@ -14,12 +14,14 @@ module _ (passes : Passing) (net : Network) (good : IsNetwork net) (phases patte
   abbrev NoneAt : Standing → Type 0
   NoneAt s = IsThinFlow net (sets_at net s.labels) (rate_at net s.time) flows slopes → ⊥
 
-  no_answer : (s : Standing) (phase : ℕ) (a : SearchAnswer) → SeeksOn passes net patterns s a → cause_of_search (suc s.made) patterns a ≡ Some (Cause.NoPattern phase) → WellRun net s → NoneAt s
+  no_answer : (s : Standing) (phase : ℕ) (a : SearchAnswer) → SeeksOn passes net patterns s a
+      → cause_of_search (suc s.made) patterns a ≡ Some (Cause.NoPattern phase) → WellRun net s → NoneAt s
   no_answer s phase (Found place pattern f l) k h well thin = none-some _ h
   no_answer s phase OverBudget k h well thin = over_other (suc s.made) patterns phase (same_Some _ _ h)
   no_answer s phase (PassesAt place at) k h well thin = passed_other (suc s.made) (Some place) at phase (same_Some _ _ h)
   no_answer s phase NoPattern k h well thin =
-      none-search passes net (sets_at net s.labels) (rate_at net s.time) k.base patterns flows slopes (AreGoodSets-well net good s well) (rate_from-not_negative net.pieces s.time good.pieces) k.is_search thin
+      none-search passes net (sets_at net s.labels) (rate_at net s.time) k.base patterns flows slopes (AreGoodSets-well net good s well)
+          (rate_from-not_negative net.pieces s.time good.pieces) k.is_search thin
 
   none_fails : (s : Standing) (c : Cause ℚ) (phase : ℕ) → Wants c phase → WellRun net s → FailsOn passes net patterns s c → NoneAt s
   none_fails s _ phase e well (at_slack p h) thin = passed_other _ _ _ phase e
@@ -33,7 +35,8 @@ module _ (passes : Passing) (net : Network) (good : IsNetwork net) (phases patte
   no_tail : (pattern : Pattern) (tail : Tail) (c : Cause ℚ) → NeverEnds pattern tail ≡ Stops c → ⊥
   no_tail pattern tail c h = cc
 
-  none_runs : (s last : Standing) (end : End) (c : Cause ℚ) (phase : ℕ) → end ≡ Stops c → Wants c phase → WellRun net last → RunsForever passes net phases patterns s last end → NoneAt last
+  none_runs : (s last : Standing) (end : End) (c : Cause ℚ) (phase : ℕ) → end ≡ Stops c → Wants c phase → WellRun net last
+      → RunsForever passes net phases patterns s last end → NoneAt last
   none_runs s last end c phase e w well (at_phases h) = absurd (phases_other _ phase (same_cause _ c e ∙ w))
   none_runs s last end c phase e w well (fails {cause = d} may f) = none_fails s d phase (same_cause d c e ∙ w) well f
   none_runs s last end c phase e w well (never_ends {pattern = p} {tail = t} may g) = absurd (no_tail p t c e)
@@ -48,7 +51,8 @@ flow_told : (last : Standing) (end : End) → (forever_of last end).flow ≡ flo
 flow_told last (Stops c) = refl
 flow_told last (NeverEnds pattern tail) = refl
 
-pub forever_stops_for_none : (passes : Passing) (net : Network) (phases patterns : ℕ) (forever : Forever) → IsNetwork net → IsForever passes net phases patterns forever → StopsForNoThinFlow net forever.stop forever.flow
+pub forever_stops_for_none : (passes : Passing) (net : Network) (phases patterns : ℕ) (forever : Forever) → IsNetwork net
+    → IsForever passes net phases patterns forever → StopsForNoThinFlow net forever.stop forever.flow
 forever_stops_for_none passes net phases patterns forever good f phase h flows slopes =
     let well : WellRun net f.last = well_forever passes net good phases patterns f.last f.end f.run in
     let none = none_runs passes net good phases patterns flows slopes f.run.first f.last f.end (Cause.NoPattern phase) phase

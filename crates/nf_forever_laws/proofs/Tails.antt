@@ -83,7 +83,8 @@ module _ (net : Network) (flow : Flow) (tail : Tail) (until : ℚ) (labels : Lis
 
     label_goes : GoesOnTo (curves.labels v) (curves'.labels v) (flow.reached, label_now v) (flow.reached +ℚ while, label_now v +ℚ number_at tail.slopes v *ℚ while)
     label_goes = subst (λ (ps : List Point). GoesOnTo (curves.labels v) ps (flow.reached, label_now v) (flow.reached +ℚ while, label_now v +ℚ number_at tail.slopes v *ℚ while))
-        (ap (λ (p : Point). curves.labels v ++ p ∷ []) (sym (same_point until (flow.reached +ℚ while) (number_at then v) (label_now v +ℚ number_at tail.slopes v *ℚ while) (sym (back_and_forth flow.reached until)) then_is)) ∙ sym label_new)
+        (ap (λ (p : Point). curves.labels v ++ p ∷ []) (sym (same_point until (flow.reached +ℚ while) (number_at then v)
+            (label_now v +ℚ number_at tail.slopes v *ℚ while) (sym (back_and_forth flow.reached until)) then_is)) ∙ sym label_new)
         (GoesOnTo-appended (curves.labels v) (flow.reached, label_now v) (flow.reached +ℚ while, label_now v +ℚ number_at tail.slopes v *ℚ while) ends (later_by flow.reached while some))
 
     new_at : at curves'.labels v (flow.reached +ℚ while) ≡ number_at then v
@@ -139,7 +140,8 @@ module _ (net : Network) (flow : Flow) (tail : Tail) (until : ℚ) (labels : Lis
           (value_after found.0.points while (number_at tail.flows e)) (rates e found.0 found.1) last_now some (then_is (end link) end_in) (amount_is found.0.points _ _ last_now)
 
       abbrev Goes : List Point → List Point → Type 0
-      Goes points points' = GoesOnTo points points' (label_now (end link), value_now) (label_now (end link) +ℚ number_at tail.slopes (end link) *ℚ while, value_now +ℚ number_at tail.flows e *ℚ while)
+      Goes points points' = GoesOnTo points points' (label_now (end link), value_now)
+          (label_now (end link) +ℚ number_at tail.slopes (end link) *ℚ while, value_now +ℚ number_at tail.flows e *ℚ while)
 
       trace_goes : 0ℚ <ℚ number_at tail.slopes (end link) → Goes (points_at (points_of traces) e) (points_at (points_of traces') e)
       trace_goes h = subst (λ (ps : List Point). Goes ps (points_at (points_of traces') e)) (sym points_now) (subst (Goes found.0.points) (sym points_then) (trace_step.goes h))
@@ -156,13 +158,15 @@ module _ (net : Network) (flow : Flow) (tail : Tail) (until : ℚ) (labels : Lis
         f.1 ∙ ap (λ (ps : List Point). Some ps) (sym (points_is flow.queues e f.0 f.1))
 
     queue_after : curves'.queues e ≡ queue_new while tail.slopes then link (curves.queues e)
-    queue_after = points_is new.queues e (queue_new while tail.slopes then link (curves.queues e)) (queues_at while tail.slopes then net.links flow.queues e link (curves.queues e) p queue_here)
+    queue_after = points_is new.queues e (queue_new while tail.slopes then link (curves.queues e))
+        (queues_at while tail.slopes then net.links flow.queues e link (curves.queues e) p queue_here)
 
     size_is : queue_then link.capacity (slack then (hop_of link)) ≡ queue_by_slack link.capacity (link_slack (at curves'.labels) link (flow.reached +ℚ while))
     size_is = queue_same link.capacity (slack then (hop_of link)) ∙ ap (queue_by_slack link.capacity)
         (same_slacks (number_at then link.head) (number_at then link.tail) _ _ link.transit (sym (new_at link.head head_in)) (sym (new_at link.tail tail_in)))
 
-    queue_step : CurveStep (curves.queues e) (queue_new while tail.slopes then link (curves.queues e)) (label_now link.tail) (at curves.queues e (label_now link.tail)) while (number_at tail.slopes link.tail)
+    queue_step : CurveStep (curves.queues e) (queue_new while tail.slopes then link (curves.queues e)) (label_now link.tail)
+        (at curves.queues e (label_now link.tail)) while (number_at tail.slopes link.tail)
         (queue_by_slack link.capacity (link_slack (at curves'.labels) link (flow.reached +ℚ while)))
     queue_step = CurveStep-last (curves.queues e) (number_at tail.slopes link.tail) (label_now link.tail) (at curves.queues e (label_now link.tail)) while (number_at then link.tail)
         (queue_by_slack link.capacity (link_slack (at curves'.labels) link (flow.reached +ℚ while))) (queue_then link.capacity (slack then (hop_of link)))
@@ -176,11 +180,16 @@ module _ (net : Network) (flow : Flow) (tail : Tail) (until : ℚ) (labels : Lis
     inflows_stay = λ e link p. trace_stays e link p (λ (k : Link). k.tail) (good.tails e link p) flow.inflows shape.inflows.count inflow_rates (grown.curves_stand.inflows_end e link p);
   }
 
-  description_goes : DescriptionCurvesGoOn net (at curves.labels) (at curves'.labels) curves.outflows curves.queues flow.reached while (number_at tail.flows) (number_at tail.slopes) curves'.outflows curves'.queues
+  description_goes : DescriptionCurvesGoOn net (at curves.labels) (at curves'.labels) curves.outflows curves.queues flow.reached while
+      (number_at tail.flows) (number_at tail.slopes) curves'.outflows curves'.queues
   description_goes = record {
-    outflows_go = λ e link p. trace_goes e link p (λ (k : Link). k.head) (good.heads e link p) flow.outflows shape.outflows.count outflow_rates (grown.description_stands.outflows_end e link p);
-    outflows_stay = λ e link p. trace_stays e link p (λ (k : Link). k.head) (good.heads e link p) flow.outflows shape.outflows.count outflow_rates (grown.description_stands.outflows_end e link p);
-    queues_go = λ e link p h. subst (λ (ps : List Point). GoesOnTo (curves.queues e) ps (label_now link.tail, at curves.queues e (label_now link.tail)) (label_now link.tail +ℚ number_at tail.slopes link.tail *ℚ while, queue_by_slack link.capacity (link_slack (at curves'.labels) link (flow.reached +ℚ while)))) (sym (queue_after e link p))
+    outflows_go = λ e link p. trace_goes e link p (λ (k : Link). k.head) (good.heads e link p) flow.outflows shape.outflows.count outflow_rates
+        (grown.description_stands.outflows_end e link p);
+    outflows_stay = λ e link p. trace_stays e link p (λ (k : Link). k.head) (good.heads e link p) flow.outflows shape.outflows.count outflow_rates
+        (grown.description_stands.outflows_end e link p);
+    queues_go = λ e link p h. subst (λ (ps : List Point). GoesOnTo (curves.queues e) ps (label_now link.tail, at curves.queues e (label_now link.tail))
+        (label_now link.tail +ℚ number_at tail.slopes link.tail *ℚ while, queue_by_slack link.capacity
+        (link_slack (at curves'.labels) link (flow.reached +ℚ while)))) (sym (queue_after e link p))
         ((queue_step e link p).goes h);
     queues_stay = λ e link p h. queue_after e link p ∙ (queue_step e link p).stays h;
   }
@@ -203,9 +212,12 @@ module _ (net : Network) (flow : Flow) (tail : Tail) (until : ℚ) (labels : Lis
   new_shape : HasShape net new
   new_shape = record {
     labels = record { count = labels_with_end-length until then flow.labels net.nodes then_length shape.labels.count; each = λ v h. (new_grown.curves_stand.labels_end v h).curve };
-    inflows = record { count = length-map new.inflows (λ (t : Trace). t.points) ∙ inflows_count; each = λ e h. (let l = link_within net e h in (new_grown.curves_stand.inflows_end e l.0 l.1).curve) };
-    outflows = record { count = length-map new.outflows (λ (t : Trace). t.points) ∙ outflows_count; each = λ e h. (let l = link_within net e h in (new_grown.description_stands.outflows_end e l.0 l.1).curve) };
-    queues = record { count = queues-length while tail.slopes then net.links flow.queues shape.queues.count; each = λ e h. (let l = link_within net e h in (new_grown.description_stands.queues_end e l.0 l.1).curve) };
+    inflows = record { count = length-map new.inflows (λ (t : Trace). t.points)
+        ∙ inflows_count; each = λ e h. (let l = link_within net e h in (new_grown.curves_stand.inflows_end e l.0 l.1).curve) };
+    outflows = record { count = length-map new.outflows (λ (t : Trace). t.points)
+        ∙ outflows_count; each = λ e h. (let l = link_within net e h in (new_grown.description_stands.outflows_end e l.0 l.1).curve) };
+    queues = record { count = queues-length while tail.slopes then net.links flow.queues shape.queues.count; each =
+        λ e h. (let l = link_within net e h in (new_grown.description_stands.queues_end e l.0 l.1).curve) };
   }
 
   new_inflow_rates : HasSlopes new.inflows

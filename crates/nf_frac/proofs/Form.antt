@@ -97,7 +97,8 @@ module _ (negative : Bool) (m d g above below : ℕ) (common : g ≡ gcd m d) (a
   )
 
 -- a ratio with known common factors
-module _ (n : ℤ) (d a common g below : ℕ) (q : ℤ) (size : a ≡ nat_abs n) (e : g ≡ gcd a common) (f : gcd (nat_abs n) common ≡ gcd (nat_abs n) d) (h : q ≡ quot_z n (pos g)) (b : below ≡ d / g) (some : 0 < d) where
+module _ (n : ℤ) (d a common g below : ℕ) (q : ℤ) (size : a ≡ nat_abs n) (e : g ≡ gcd a common) (f : gcd (nat_abs n) common ≡ gcd (nat_abs n) d)
+    (h : q ≡ quot_z n (pos g)) (b : below ≡ d / g) (some : 0 < d) where
   factor : g ≡ gcd (nat_abs n) d
   factor = e ∙ ap (λ (k : ℕ). gcd k common) size ∙ f
 

@@ -11,7 +11,8 @@ use Rattle.nf_frac.specs.Parts.{greatest, IsWithin}
 use Rattle.nf_frac.proofs.Bits.{bits_of, plain}
 
 -- the numerator n of x and the denominator e of y
-module _ (x y : ℚ) (n q : ℤ) (a e g : ℕ) (xn : n ≡ x.num) (small : nat_abs x.num ≤ greatest) (ye : y.den ≡ e) (size : a ≡ nat_abs n) (common : g ≡ gcd a e) (part : q ≡ quot_z n (pos g)) where
+module _ (x y : ℚ) (n q : ℤ) (a e g : ℕ) (xn : n ≡ x.num) (small : nat_abs x.num ≤ greatest) (ye : y.den ≡ e) (size : a ≡ nat_abs n) (common : g ≡ gcd a e)
+    (part : q ≡ quot_z n (pos g)) where
   pub factor_is : g ≡ gcd (nat_abs x.num) y.den
   factor_is = common ∙ ap₂ gcd (size ∙ ap nat_abs xn) (sym ye)
 

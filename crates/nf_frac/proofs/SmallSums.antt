@@ -46,7 +46,8 @@ module _ (x y : ℚ) (xw : IsWithin short x) (yw : IsWithin short y) where
     denominator = omega (arith, short_times x.den (left_over x y) xw.small_den left_short);
     left = omega (arith, one_part x.num (left_over x y) xw.small left_short);
     right = omega (arith, one_part y.num (right_over x y) yw.small right_short);
-    total = total_small (x.num *ℤ pos (left_over x y)) (y.num *ℤ pos (right_over x y)) (one_part x.num (left_over x y) xw.small left_short) (one_part y.num (right_over x y) yw.small right_short);
+    total = total_small (x.num *ℤ pos (left_over x y)) (y.num *ℤ pos (right_over x y)) (one_part x.num (left_over x y) xw.small left_short)
+        (one_part y.num (right_over x y) yw.small right_short);
   }
 
   pub product_fits : IsWithin greatest (x *ℚ y)

@@ -36,7 +36,8 @@ each_length f (x ∷ xs) ys e =
     let rest = bind_ok (each f xs) _ ys first.2 in
     ap length (sym (same_value _ _ ys refl rest.2)) ∙ ap suc (each_length f xs rest.0 rest.1)
 
-pub each_at : {A B E : Type 0} (f : A → Result B E) (xs : List A) (ys : List B) (i : ℕ) (x : A) → each f xs ≡ Ok ys → slice_get xs i ≡ Some x → (y : B) × (slice_get ys i ≡ Some y) × (f x ≡ Ok y)
+pub each_at : {A B E : Type 0} (f : A → Result B E) (xs : List A) (ys : List B) (i : ℕ) (x : A) → each f xs ≡ Ok ys → slice_get xs i ≡ Some x
+    → (y : B) × (slice_get ys i ≡ Some y) × (f x ≡ Ok y)
 each_at f [] ys i x e h = absurd (cc)
 each_at f (w ∷ xs) ys zero x e h =
     let first = bind_ok (f w) _ ys e in

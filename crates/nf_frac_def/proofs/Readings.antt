@@ -46,7 +46,9 @@ module _ {A B : Type 0} (passes : Passing) (w : Work A) (f : A → Work B) where
 
   pub outcome_stops : (p : Passed ℚ) → Err p ≡ outcome passes w → Err p ≡ outcome passes (w >>= f)
   unfolding outcome
-  outcome_stops p e = stops_at w.value (f w.value).value (find (does_pass passes) w.operations) (find (does_pass passes) (f w.value).operations) p e ∙ ap (answer (f w.value).value) (sym along)
+  outcome_stops p e =
+      stops_at w.value (f w.value).value (find (does_pass passes) w.operations) (find (does_pass passes) (f w.value).operations) p e
+      ∙ ap (answer (f w.value).value) (sym along)
 
   pub outcome_goes_on : (x : A) → Ok x ≡ outcome passes w → outcome passes (f x) ≡ outcome passes (w >>= f)
   unfolding outcome
@@ -63,8 +65,12 @@ module _ {A B : Type 0} (passes : Passing) (w : Work A) (f : A → Work B) where
 module _ (passes : Passing) where
   first_found : (q : Passed ℚ) (rest : List (Passed ℚ)) (p : Passed ℚ) (b : Bool) → b ≡ does_pass passes q → cond b (Some q) (find (does_pass passes) rest) ≡ Some p
       → (find (does_pass passes) rest ≡ Some p → IsFirstPassing passes rest p) → IsFirstPassing passes (q ∷ rest) p
-  first_found q rest p true e f next = record { before = []; after = rest; split = ap (λ x. x ∷ rest) (some_injective f); none_before = tt; passing = ap (does_pass passes) (sym (some_injective f)) ∙ sym e }
-  first_found q rest p false e f next = let h = next f in record { before = q ∷ h.before; after = h.after; split = ap (λ l. q ∷ l) h.split; none_before = (sym e, h.none_before); passing = h.passing }
+  first_found q rest p true e f next =
+      record { before = []; after = rest; split = ap (λ x. x ∷ rest) (some_injective f); none_before = tt; passing =
+      ap (does_pass passes) (sym (some_injective f)) ∙ sym e }
+  first_found q rest p false e f next =
+      let h = next f in record { before = q ∷ h.before; after = h.after; split = ap (λ l. q ∷ l) h.split; none_before = (sym e, h.none_before); passing =
+      h.passing }
 
   pub found_is_first : (operations : List (Passed ℚ)) (p : Passed ℚ) → find (does_pass passes) operations ≡ Some p → IsFirstPassing passes operations p
   found_is_first [] p e = cc

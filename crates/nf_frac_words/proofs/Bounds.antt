@@ -9,17 +9,21 @@ use Rattle.std.specs.Prelude.{Option, SomeIff}
 use Rattle.nf_frac_words.proofs.Digits.{le-value_after}
 
 -- a value above a tenth of the bound exceeds the bound with one more digit
-pub passes_by_tenth : (start value bound i : ℕ) (digits : List ℕ) → i < length digits → value_after value (drop i digits) ≡ value_after start digits → bound / 10 < value → value_after start digits ≤ bound → ⊥
+pub passes_by_tenth : (start value bound i : ℕ) (digits : List ℕ) → i < length digits → value_after value (drop i digits) ≡ value_after start digits
+    → bound / 10 < value → value_after start digits ≤ bound → ⊥
 passes_by_tenth start value bound i digits h rest wide fits =
     let step : value_after value (drop i digits) ≡ value_after (10 * value + (get_or digits i 0 - 48)) (drop (i + 1) digits) = ap (value_after value) (drop_more digits i 0 h) in
-    let most : 10 * value + (get_or digits i 0 - 48) ≤ value_after (10 * value + (get_or digits i 0 - 48)) (drop (i + 1) digits) = le-value_after (10 * value + (get_or digits i 0 - 48)) (drop (i + 1) digits) in
+    let most : 10 * value + (get_or digits i 0 - 48) ≤ value_after (10 * value + (get_or digits i 0 - 48)) (drop (i + 1) digits) =
+        le-value_after (10 * value + (get_or digits i 0 - 48)) (drop (i + 1) digits) in
     omega arith
 
 -- a value that exceeds the bound with this digit exceeds it with all digits
-pub passes_by_digit : (start value bound i : ℕ) (digits : List ℕ) → i < length digits → value_after value (drop i digits) ≡ value_after start digits → bound < 10 * value + (get_or digits i 0 - 48) → value_after start digits ≤ bound → ⊥
+pub passes_by_digit : (start value bound i : ℕ) (digits : List ℕ) → i < length digits → value_after value (drop i digits) ≡ value_after start digits
+    → bound < 10 * value + (get_or digits i 0 - 48) → value_after start digits ≤ bound → ⊥
 passes_by_digit start value bound i digits h rest wide fits =
     let step : value_after value (drop i digits) ≡ value_after (10 * value + (get_or digits i 0 - 48)) (drop (i + 1) digits) = ap (value_after value) (drop_more digits i 0 h) in
-    let most : 10 * value + (get_or digits i 0 - 48) ≤ value_after (10 * value + (get_or digits i 0 - 48)) (drop (i + 1) digits) = le-value_after (10 * value + (get_or digits i 0 - 48)) (drop (i + 1) digits) in
+    let most : 10 * value + (get_or digits i 0 - 48) ≤ value_after (10 * value + (get_or digits i 0 - 48)) (drop (i + 1) digits) =
+        le-value_after (10 * value + (get_or digits i 0 - 48)) (drop (i + 1) digits) in
     omega arith
 
 -- ---- digit by digit
@@ -30,7 +34,8 @@ value_by_digit start value i digits h rest = sym (ap (value_after value) (drop_m
 pub value_at_end : (start value i : ℕ) (digits : List ℕ) → length digits ≤ i → value_after value (drop i digits) ≡ value_after start digits → value ≡ value_after start digits
 value_at_end start value i digits h rest = sym (ap (value_after value) (drop_all i digits h)) ∙ rest
 
-pub next_is_digit : (digits : List ℕ) (i : ℕ) → i < length digits → are_digits (drop i digits) ≡ true → (is_ascii_digit (get_or digits i 0) ≡ true) × (are_digits (drop (i + 1) digits) ≡ true)
+pub next_is_digit : (digits : List ℕ) (i : ℕ) → i < length digits → are_digits (drop i digits) ≡ true
+    → (is_ascii_digit (get_or digits i 0) ≡ true) × (are_digits (drop (i + 1) digits) ≡ true)
 next_is_digit digits i h all = and_parts _ _ (sym (ap are_digits (drop_more digits i 0 h)) ∙ all)
 
 -- if a power of ten exceeds a tenth of the bound, the next power exceeds the bound

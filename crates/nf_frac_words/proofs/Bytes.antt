@@ -42,11 +42,15 @@ module _ (P : List ℕ → Type 0) (n : ℤ) (d : ℕ) (whole : P (signed_digits
 
 pub printed_bytes : (q : ℚ) → AllByRecursion IsNumberByte (printed q)
 unfolding printed
-printed_bytes q = printed_either (AllByRecursion IsNumberByte) q.num q.den (signed_bytes q.num) (bytes_append (signed_digits_of q.num) (slash ∷ digits_of q.den) (signed_bytes q.num) ((omega arith, omega arith), digits_of_bytes q.den))
+printed_bytes q =
+    printed_either (AllByRecursion IsNumberByte) q.num q.den (signed_bytes q.num)
+    (bytes_append (signed_digits_of q.num) (slash ∷ digits_of q.den) (signed_bytes q.num) ((omega arith, omega arith), digits_of_bytes q.den))
 
 pub some_printed : (q : ℚ) → 0 < length (printed q)
 unfolding printed
-some_printed q = printed_either (λ ds. 0 < length ds) q.num q.den (some_signed q.num) (let h : 0 < length (signed_digits_of q.num) = some_signed q.num in omega (arith, length-append (signed_digits_of q.num) (slash ∷ digits_of q.den)))
+some_printed q =
+    printed_either (λ ds. 0 < length ds) q.num q.den (some_signed q.num) (let h : 0 < length (signed_digits_of q.num) = some_signed q.num in
+    omega (arith, length-append (signed_digits_of q.num) (slash ∷ digits_of q.den)))
 
 -- the parts of a number are printed as this number
 pub printed_by_parts : (q : ℚ) (n : ℤ) (d : ℕ) → q.num ≡ n → q.den ≡ d → printed_parts n d ≡ printed q

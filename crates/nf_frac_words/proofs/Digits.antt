@@ -79,10 +79,14 @@ module _ (P : ℕ → List ℕ → Type 0) (one : (n : ℕ) → n < 10 → P n (
 
 -- a number has at least one digit, and its digits have its value
 pub are_digits-digits_of : (n : ℕ) → are_digits (digits_of n) ≡ true
-are_digits-digits_of = by_steps (λ n ds. are_digits ds ≡ true) (λ n h. and_from _ _ (digit_from n h) refl) (λ n ds h e. are_digits-append ds ((48 + n % 10) ∷ []) e (and_from _ _ (digit_from (n % 10) (omega arith)) refl))
+are_digits-digits_of =
+    by_steps (λ n ds. are_digits ds ≡ true) (λ n h. and_from _ _ (digit_from n h) refl)
+    (λ n ds h e. are_digits-append ds ((48 + n % 10) ∷ []) e (and_from _ _ (digit_from (n % 10) (omega arith)) refl))
 
 pub value_of-digits_of : (n : ℕ) → value_of (digits_of n) ≡ n
-value_of-digits_of = by_steps (λ n ds. value_of ds ≡ n) (λ n h. omega arith) (λ n ds h e. value_after-append 0 ds ((48 + n % 10) ∷ []) ∙ (let f : value_after 0 ds ≡ n / 10 = e in omega arith))
+value_of-digits_of =
+    by_steps (λ n ds. value_of ds ≡ n) (λ n h. omega arith) (λ n ds h e. value_after-append 0 ds ((48 + n % 10) ∷ [])
+    ∙ (let f : value_after 0 ds ≡ n / 10 = e in omega arith))
 
 pub some_digits : (n : ℕ) → 0 < length (digits_of n)
 some_digits = by_steps (λ n ds. 0 < length ds) (λ n h. omega arith) (λ n ds h e. omega (arith, length-append ds ((48 + n % 10) ∷ [])))

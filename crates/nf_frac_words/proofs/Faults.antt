@@ -48,7 +48,8 @@ unfolding parts_of
 parts_by_fields bound word left right r is_left is_right e = rw (is_left, is_right) at e
 
 pub decimal_by_fields : (bound : ℕ) (word left right : List ℕ) (r : Result (ℤ × ℕ) NumberFault) → is_decimal word ≡ true → left ≡ before point word → right ≡ after point word
-    → r ≡ parts_or_fault bound (unsigned left) right (signed_by left (value_of (unsigned left) * 10 ^ length right + value_of right)) (10 ^ length right) → r ≡ decimal_parts_of bound word
+    → r ≡ parts_or_fault bound (unsigned left) right (signed_by left (value_of (unsigned left) * 10 ^ length right + value_of right)) (10 ^ length right)
+        → r ≡ decimal_parts_of bound word
 unfolding decimal_parts_of
 decimal_by_fields bound word left right r is is_left is_right e = rw (is_left, is_right) at e ∙ sym (cond-true _ _ _ is)
 
@@ -110,7 +111,9 @@ fields_within bound left right n d =
 
 parts_of_within : (bound : ℕ) (word : List ℕ) → IfOk (parts_of bound word) (IsWithin bound)
 unfolding parts_of
-parts_of_within bound word = fields_within bound (unsigned (before slash word)) (denominator word) (signed_by (before slash word) (value_of (unsigned (before slash word)))) (value_of (denominator word))
+parts_of_within bound word =
+    fields_within bound (unsigned (before slash word)) (denominator word) (signed_by (before slash word) (value_of (unsigned (before slash word))))
+    (value_of (denominator word))
 
 decimal_parts_of_within : (bound : ℕ) (word : List ℕ) → IfOk (decimal_parts_of bound word) (IsWithin bound)
 unfolding decimal_parts_of
@@ -126,5 +129,6 @@ decimal_parts_of_within bound word = either (is_decimal word) _ _
 pub parts_within : (bound : ℕ) (word : List ℕ) (r : Result (ℤ × ℕ) NumberFault) → r ≡ parts_of bound word → IfOk r (λ p. (nat_abs p.0 ≤ bound) × (p.1 ≤ bound) × (0 < p.1))
 parts_within bound word r e = subst (λ (r : Result (ℤ × ℕ) NumberFault). IfOk r (IsWithin bound)) (sym e) (parts_of_within bound word)
 
-pub decimal_parts_within : (bound : ℕ) (word : List ℕ) (r : Result (ℤ × ℕ) NumberFault) → r ≡ decimal_parts_of bound word → IfOk r (λ p. (nat_abs p.0 ≤ bound) × (p.1 ≤ bound) × (0 < p.1))
+pub decimal_parts_within : (bound : ℕ) (word : List ℕ) (r : Result (ℤ × ℕ) NumberFault) → r ≡ decimal_parts_of bound word
+    → IfOk r (λ p. (nat_abs p.0 ≤ bound) × (p.1 ≤ bound) × (0 < p.1))
 decimal_parts_within bound word r e = subst (λ (r : Result (ℤ × ℕ) NumberFault). IfOk r (IsWithin bound)) (sym e) (decimal_parts_of_within bound word)

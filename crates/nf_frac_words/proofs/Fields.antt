@@ -58,7 +58,9 @@ place_cases true place size none = refl
 place_cases false place size none = sym (none refl)
 
 pub place_from_position : (p : ℕ → Bool) (xs : List ℕ) → unwrap_or (position p xs) (length xs) ≡ position_or_len p xs
-place_from_position p xs = place_cases _ _ _ (λ e. let past : length xs ≤ position_or_len p xs = ltb-false _ _ e in let within : position_or_len p xs ≤ length xs = prefix_len-le-length (λ x. not (p x)) xs in omega arith)
+place_from_position p xs =
+    place_cases _ _ _ (λ e. let past : length xs ≤ position_or_len p xs = ltb-false _ _ e in
+    let within : position_or_len p xs ≤ length xs = prefix_len-le-length (λ x. not (p x)) xs in omega arith)
 
 -- a field with a minus sign is not empty
 pub minus_some : (field : List ℕ) → starts_with_minus field ≡ true → 1 ≤ length field

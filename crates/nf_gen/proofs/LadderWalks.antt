@@ -112,7 +112,10 @@ module _ (number rungs : ℕ) (some : 1 ≤ rungs) (few : rungs ≤ 30) where
   source_reached = record { walk = []; is_walk = refl; short = omega arith }
 
   on_rails : (l : Ends) (j : ℕ) → 1 ≤ j → j < rungs → Entry (rails_on j) l → Entry (ladder_ends rungs) l
-  on_rails l j low high is = entry_left (links_in ++ links_along rungs ++ links_down rungs) (links_out rungs) l (entry_left (links_in ++ links_along rungs) (links_down rungs) l (entry_right links_in (links_along rungs) l (entry_flat rails_on l 1 (rungs - 1) j low (omega arith) is)))
+  on_rails l j low high is =
+      entry_left (links_in ++ links_along rungs ++ links_down rungs) (links_out rungs) l
+      (entry_left (links_in ++ links_along rungs) (links_down rungs) l (entry_right links_in (links_along rungs) l
+      (entry_flat rails_on l 1 (rungs - 1) j low (omega arith) is)))
 
   -- Along a rail each node is reached from the one before.
   rail_reached : (rail : ℕ → Name) → Reaches (file_of number rungs) 1 (rail 1)
@@ -122,7 +125,8 @@ module _ (number rungs : ℕ) (some : 1 ≤ rungs) (few : rungs ≤ 30) where
   rail_reached rail first on (suc (suc j)) low high =
       let next : suc j + 1 ≡ suc (suc j) = omega arith in
       subst (λ (k : ℕ). Reaches (file_of number rungs) (suc (suc j)) (rail k)) next
-      (by_link (link_from (rail (suc j)) (rail (suc j)) (rail (suc j + 1))) (suc j) (on (suc j) (omega arith) (omega arith)) (rail_reached rail first on (suc j) (omega arith) (omega arith)))
+      (by_link (link_from (rail (suc j)) (rail (suc j)) (rail (suc j + 1))) (suc j) (on (suc j) (omega arith) (omega arith))
+          (rail_reached rail first on (suc j) (omega arith) (omega arith)))
 
   upper_reached : (j : ℕ) → 1 ≤ j → j ≤ rungs → Reaches (file_of number rungs) j (upper j)
   upper_reached = rail_reached upper (by_link (link_from (codes "su") (codes "s") (upper 1)) 0 (0, refl) source_reached) (λ j low high. on_rails _ j low high (0, refl))
@@ -146,11 +150,13 @@ module _ (number rungs : ℕ) (some : 1 ≤ rungs) (few : rungs ≤ 30) where
   )
 
   -- each node is reached by a short walk
-  pub node_reached : (v : ℕ) → v < length (ladder_nodes rungs) → (walk : List ℕ) × IsWalk (draft_hops (file_of number rungs)) walk (source_place (file_of number rungs)) v × (length walk ≤ 31)
+  pub node_reached : (v : ℕ) → v < length (ladder_nodes rungs) → (walk : List ℕ)
+      × IsWalk (draft_hops (file_of number rungs)) walk (source_place (file_of number rungs)) v × (length walk ≤ 31)
   node_reached v low =
       let r : Reaches (file_of number rungs) 31 (name_at (ladder_nodes rungs) v) = all_at (Reaches (file_of number rungs) 31) (ladder_nodes rungs) v all_reached low in (
         r.walk,
-        subst (λ (w : ℕ). IsWalk (draft_hops (file_of number rungs)) r.walk (source_place (file_of number rungs)) w) (place_at (ladder_nodes rungs) v (distinct_nodes rungs) low) r.is_walk,
+        subst (λ (w : ℕ). IsWalk (draft_hops (file_of number rungs)) r.walk (source_place (file_of number rungs)) w)
+            (place_at (ladder_nodes rungs) v (distinct_nodes rungs) low) r.is_walk,
         r.short,
       )
 
@@ -163,7 +169,8 @@ module _ (number rungs : ℕ) (some : 1 ≤ rungs) (few : rungs ≤ 30) where
   hop_small : (e : ℕ) (hop : Hop) → IsHop (draft_hops (file_of number rungs)) e hop → IsSmall hop.transit
   hop_small e hop is =
       let c = hop_from e hop is in
-      subst (λ (x : Hop). IsSmall x.transit) c.is_image (entry_all (λ (l : NamedLink). IsSmall l.transit) (ladder_links number rungs) e c.entry (drawn_small number 0 (ladder_ends rungs)) c.is_entry)
+      subst (λ (x : Hop). IsSmall x.transit) c.is_image (entry_all (λ (l : NamedLink). IsSmall l.transit) (ladder_links number rungs) e c.entry
+          (drawn_small number 0 (ladder_ends rungs)) c.is_entry)
 
   tail_low : (e : ℕ) (hop : Hop) → IsHop (draft_hops (file_of number rungs)) e hop → hop.tail < length (ladder_nodes rungs)
   tail_low e hop is =
@@ -181,11 +188,13 @@ module _ (number rungs : ℕ) (some : 1 ≤ rungs) (few : rungs ≤ 30) where
   pub no_passing_sum : HasPassingSum (file_of number rungs) → ⊥
   no_passing_sum p =
       let t : IsSmall p.hop.transit = hop_small p.link p.hop p.is_hop in
-      let s : IsWholeSum (draft_hops (file_of number rungs)) p.is_least.taken.0 = whole_sum (draft_hops (file_of number rungs)) hop_small p.is_least.taken.0 (source_place (file_of number rungs)) p.hop.tail p.is_least.taken.1 in
+      let s : IsWholeSum (draft_hops (file_of number rungs)) p.is_least.taken.0 =
+          whole_sum (draft_hops (file_of number rungs)) hop_small p.is_least.taken.0 (source_place (file_of number rungs)) p.hop.tail p.is_least.taken.1 in
       let least_is : p.least ≡ whole (pos s.value) = sym p.is_least.taken.2 ∙ s.is in
       let r = node_reached p.hop.tail (tail_low p.link p.hop p.is_hop) in
       let b : IsWholeSum (draft_hops (file_of number rungs)) r.0 = whole_sum (draft_hops (file_of number rungs)) hop_small r.0 (source_place (file_of number rungs)) p.hop.tail r.1 in
-      let below : s.value ≤ b.value = below_whole s.value b.value (subst (λ (x : ℚ). x ≤ℚ whole (pos b.value)) least_is (subst (λ (x : ℚ). p.least ≤ℚ x) b.is (p.is_least.bound r.0 r.1))) in
+      let below : s.value ≤ b.value = below_whole s.value b.value (subst (λ (x : ℚ). x ≤ℚ whole (pos b.value)) least_is
+          (subst (λ (x : ℚ). p.least ≤ℚ x) b.is (p.is_least.bound r.0 r.1))) in
       let most : b.value ≤ 5 * length r.0 = b.few in
       let short : length r.0 ≤ 31 = r.2 in
       let few_t : t.value ≤ 5 = t.few in

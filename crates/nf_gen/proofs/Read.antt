@@ -22,4 +22,6 @@ module _ (number rungs : ℕ) (some : 1 ≤ rungs) (few : rungs ≤ 30) (text : 
   net_is n h = same_Ok n (ladder number rungs) (reads_at_most_once text (Ok n) (Ok (ladder number rungs)) h as_ladder)
 
   pub none_broken : (broken : Broken) → Reads text (Err broken) → ⊥
-  none_broken broken h = let same : ◌≡◌ {A = Result Named Broken} (Err broken) (Ok (ladder number rungs)) = reads_at_most_once text (Err broken) (Ok (ladder number rungs)) h as_ladder in absurd (cc)
+  none_broken broken h =
+      let same : ◌≡◌ {A = Result Named Broken} (Err broken) (Ok (ladder number rungs)) =
+      reads_at_most_once text (Err broken) (Ok (ladder number rungs)) h as_ladder in absurd (cc)

@@ -81,7 +81,8 @@ along_more zero old upper_text new first x y z start some h k m = absurd (omega 
 along_more (suc i) old upper_text new first x y z start some h k m =
     let before : suc i - 1 ≡ i = omega arith in
     let on : suc i ≡ suc i + 1 - 1 = omega arith in
-    let front : WritesLinks (flat_map rails_on (range_with_len 1 i)) start old first x = subst (λ (n : ℕ). WritesLinks (flat_map rails_on (range_with_len 1 n)) start old first x) before h in
+    let front : WritesLinks (flat_map rails_on (range_with_len 1 i)) start old first x =
+        subst (λ (n : ℕ). WritesLinks (flat_map rails_on (range_with_len 1 n)) start old first x) before h in
     subst (λ (n : ℕ). WritesLinks (flat_map rails_on (range_with_len 1 n)) start new first z) on
     (subst (λ ls. WritesLinks ls start new first z) (sym (ap (flat_map rails_on) (count_push i) ∙ flat_map-append rails_on (range_with_len 1 i) (suc i ∷ [])))
     (writes_more (flat_map rails_on (range_with_len 1 i)) (rails_on (suc i)) start old new first x z front
@@ -228,7 +229,8 @@ long_lines (ws ∷ lines) h =
     let more : length (lines_text lines) ≤ 1001 * length lines = long_lines lines h.1 in
     omega arith
 
-few_lines : (active idle pieces : List (List (List ℕ))) (end_line : List (List ℕ)) → length active + length idle ≤ 200 → length pieces ≤ 200 → length (active ++ idle ++ pieces ++ end_line ∷ []) ≤ 401
+few_lines : (active idle pieces : List (List (List ℕ))) (end_line : List (List ℕ)) → length active + length idle ≤ 200 → length pieces ≤ 200
+    → length (active ++ idle ++ pieces ++ end_line ∷ []) ≤ 401
 few_lines active idle pieces end_line h k =
     let all : length (active ++ idle ++ pieces ++ end_line ∷ []) ≡ length (active ++ idle ++ pieces) + 1 = length-append (active ++ idle ++ pieces) (end_line ∷ []) in
     let with_pieces : length (active ++ idle ++ pieces) ≡ length (active ++ idle) + length pieces = length-append (active ++ idle) pieces in

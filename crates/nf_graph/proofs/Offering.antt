@@ -28,7 +28,8 @@ pub checked-ok : (passes : Passing) (op : Op) (x y r : ℚ) → Ok r ≡ checked
 unfolding checked
 checked-ok passes op x y r e = go (passes op x y) e
   where
-    go : (b : Bool) → ◌≡◌ {A = Result ℚ (Work.Passed ℚ)} (Ok r) (if b then Err (record { op = op; left = x; right = y }) else Ok (result_of op x y)) → (r ≡ result_of op x y) × (b ≡ true → ⊥)
+    go : (b : Bool) → ◌≡◌ {A = Result ℚ (Work.Passed ℚ)} (Ok r) (if b then Err (record { op = op; left = x; right = y }) else Ok (result_of op x y))
+        → (r ≡ result_of op x y) × (b ≡ true → ⊥)
     go true h = absurd (cc)
     go false h = (cc, λ f. cc)
 
@@ -110,7 +111,8 @@ module _ (hops : List Hop) (sums : List (Option ℚ)) (e : ℕ) (hop : Hop) (p :
         let before_is : x.before ≡ step.sum = HasSum-unique sums hop.tail x.before step.sum (subst (λ (y : Hop). HasSum sums y.tail x.before) w.1 x.tail) here in
         let q_is : q ≡ sum = x.is_sum ∙ ap (λ (y : Hop). x.before +ℚ y.transit) w.1 ∙ ap (λ (y : ℚ). y +ℚ hop.transit) before_is in (
           lesser_offer known sum,
-          subst (λ (n : ℕ). HasSum (set before hop.head (Some (lesser_offer known sum))) n (lesser_offer known sum)) v_is (set_same before hop.head _ (slice_get_within before hop.head known k)),
+          subst (λ (n : ℕ). HasSum (set before hop.head (Some (lesser_offer known sum))) n (lesser_offer known sum)) v_is
+              (set_same before hop.head _ (slice_get_within before hop.head known k)),
           subst (λ (y : ℚ). lesser_offer known sum ≤ℚ y) (sym q_is) (lesser_at_most_sum known sum),
         ))
         (counted x.number x.hop x.is_hop c);
@@ -153,8 +155,11 @@ offers_settled hops sums offers v sum o h = record {
   count = h.count ∙ sym (length-set sums v (Some sum));
   given = λ w q u g.
       let x : Offers hops sums w q = h.given w q (was_open w u) g in
-      record { number = x.number; hop = x.hop; is_hop = x.is_hop; before = x.before; tail = set_other sums v x.hop.tail (Some sum) x.before o x.tail; head = x.head; not_settled = u; is_sum = x.is_sum };
-  least = λ w q x c. h.least w q (record { number = x.number; hop = x.hop; is_hop = x.is_hop; before = x.before; tail = was_settled x.hop.tail x.before x.tail (none x.number x.hop c); head = x.head; not_settled = was_open w x.not_settled; is_sum = x.is_sum }) tt;
+      record { number = x.number; hop = x.hop; is_hop = x.is_hop; before = x.before; tail = set_other sums v x.hop.tail (Some sum) x.before o x.tail; head =
+          x.head; not_settled = u; is_sum = x.is_sum };
+  least =
+      λ w q x c. h.least w q (record { number = x.number; hop = x.hop; is_hop = x.is_hop; before = x.before; tail =
+      was_settled x.hop.tail x.before x.tail (none x.number x.hop c); head = x.head; not_settled = was_open w x.not_settled; is_sum = x.is_sum }) tt;
   fits = λ e hop q p t c z. h.fits e hop q p (was_settled hop.tail q t (none e hop c)) tt z;
 }
   where
@@ -173,7 +178,8 @@ offers_settled hops sums offers v sum o h = record {
         (λ (e : HasSum sums w q). e)
         (set_cases sums v w (Some sum) (Some q) s)
 
-pub offers_all : (hops : List Hop) (sums offers : List (Option ℚ)) (v count : ℕ) → length hops ≤ count → AreOffers hops sums (LinksBefore v count) offers → AreOffers hops sums AnyLink offers
+pub offers_all : (hops : List Hop) (sums offers : List (Option ℚ)) (v count : ℕ) → length hops ≤ count → AreOffers hops sums (LinksBefore v count) offers
+    → AreOffers hops sums AnyLink offers
 offers_all hops sums offers v count l h = record {
   count = h.count;
   given = h.given;
@@ -193,7 +199,8 @@ step_found sums offers v sum o h = record {
 -- ---- the least offer
 module _ (sums offers : List (Option ℚ)) (count : ℕ) where
   given_nearer : (best offered nearer : Option Step) → IsNearer best offered nearer → ((step : Step) → best ≡ Some step → IsUnsettled sums step.node × HasSum offers step.node step.sum)
-      → ((step : Step) → offered ≡ Some step → IsUnsettled sums step.node × HasSum offers step.node step.sum) → (step : Step) → nearer ≡ Some step → IsUnsettled sums step.node × HasSum offers step.node step.sum
+      → ((step : Step) → offered ≡ Some step → IsUnsettled sums step.node × HasSum offers step.node step.sum) → (step : Step) → nearer ≡ Some step
+          → IsUnsettled sums step.node × HasSum offers step.node step.sum
   given_nearer None offered nearer n g h step q = h step (sym n ∙ q)
   given_nearer (Some best) None nearer n g h step q = g step (sym n ∙ q)
   given_nearer (Some best) (Some offered) nearer n g h step q = ⊎_elim
@@ -224,7 +231,8 @@ module _ (sums offers : List (Option ℚ)) (count : ℕ) where
   pub nearest_more : (best offered nearer : Option Step) → IsNearestBefore sums offers count best → IsStepTo sums offers count offered → IsNearer best offered nearer
       → IsNearestBefore sums offers (count + 1) nearer
   nearest_more best offered nearer b o n = record {
-    given = given_nearer best offered nearer n b.given (λ step q. let g : (step.node ≡ count) × IsUnsettled sums step.node × HasSum offers step.node step.sum = at_count step q in (g.1, g.2));
+    given = given_nearer best offered nearer n b.given (λ step q. let g : (step.node ≡ count) × IsUnsettled sums step.node
+        × HasSum offers step.node step.sum = at_count step q in (g.1, g.2));
     least = λ v sum u g h. ⊎_elim
         (λ (w : (eqb v count ≡ true) × (v ≡ count)).
         let s : (step : Step) × (offered ≡ Some step) × (step.sum ≡ sum) = o.every sum (subst (IsUnsettled sums) w.1 u) (subst (λ (k : ℕ). HasSum offers k sum) w.1 g) in

@@ -87,7 +87,8 @@ module _ (nodes : ℕ) (hops : List Hop) (chosen placed : List Bool) (order : Li
       (r.0, subst (λ (n : ℕ). r.0 < n) (sym a.0) (slice_get_within order r.0 hop.tail r.1), at_front order v r.0 hop.tail r.1)) (at_cases order v j hop.head q)
 
 pub placed_first : (nodes : ℕ) (hops : List Hop) (chosen placed : List Bool) (order : List ℕ) → placed ≡ replicate nodes false → order ≡ [] → ArePlaced nodes hops chosen placed order
-placed_first nodes hops chosen placed order e f = subst (λ (o : List ℕ). ArePlaced nodes hops chosen placed o) (sym f) (subst (λ (p : List Bool). ArePlaced nodes hops chosen p []) (sym e) (record {
+placed_first nodes hops chosen placed order e f =
+    subst (λ (o : List ℕ). ArePlaced nodes hops chosen placed o) (sym f) (subst (λ (p : List Bool). ArePlaced nodes hops chosen p []) (sym e) (record {
   count = length-replicate nodes;
   sum = free-replicate nodes;
   placed_at = λ v s. absurd (Has-replicate nodes v s);
@@ -141,7 +142,8 @@ along_order nodes hops chosen order (e ∷ walk) v w i j o h c b p q =
     let rest : k.0 ≤ j = along_order nodes hops chosen order walk h.0.head w k.0 j o h.3 (λ m f r. c (suc m) f r) b k.1 q in
     omega arith
 
-round_order : (nodes : ℕ) (hops : List Hop) (chosen : List Bool) (order : List ℕ) (walk : List ℕ) (v : ℕ) → AreBelow nodes hops → IsOrder nodes hops chosen order → 0 < length walk → IsWalk hops walk v v
+round_order : (nodes : ℕ) (hops : List Hop) (chosen : List Bool) (order : List ℕ) (walk : List ℕ) (v : ℕ) → AreBelow nodes hops
+    → IsOrder nodes hops chosen order → 0 < length walk → IsWalk hops walk v v
     → ((k e : ℕ) → slice_get walk k ≡ Some e → Has chosen e) → ⊥
 round_order nodes hops chosen order [] v b o s h c = omega arith
 round_order nodes hops chosen order (e ∷ walk) v b o s h c =
@@ -151,5 +153,6 @@ round_order nodes hops chosen order (e ∷ walk) v b o s h c =
     let rest : k.0 ≤ i.0 = along_order nodes hops chosen order walk h.0.head v k.0 i.0 o h.3 (λ m f r. c (suc m) f r) b k.1 i.1 in
     omega arith
 
-pub IsOrder-no_cycle : (nodes : ℕ) (hops : List Hop) (chosen : List Bool) (order cycle : List ℕ) → AreBelow nodes hops → IsOrder nodes hops chosen order → IsChosenCycle hops chosen cycle → ⊥
+pub IsOrder-no_cycle : (nodes : ℕ) (hops : List Hop) (chosen : List Bool) (order cycle : List ℕ) → AreBelow nodes hops → IsOrder nodes hops chosen order
+    → IsChosenCycle hops chosen cycle → ⊥
 IsOrder-no_cycle nodes hops chosen order cycle b o c = round_order nodes hops chosen order cycle c.node b o c.some c.closed c.allowed

@@ -22,7 +22,8 @@ Leaves-walk hops flags from v walks l =
     let w : (walk : List ℕ) × IsWalk hops walk from l.hop.tail = walks l.hop.tail l.tail in
     (w.0 ++ l.number ∷ [], subst (λ (n : ℕ). IsWalk hops (w.0 ++ l.number ∷ []) from n) l.head (IsWalk-append hops w.0 from l.number l.hop w.1 l.is_hop))
 
-pub walked_more : (nodes : ℕ) (hops : List Hop) (from : ℕ) (flags : List Bool) (v i : ℕ) → i ≡ v → Leaves hops flags v → AreWalked nodes hops from flags → AreWalked nodes hops from (set flags i true)
+pub walked_more : (nodes : ℕ) (hops : List Hop) (from : ℕ) (flags : List Bool) (v i : ℕ) → i ≡ v → Leaves hops flags v → AreWalked nodes hops from flags
+    → AreWalked nodes hops from (set flags i true)
 walked_more nodes hops from flags v i e l h = record {
   count = length-set flags i true ∙ h.count;
   start = Has-set_other flags i from h.start;
@@ -40,7 +41,8 @@ reached_all nodes hops from flags h c = record {
   each = λ v. (h.walks v, λ w. IsClosed-walk hops flags w.0 from v c h.start w.1);
 }
 
-pub walked_first : (nodes : ℕ) (hops : List Hop) (from i : ℕ) (flags : List Bool) → length flags ≡ nodes → ((v : ℕ) → Has flags v → ⊥) → from < nodes → i ≡ from → AreWalked nodes hops from (set flags i true)
+pub walked_first : (nodes : ℕ) (hops : List Hop) (from i : ℕ) (flags : List Bool) → length flags ≡ nodes → ((v : ℕ) → Has flags v → ⊥) → from < nodes
+    → i ≡ from → AreWalked nodes hops from (set flags i true)
 walked_first nodes hops from i flags l none h e = record {
   count = length-set flags i true ∙ l;
   start = subst (λ (n : ℕ). Has (set flags n true) from) (sym e) (Has-set_same flags from (subst (λ (n : ℕ). from < n) (sym l) h));

@@ -32,7 +32,8 @@ module _ (hops : List Hop) (chosen placed : List Bool) where
       at_zero (suc n) zero start p = cc
       at_zero (suc n) (suc v) start p = at_zero n v start p
 
-  pub searched_set : (searched : List ℕ) (v start : ℕ) → NoneEnters hops chosen placed v start → AreSearched hops chosen placed searched → AreSearched hops chosen placed (set searched v start)
+  pub searched_set : (searched : List ℕ) (v start : ℕ) → NoneEnters hops chosen placed v start → AreSearched hops chosen placed searched
+      → AreSearched hops chosen placed (set searched v start)
   searched_set searched v start n h = record {
     count = length-set searched v start ∙ h.count;
     none = λ w s p. ⊎_elim
@@ -45,5 +46,6 @@ module _ (hops : List Hop) (chosen placed : List Bool) where
   pub searched_placed : (searched : List ℕ) (i : ℕ) → AreSearched hops chosen placed searched → AreSearched hops chosen (set placed i true) searched
   searched_placed searched i h = record {
     count = h.count ∙ sym (length-set placed i true);
-    none = λ v s p e l x. h.none v s p e l (record { hop = x.hop; is_hop = x.is_hop; chosen_too = x.chosen_too; head = x.head; free = λ f. x.free (Has-set_other placed i x.hop.tail f) });
+    none = λ v s p e l x. h.none v s p e l (record { hop = x.hop; is_hop = x.is_hop; chosen_too = x.chosen_too; head = x.head; free =
+        λ f. x.free (Has-set_other placed i x.hop.tail f) });
   }

@@ -113,7 +113,8 @@ module _ (nodes : ℕ) (hops : List Hop) (from : ℕ) (sums : List (Option ℚ))
     count = length-set sums v (Some sum) ∙ settled.count;
     start = set_other sums v from (Some sum) 0ℚ x.not_settled settled.start;
     least = λ w s h. ⊎_elim
-        (λ (e : (w ≡ v) × (Some s ≡ Some sum)). subst (λ (k : ℕ). IsLeastTransit hops from k s) (sym e.0) (subst (λ (t : ℚ). IsLeastTransit hops from v t) (same _ _ e.1) (offer_is_least v sum x m)))
+        (λ (e : (w ≡ v) × (Some s ≡ Some sum)). subst (λ (k : ℕ). IsLeastTransit hops from k s) (sym e.0)
+            (subst (λ (t : ℚ). IsLeastTransit hops from v t) (same _ _ e.1) (offer_is_least v sum x m)))
         (λ (k : slice_get sums w ≡ Some (Some s)). settled.least w s k)
         (set_cases sums v w (Some sum) (Some s) h);
   }
@@ -163,7 +164,8 @@ module _ (nodes : ℕ) (hops : List Hop) (from : ℕ) (sums : List (Option ℚ))
     none_passes e = all_fit (nearest_none hops sums offers best made near e) (λ k hop before p t. made.fits k hop before p t tt)
 
 -- the node to begin with is settled, and no other
-pub settled_first : (nodes : ℕ) (hops : List Hop) (from : ℕ) (sums : List (Option ℚ)) (start : ℚ) → NoNegativeTransit hops → sums ≡ set (replicate nodes None) from (Some start) → from < nodes → start ≡ 0ℚ
+pub settled_first : (nodes : ℕ) (hops : List Hop) (from : ℕ) (sums : List (Option ℚ)) (start : ℚ) → NoNegativeTransit hops
+    → sums ≡ set (replicate nodes None) from (Some start) → from < nodes → start ≡ 0ℚ
     → AreSettled nodes hops from sums
 settled_first nodes hops from sums start good e h z = subst (AreSettled nodes hops from) (sym (e ∙ ap (λ (q : ℚ). set (replicate nodes None) from (Some q)) z)) (record {
   count = length-set (replicate nodes None) from (Some 0ℚ) ∙ length-replicate nodes None;

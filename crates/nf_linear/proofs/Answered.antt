@@ -25,7 +25,9 @@ module _ (passes : Passing) (table : List Row) where
   opened = refl
 
   pub columns_stop : {S : Type 0} (means : S → ℚ) (h : Halt S) → Stops means h (at_part Part.Table columns) → Stops means h (at_part Part.Table listed)
-  columns_stop means h e = subst (λ (r : Checked (Option (List ℚ))). Stops means h (at_part Part.Table r)) (sym opened) (stops Part.Table means h columns (if_some passes (solution_of passes)) e)
+  columns_stop means h e =
+      subst (λ (r : Checked (Option (List ℚ))). Stops means h (at_part Part.Table r)) (sym opened)
+      (stops Part.Table means h columns (if_some passes (solution_of passes)) e)
 
   nothing : at_part Part.Table columns ≡ Ok None → listed ≡ Ok None
   nothing e = opened ∙ ap (λ (r : Checked (Option Eliminated)). r >>= if_some passes (solution_of passes)) (ok_of_part Part.Table columns None (sym e))
@@ -41,7 +43,8 @@ module _ (passes : Passing) (table : List Row) where
     values = solution_from passes rows 0 pivots
 
     with_values : listed ≡ (values >>= λ xs. Ok (Some xs))
-    with_values = opened ∙ ap (λ (r : Checked (Option Eliminated)). r >>= if_some passes (solution_of passes)) (ok_of_part Part.Table columns (Some (eliminated rows pivots)) (sym cleared))
+    with_values = opened ∙ ap (λ (r : Checked (Option Eliminated)). r >>= if_some passes (solution_of passes))
+        (ok_of_part Part.Table columns (Some (eliminated rows pivots)) (sym cleared))
 
     pub values_stop : {S : Type 0} (means : S → ℚ) (h : Halt S) → Stops means h (at_part Part.Table values) → Stops means h (at_part Part.Table listed)
     values_stop means h e = subst (λ (r : Checked (Option (List ℚ))). Stops means h (at_part Part.Table r)) (sym with_values) (stops Part.Table means h values (λ xs. Ok (Some xs)) e)

@@ -78,7 +78,8 @@ rotated_fits : (word s : ℕ) → word < 2 ^ 64 → rotate_right w64 word s < 2 
 rotated_fits word s fits = or_lt 64 (word / 2 ^ (s % 64)) (word * 2 ^ ((64 - s % 64) % 64) % 2 ^ 64) (omega (arith, shr_le word (s % 64))) (mod-lt _ (pow_pos 64))
 
 -- the bits from a number on, in a rotated word: the first `least` of them are 0
-pub free_before : (word from ahead least i : ℕ) → word < 2 ^ 64 → ahead ≡ rotate_right w64 word (from % 64) → least ≤ trailing_zeros w64 ahead → from ≤ i → i < from + least → IsFree word i
+pub free_before : (word from ahead least i : ℕ) → word < 2 ^ 64 → ahead ≡ rotate_right w64 word (from % 64) → least ≤ trailing_zeros w64 ahead → from ≤ i
+    → i < from + least → IsFree word i
 free_before word from ahead least i fits is small after before =
     let most : trailing_zeros w64 ahead ≤ 64 = trailing_le 64 ahead in
     let same : (from % 64 + (i - from)) % 64 ≡ i % 64 = omega arith in

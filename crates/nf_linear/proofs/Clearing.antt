@@ -57,7 +57,8 @@ module _ (passes : Passing) (column pivot : ℕ) (own : ℚ) (later : List (ℕ 
 
   pub record ClearedSoFar (before rows : List Row) (i : ℕ) : Type 0 where
     pub rest : drop i rows ≡ drop i before
-    pub same : at_part Part.Table (with_front (take i rows) (clear_each passes column pivot own later i (drop i rows))) ≡ at_part Part.Table (clear_each passes column pivot own later 0 before)
+    pub same : at_part Part.Table (with_front (take i rows) (clear_each passes column pivot own later i (drop i rows))) ≡ at_part Part.Table
+        (clear_each passes column pivot own later 0 before)
 
   pub cleared_first : (before : List Row) → ClearedSoFar before before 0
   cleared_first before = record { rest = refl; same = ap (at_part Part.Table) (first_before (clear_each passes column pivot own later 0 before)) }
@@ -109,7 +110,8 @@ module _ (passes : Passing) (column pivot : ℕ) (pivot_row : Row) where
   clear_each-is i [] e b = refl
   clear_each-is i (row ∷ rows) e b =
       let long : length pivot_row ≡ length row = e 0 (omega arith) in
-      ap (λ (r : Checked Row). r >>= λ r. clear_each passes column pivot (number_at pivot_row column) (some_from (suc column) (drop (suc column) pivot_row)) (suc i) rows >>= λ rs. Ok (r ∷ rs))
+      ap (λ (r : Checked Row). r >>= λ r. clear_each passes column pivot (number_at pivot_row column) (some_from (suc column) (drop (suc column) pivot_row))
+          (suc i) rows >>= λ rs. Ok (r ∷ rs))
       (unless_is (i == pivot || is_zero (number_at row column)) row long (omega arith))
       ∙ ap (λ (s : Checked (List Row)). Lists.clear_unless passes (i == pivot || is_zero (number_at row column)) column pivot_row row >>= λ r. s >>= λ rs. Ok (r ∷ rs))
       (clear_each-is (suc i) rows (λ j c. e (suc j) (omega arith)) b)
@@ -132,7 +134,8 @@ module _ (rows : List Row) (pivot column : ℕ) (square : IsSquare rows) (p : pi
       (subst (AllByRecursion (λ (other : ℕ × ℚ). other.0 < suc (length rows))) (sym l)
       (some_fit (column + 1) (suc (length rows)) (drop (column + 1) (row_at rows pivot)) (omega (arith, length-drop (column + 1) (row_at rows pivot), square pivot p))))
 
-  pub eliminated : (passes : Passing) → own ≡ number_at (row_at rows pivot) column → clear_each passes column pivot own later 0 rows ≡ Lists.clear_rows passes column pivot (row_at rows pivot) 0 rows
+  pub eliminated : (passes : Passing) → own ≡ number_at (row_at rows pivot) column
+      → clear_each passes column pivot own later 0 rows ≡ Lists.clear_rows passes column pivot (row_at rows pivot) 0 rows
   eliminated passes o =
       ap (λ (x : ℚ). clear_each passes column pivot x later 0 rows) o
       ∙ ap (λ (others : List (ℕ × ℚ)). clear_each passes column pivot (number_at (row_at rows pivot) column) others 0 rows)

@@ -57,7 +57,8 @@ row-set_other (y ∷ rows) (suc k) zero x apart = refl
 row-set_other (y ∷ rows) (suc k) (suc i) x apart = row-set_other rows k i x (λ e. apart (ap suc e))
 
 -- one row changes, and it is put into the set
-same_kept : (word after i : ℕ) (rows before : List Row) (y : Row) → IsWithin word after → bit_at after (i % 64) ≡ 1 → AreSameUnless word rows before → AreSameUnless after (set rows i y) before
+same_kept : (word after i : ℕ) (rows before : List Row) (y : Row) → IsWithin word after → bit_at after (i % 64) ≡ 1 → AreSameUnless word rows before
+    → AreSameUnless after (set rows i y) before
 same_kept word after i rows before y within one same k free =
     ⊎_elim
     (λ (here : k ≡ i). absurd (not_free after k (ap (λ (n : ℕ). bit_at after (n % 64)) here ∙ one) free))
@@ -126,13 +127,15 @@ one_grows rows k c i columns b free =
     ⊎_elim
     (λ (same : c ≡ k).
     let now : get_or (set columns k (bit_or (get_or columns k 0) rows)) c 0 ≡ bit_or (get_or columns k 0) rows =
-    ap (λ (n : ℕ). get_or (set columns k (bit_or (get_or columns k 0) rows)) n 0) same ∙ get_or-set_same columns k (bit_or (get_or columns k 0) rows) 0 (subst (λ (n : ℕ). n < length columns) same b) in
+    ap (λ (n : ℕ). get_or (set columns k (bit_or (get_or columns k 0) rows)) n 0) same
+        ∙ get_or-set_same columns k (bit_or (get_or columns k 0) rows) 0 (subst (λ (n : ℕ). n < length columns) same b) in
     let whole : IsFree (bit_or (get_or columns k 0) rows) i = subst (λ (word : ℕ). IsFree word i) now free in
     subst (λ (n : ℕ). IsFree (get_or columns n 0) i) (sym same) (free_within (get_or columns k 0) (bit_or (get_or columns k 0) rows) i (within_left (get_or columns k 0) rows) whole))
     (λ (apart : c ≡ k → ⊥). subst (λ (word : ℕ). IsFree word i) (get_or-set_other columns k c (bit_or (get_or columns k 0) rows) 0 apart) free)
     (cases_eq c k)
 
-pub spread_grows : (rows : ℕ) (entries : List (ℕ × ℚ)) (columns : List ℕ) (c i : ℕ) → c < length columns → IsFree (get_or (spread rows entries columns) c 0) i → IsFree (get_or columns c 0) i
+pub spread_grows : (rows : ℕ) (entries : List (ℕ × ℚ)) (columns : List ℕ) (c i : ℕ) → c < length columns
+    → IsFree (get_or (spread rows entries columns) c 0) i → IsFree (get_or columns c 0) i
 spread_grows rows [] columns c i b free = free
 spread_grows rows (e ∷ entries) columns c i b free =
     one_grows rows e.0 c i columns b
@@ -144,13 +147,15 @@ abbrev RowIsCovered : List ℕ → ℕ → Row → Type 0
 RowIsCovered columns i row = (c : ℕ) → c < length columns → IsFree (get_or columns c 0) i → number_at row c ≡ 0ℚ
 
 -- one number changes, and its column's set gets the row
-one_covered : (rows k i : ℕ) (columns : List ℕ) (row : Row) (y : ℚ) → bit_at rows (i % 64) ≡ 1 → RowIsCovered columns i row → RowIsCovered (set columns k (bit_or (get_or columns k 0) rows)) i (set row k y)
+one_covered : (rows k i : ℕ) (columns : List ℕ) (row : Row) (y : ℚ) → bit_at rows (i % 64) ≡ 1 → RowIsCovered columns i row
+    → RowIsCovered (set columns k (bit_or (get_or columns k 0) rows)) i (set row k y)
 one_covered rows k i columns row y one covered c b free =
     let inside : c < length columns = subst (λ (n : ℕ). c < n) (length-set columns k (bit_or (get_or columns k 0) rows)) b in
     ⊎_elim
     (λ (same : c ≡ k).
     let now : get_or (set columns k (bit_or (get_or columns k 0) rows)) c 0 ≡ bit_or (get_or columns k 0) rows =
-    ap (λ (n : ℕ). get_or (set columns k (bit_or (get_or columns k 0) rows)) n 0) same ∙ get_or-set_same columns k (bit_or (get_or columns k 0) rows) 0 (subst (λ (n : ℕ). n < length columns) same inside) in
+    ap (λ (n : ℕ). get_or (set columns k (bit_or (get_or columns k 0) rows)) n 0) same
+        ∙ get_or-set_same columns k (bit_or (get_or columns k 0) rows) 0 (subst (λ (n : ℕ). n < length columns) same inside) in
     let whole : IsFree (bit_or (get_or columns k 0) rows) i = subst (λ (word : ℕ). IsFree word i) now free in
     absurd (not_free rows i one (free_within rows (bit_or (get_or columns k 0) rows) i (within_right (get_or columns k 0) rows) whole)))
     (λ (apart : c ≡ k → ⊥).
@@ -163,10 +168,12 @@ module _ (passes : Passing) where
   fold_covered f rows i [] columns row after one covered e = subst (RowIsCovered columns i) (same_Ok row after e) covered
   fold_covered f rows i (other ∷ others) columns row after one covered e =
       go (less_unless passes false f other.1 (number_at row other.0)) e
-      (λ y h. fold_covered f rows i others (set columns other.0 (bit_or (get_or columns other.0 0) rows)) (set row other.0 y) after one (one_covered rows other.0 i columns row y one covered) h)
+      (λ y h. fold_covered f rows i others (set columns other.0 (bit_or (get_or columns other.0 0) rows)) (set row other.0 y) after one
+          (one_covered rows other.0 i columns row y one covered) h)
     where
       go : (r : Checked ℚ) → ((r >>= λ y. Ok (set row other.0 y)) >>= λ next. fold_checked (entry_less passes f) next others) ≡ Ok after
-          → ((y : ℚ) → fold_checked (entry_less passes f) (set row other.0 y) others ≡ Ok after → RowIsCovered (spread rows others (set columns other.0 (bit_or (get_or columns other.0 0) rows))) i after)
+          → ((y : ℚ) → fold_checked (entry_less passes f) (set row other.0 y) others ≡ Ok after
+              → RowIsCovered (spread rows others (set columns other.0 (bit_or (get_or columns other.0 0) rows))) i after)
           → RowIsCovered (spread rows others (set columns other.0 (bit_or (get_or columns other.0 0) rows))) i after
       go (Err p) h more = absurd (cc)
       go (Ok y) h more = more y h
@@ -223,7 +230,8 @@ module _ (passes : Passing) where
           let inside : c < length columns = subst (λ (n : ℕ). c < n) (length-spread cleared later columns) b in
           ap (λ (r : Row). number_at r c) same ∙ covers c inside i (spread_grows cleared later columns c i inside free)
 
-      changed : (i : ℕ) (t : Bool) → bit_at cleared (i % 64) ≡ 1 → clear_unless passes t column own later (row_at rows i) ≡ Ok (row_at after i) → RowIsCovered (spread cleared later columns) i (row_at after i)
+      changed : (i : ℕ) (t : Bool) → bit_at cleared (i % 64) ≡ 1 → clear_unless passes t column own later (row_at rows i) ≡ Ok (row_at after i)
+          → RowIsCovered (spread cleared later columns) i (row_at after i)
       changed i true one e = kept i (sym (same_Ok (row_at rows i) (row_at after i) e))
       changed i false one e = row_covered cleared i columns (row_at rows i) (row_at after i) one (λ c b free. covers c b i free) e
 

@@ -29,7 +29,8 @@ one_more rows row i b e = list_any-append (λ pivot. pivot == i) rows (row ∷ [
 other_more : (rows : List ℕ) (row i : ℕ) → (row ≡ i → ⊥) → list_any (λ pivot. pivot == i) (rows ++ row ∷ []) ≡ list_any (λ pivot. pivot == i) rows
 other_more rows row i apart = one_more rows row i false (other_row row i _ apart refl) ∙ either_false _
 
-pub taken_more : (taken : List Bool) (rows : List ℕ) (row : ℕ) (after : List ℕ) → row < length taken → after ≡ rows ++ row ∷ [] → AreTaken taken rows → AreTaken (set taken row true) after
+pub taken_more : (taken : List Bool) (rows : List ℕ) (row : ℕ) (after : List ℕ) → row < length taken → after ≡ rows ++ row ∷ [] → AreTaken taken rows
+    → AreTaken (set taken row true) after
 taken_more taken rows row after some e h i b d = go (eqb row i) refl ∙ ap (list_any (λ pivot. pivot == i)) (sym e)
   where
     go : (t : Bool) → eqb row i ≡ t → get_or (set taken row true) i d ≡ list_any (λ pivot. pivot == i) (rows ++ row ∷ [])

@@ -35,16 +35,19 @@ module _ (rows : List Row) (pivots : List ℕ) (column pivot : ℕ) (e : pivot_o
   pub pivot_some : number_at (row_at rows pivot) column ≢ 0ℚ
   pivot_some = subst (λ (i : ℕ). number_at (row_at rows i) column ≢ 0ℚ) place (some_tested (number_at (row_at rows found.number) column) found.some)
 
-  pub column_cleared : (passes : Passing) (new_rows : List Row) (new_pivots : List ℕ) → at_part Part.Table (clear_rows passes column pivot (row_at rows pivot) 0 rows) ≡ Ok new_rows → new_pivots ≡ pivots ++ pivot ∷ []
+  pub column_cleared : (passes : Passing) (new_rows : List Row) (new_pivots : List ℕ)
+      → at_part Part.Table (clear_rows passes column pivot (row_at rows pivot) 0 rows) ≡ Ok new_rows → new_pivots ≡ pivots ++ pivot ∷ []
       → at_part Part.Table (eliminate_column passes (eliminated rows pivots) column) ≡ Ok (Some (eliminated new_rows new_pivots))
   column_cleared passes new_rows new_pivots cleared pushed =
       ap (λ (o : Option ℕ). at_part Part.Table (eliminate_at passes (eliminated rows pivots) column o)) e
-      ∙ ap (λ (r : Checked (List Row)). at_part Part.Table (r >>= λ rows. Ok (Some (eliminated rows (pivots ++ pivot ∷ []))))) (ok_of_part Part.Table (clear_rows passes column pivot (row_at rows pivot) 0 rows) new_rows (sym cleared))
+      ∙ ap (λ (r : Checked (List Row)). at_part Part.Table (r >>= λ rows. Ok (Some (eliminated rows (pivots ++ pivot ∷ [])))))
+          (ok_of_part Part.Table (clear_rows passes column pivot (row_at rows pivot) 0 rows) new_rows (sym cleared))
       ∙ ap (λ (p : List ℕ). Ok (Some (eliminated new_rows p))) (sym pushed)
 
   -- the column stops where its rows do
   module _ (passes : Passing) where
-    in_rows : eliminate_column passes (eliminated rows pivots) column ≡ (clear_rows passes column pivot (row_at rows pivot) 0 rows >>= λ rows. Ok (Some (eliminated rows (pivots ++ pivot ∷ []))))
+    in_rows : eliminate_column passes (eliminated rows pivots) column ≡ (clear_rows passes column pivot (row_at rows pivot) 0 rows >>= λ rows. Ok
+        (Some (eliminated rows (pivots ++ pivot ∷ []))))
     in_rows = ap (eliminate_at passes (eliminated rows pivots) column) e
 
     pub column_stops : {S : Type 0} (means : S → ℚ) (h : Halt S) → Stops means h (at_part Part.Table (clear_rows passes column pivot (row_at rows pivot) 0 rows))
@@ -104,12 +107,15 @@ module _ (passes : Passing) (before rows : List Row) (pivots : List ℕ) (column
     opened = sym s.same ∙ ap (λ (more : ℕ). eliminate_from passes more column now) (let e : length before - column ≡ suc (length before - suc column) = omega arith in e)
 
     pub stage_none : at_part Part.Table (eliminate_column passes now column) ≡ Ok None → at_part Part.Table all ≡ Ok None
-    stage_none e = ap (at_part Part.Table) (opened ∙ ap (λ (r : Checked (Option Eliminated)). r >>= if_some passes rest) (ok_of_part Part.Table (eliminate_column passes now column) None (sym e)))
+    stage_none e = ap (at_part Part.Table) (opened ∙ ap (λ (r : Checked (Option Eliminated)). r >>= if_some passes rest)
+        (ok_of_part Part.Table (eliminate_column passes now column) None (sym e)))
 
     pub stage_stops : {S : Type 0} (means : S → ℚ) (h : Halt S) → Stops means h (at_part Part.Table (eliminate_column passes now column)) → Stops means h (at_part Part.Table all)
-    stage_stops means h e = subst (λ (r : Checked (Option Eliminated)). Stops means h (at_part Part.Table r)) (sym opened) (stops Part.Table means h (eliminate_column passes now column) (if_some passes rest) e)
+    stage_stops means h e = subst (λ (r : Checked (Option Eliminated)). Stops means h (at_part Part.Table r)) (sym opened)
+        (stops Part.Table means h (eliminate_column passes now column) (if_some passes rest) e)
 
-    pub stage_more : (new_rows : List Row) (new_pivots : List ℕ) → at_part Part.Table (eliminate_column passes now column) ≡ Ok (Some (eliminated new_rows new_pivots)) → Stage passes before new_rows new_pivots (column + 1)
+    pub stage_more : (new_rows : List Row) (new_pivots : List ℕ) → at_part Part.Table (eliminate_column passes now column) ≡ Ok
+        (Some (eliminated new_rows new_pivots)) → Stage passes before new_rows new_pivots (column + 1)
     stage_more new_rows new_pivots e =
         let step = ok_of_part Part.Table (eliminate_column passes now column) (Some (eliminated new_rows new_pivots)) (sym e) in
         let n : column + 1 ≡ suc column = add-one column in

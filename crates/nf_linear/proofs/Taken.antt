@@ -88,14 +88,17 @@ pub ok_of_part : {A : Type 0} (part : Part) (r : Checked A) (x : A) → Ok x ≡
 ok_of_part part (Ok a) x e = let h = e in cc
 ok_of_part part (Err p) x e = absurd (cc)
 
-pub takes_first : (passes : Passing) (factor : ℚ) (others : List (ℕ × ℚ)) (before : List ℚ) → AllByRecursion (λ (other : ℕ × ℚ). other.0 < length before) others → TakesOff passes factor others before before 0
+pub takes_first : (passes : Passing) (factor : ℚ) (others : List (ℕ × ℚ)) (before : List ℚ)
+    → AllByRecursion (λ (other : ℕ × ℚ). other.0 < length before) others → TakesOff passes factor others before before 0
 takes_first passes factor others before fits = record { fits = fits; same = refl }
 
 pub takes_all : (passes : Passing) (factor : ℚ) (others : List (ℕ × ℚ)) (before row : List ℚ) (k : ℕ) → length others ≤ k → TakesOff passes factor others before row k
     → Ok row ≡ at_part Part.Table (fold_checked (entry_less passes factor) before others)
-takes_all passes factor others before row k end h = ap (λ (l : List (ℕ × ℚ)). at_part Part.Table (fold_checked (entry_less passes factor) row l)) (sym (drop_of_length-le others end)) ∙ h.same
+takes_all passes factor others before row k end h =
+    ap (λ (l : List (ℕ × ℚ)). at_part Part.Table (fold_checked (entry_less passes factor) row l)) (sym (drop_of_length-le others end)) ∙ h.same
 
-pub next_other : (others : List (ℕ × ℚ)) (k : ℕ) (e : ℕ × ℚ) (column : ℕ) (p : ℚ) → k < length others → e ≡ get_or others k e → (column, p) ≡ e → drop k others ≡ (column, p) ∷ drop (k + 1) others
+pub next_other : (others : List (ℕ × ℚ)) (k : ℕ) (e : ℕ × ℚ) (column : ℕ) (p : ℚ) → k < length others → e ≡ get_or others k e → (column, p) ≡ e
+    → drop k others ≡ (column, p) ∷ drop (k + 1) others
 next_other others k e column p b is seen = drop_more others k e b ∙ ap (λ (w : ℕ × ℚ). w ∷ drop (k + 1) others) (sym is ∙ sym seen)
 
 pub fits_next : (passes : Passing) (factor : ℚ) (others : List (ℕ × ℚ)) (before row : List ℚ) (k : ℕ) (e : ℕ × ℚ) (column : ℕ) (p : ℚ)
@@ -107,8 +110,10 @@ pub takes_stops : (passes : Passing) (factor : ℚ) (others : List (ℕ × ℚ))
     → k < length others → e ≡ get_or others k e → (column, p) ≡ e → x ≡ number_at row column → Err q ≡ at_part Part.Table (less_unless passes false factor p x)
     → TakesOff passes factor others before row k → Err q ≡ at_part Part.Table (fold_checked (entry_less passes factor) before others)
 takes_stops passes factor others before row k e column p x q b is seen value stop h =
-    let first : at_part Part.Table (less_unless passes false factor p (number_at row column)) ≡ Err q = ap (λ (w : ℚ). at_part Part.Table (less_unless passes false factor p w)) (sym value) ∙ sym stop in
-    let here : at_part Part.Table (entry_less passes factor row (column, p)) ≡ Err q = stopped Part.Table (less_unless passes false factor p (number_at row column)) (λ y. Ok (set row column y)) q first in
+    let first : at_part Part.Table (less_unless passes false factor p (number_at row column)) ≡ Err q =
+        ap (λ (w : ℚ). at_part Part.Table (less_unless passes false factor p w)) (sym value) ∙ sym stop in
+    let here : at_part Part.Table (entry_less passes factor row (column, p)) ≡ Err q =
+        stopped Part.Table (less_unless passes false factor p (number_at row column)) (λ y. Ok (set row column y)) q first in
     sym (sym h.same ∙ ap (λ (l : List (ℕ × ℚ)). at_part Part.Table (fold_checked (entry_less passes factor) row l)) (next_other others k e column p b is seen)
     ∙ stopped Part.Table (entry_less passes factor row (column, p)) (λ next. fold_checked (entry_less passes factor) next (drop (k + 1) others)) q here)
 
@@ -118,10 +123,12 @@ pub takes_more : (passes : Passing) (factor : ℚ) (others : List (ℕ × ℚ)) 
 takes_more passes factor others before row k e column p x y after b is seen value gives made h =
     let split : drop k others ≡ (column, p) ∷ drop (k + 1) others = next_other others k e column p b is seen in
     let long : length after ≡ length row = ap (length {A = ℚ}) made ∙ length-set row column y in
-    let given : less_unless passes false factor p (number_at row column) ≡ Ok y = ap (λ (w : ℚ). less_unless passes false factor p w) (sym value) ∙ ok_of_part Part.Table (less_unless passes false factor p x) y gives in
+    let given : less_unless passes false factor p (number_at row column) ≡ Ok y = ap (λ (w : ℚ). less_unless passes false factor p w) (sym value)
+        ∙ ok_of_part Part.Table (less_unless passes false factor p x) y gives in
     let step : entry_less passes factor row (column, p) ≡ Ok after = ap (λ (r : Checked ℚ). r >>= λ y. Ok (set row column y)) given ∙ ap Ok (sym made) in
     record {
       fits = subst (λ (n : ℕ). AllByRecursion (λ (other : ℕ × ℚ). other.0 < n) (drop (k + 1) others)) (sym long)
           (subst (λ (l : List (ℕ × ℚ)). AllByRecursion (λ (other : ℕ × ℚ). other.0 < length row) l) split h.fits).1;
-      same = ap (at_part Part.Table) (sym (ap (λ (l : List (ℕ × ℚ)). fold_checked (entry_less passes factor) row l) split ∙ fold_ok (entry_less passes factor) row (column, p) (drop (k + 1) others) after step)) ∙ h.same;
+      same = ap (at_part Part.Table) (sym (ap (λ (l : List (ℕ × ℚ)). fold_checked (entry_less passes factor) row l) split
+          ∙ fold_ok (entry_less passes factor) row (column, p) (drop (k + 1) others) after step)) ∙ h.same;
     }

@@ -42,8 +42,10 @@ module _ (passes : Passing) (rows : List Row) (pivots : List ℕ) where
     opened : with_front front (value >>= rest) ≡ solution_from passes rows 0 pivots
     opened = ap (λ (l : List ℕ). with_front front (solution_from passes rows column l)) (sym (drop-cons pivots column 0 b)) ∙ h
 
-    pub values_stop : (row : Row) (right : ℕ) → row ≡ own → right ≡ length rows → (q : PassedAt ℚ) → Err q ≡ last_over row right column → at_part Part.Table (solution_from passes rows 0 pivots) ≡ Err q
-    values_stop row right r l q e = ap (at_part Part.Table) (sym opened) ∙ stopped_before Part.Table (value >>= rest) front q (stopped Part.Table value rest q (sym (e ∙ seen row right r l)))
+    pub values_stop : (row : Row) (right : ℕ) → row ≡ own → right ≡ length rows → (q : PassedAt ℚ) → Err q ≡ last_over row right column
+        → at_part Part.Table (solution_from passes rows 0 pivots) ≡ Err q
+    values_stop row right r l q e = ap (at_part Part.Table) (sym opened) ∙ stopped_before Part.Table (value >>= rest) front q
+        (stopped Part.Table value rest q (sym (e ∙ seen row right r l)))
 
     pub values_more : (row : Row) (right : ℕ) → row ≡ own → right ≡ length rows → (x : ℚ) → Ok x ≡ last_over row right column → ValuesSoFar (front ++ x ∷ []) (column + 1)
     values_more row right r l x e =

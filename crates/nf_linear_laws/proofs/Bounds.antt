@@ -131,7 +131,8 @@ Under uppers x = (v : ℚ) × AreAbove uppers x v
 just_under : (f b : ℚ) → (b -ℚ f) +ℚ f ≤ℚ b
 just_under f b = linear_le (f ∷ b ∷ []) [] (search reading_of) tt
 
-lesser_of : (u : AtMost) (uppers : List AtMost) (x : ℕ → ℚ) (g : Under uppers x) → (u.bound -ℚ form_value u.form x <ℚ g.0) ⊎ (g.0 ≤ℚ u.bound -ℚ form_value u.form x) → Under (u ∷ uppers) x
+lesser_of : (u : AtMost) (uppers : List AtMost) (x : ℕ → ℚ) (g : Under uppers x)
+    → (u.bound -ℚ form_value u.form x <ℚ g.0) ⊎ (g.0 ≤ℚ u.bound -ℚ form_value u.form x) → Under (u ∷ uppers) x
 lesser_of u uppers x g (inl h) = (
   u.bound -ℚ form_value u.form x,
   (just_under (form_value u.form x) u.bound, AreAbove-less uppers x g.0 _ (≤ℚ_of_lt _ _ h) g.1),

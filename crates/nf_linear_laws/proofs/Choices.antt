@@ -34,7 +34,8 @@ module _ (system : List AtMost) (systems : List (List AtMost)) (objective : Form
       by_case y (inl h) = absurd (n y h)
       by_case y (inr h) = b.2 y h
 
-  from_both : (a : Least system objective) (b : LeastOfOne systems objective) → (form_value objective b.0 <ℚ form_value objective a.0) ⊎ (form_value objective a.0 ≤ℚ form_value objective b.0)
+  from_both : (a : Least system objective) (b : LeastOfOne systems objective)
+      → (form_value objective b.0 <ℚ form_value objective a.0) ⊎ (form_value objective a.0 ≤ℚ form_value objective b.0)
       → LeastOfOne (system ∷ systems) objective
   from_both a b (inl l) = (b.0, inr b.1, by_case)
     where

@@ -136,7 +136,8 @@ Split-added n c system w s = by_sign (lt_or_le_ℚ a 0ℚ) (lt_or_le_ℚ 0ℚ a)
     a = coefficient n c.form
 
     as_lower : a <ℚ 0ℚ → Split n (c ∷ system)
-    as_lower h = Split-lower n c system (Lower-from n c (inv_ℚ (0ℚ -ℚ a)) w (ps_times_inv (0ℚ -ℚ a) (negated_ps a h)) (≤ℚ_of_lt _ _ (ps_inv (0ℚ -ℚ a) (negated_ps a h))) (≤ℚ_of_lt _ _ (negated_ps a h))) s
+    as_lower h = Split-lower n c system (Lower-from n c (inv_ℚ (0ℚ -ℚ a)) w (ps_times_inv (0ℚ -ℚ a) (negated_ps a h))
+        (≤ℚ_of_lt _ _ (ps_inv (0ℚ -ℚ a) (negated_ps a h))) (≤ℚ_of_lt _ _ (negated_ps a h))) s
 
     as_upper : 0ℚ <ℚ a → Split n (c ∷ system)
     as_upper h = Split-upper n c system (Upper-from n c (inv_ℚ a) w (ps_times_inv a h) (≤ℚ_of_lt _ _ (ps_inv a h)) (≤ℚ_of_lt _ _ h)) s

@@ -52,7 +52,9 @@ pub none_below : (x y : ℕ → ℚ) (i : ℕ) → i < 0 → x i ≡ y i
 none_below x y i h = absurd (omega arith)
 
 by_test : (system : List AtMost) (p : Projection system) (e : Elimination 0 p.rest) → MeetsAll e.rest nowhere ⊎ (MeetsAll e.rest nowhere → ⊥) → Decided system
-by_test system p e (inl h) = let q : (y : ℕ → ℚ) × MeetsAll system y × (y 0 ≡ updated nowhere 0 (e.back nowhere h).0 0) = p.back (updated nowhere 0 (e.back nowhere h).0) (e.back nowhere h).1 in
+by_test system p e (inl h) =
+    let q : (y : ℕ → ℚ) × MeetsAll system y × (y 0 ≡ updated nowhere 0 (e.back nowhere h).0 0) =
+    p.back (updated nowhere 0 (e.back nowhere h).0) (e.back nowhere h).1 in
     inl (q.0, q.1)
 by_test system p e (inr fails) = inr (λ x h. fails (MeetsAll-same 0 e.rest x nowhere e.within (none_below x nowhere) (e.there x (p.there x h))))
 

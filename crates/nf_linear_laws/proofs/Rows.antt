@@ -62,7 +62,8 @@ kept_exact false c pivot_row row = bind_ok _ _ _ _ (quotient_exact (number_at ro
 
 pub rows_exact : (c p : ℕ) (pivot_row : Row) (k : ℕ) (rows : List Row) → clear_rows never c p pivot_row k rows ≡ Ok (rows_after c p pivot_row k rows)
 rows_exact c p pivot_row k [] = refl
-rows_exact c p pivot_row k (row ∷ rows) = bind_ok _ _ _ _ (kept_exact (k == p || is_zero (number_at row c)) c pivot_row row) (bind_ok _ _ _ _ (rows_exact c p pivot_row (suc k) rows) refl)
+rows_exact c p pivot_row k (row ∷ rows) =
+    bind_ok _ _ _ _ (kept_exact (k == p || is_zero (number_at row c)) c pivot_row row) (bind_ok _ _ _ _ (rows_exact c p pivot_row (suc k) rows) refl)
 
 -- ---- the numbers of these rows
 
@@ -109,11 +110,13 @@ with_zero-length f c (p ∷ pivot_row) [] e b = absurd (cc)
 with_zero-length f zero (p ∷ pivot_row) (x ∷ row) e b = ap suc (less_row-length f pivot_row row (cc))
 with_zero-length f (suc c) (p ∷ pivot_row) (x ∷ row) e b = ap suc (with_zero-length f c pivot_row row (cc) (omega arith))
 
-module _ (c : ℕ) (pivot_row row : Row) (same : length pivot_row ≡ length row) (inside : c < length row) (early : (j : ℕ) → j < c → number_at pivot_row j ≡ 0ℚ) (some : number_at pivot_row c ≢ 0ℚ) where
+module _ (c : ℕ) (pivot_row row : Row) (same : length pivot_row ≡ length row) (inside : c < length row)
+    (early : (j : ℕ) → j < c → number_at pivot_row j ≡ 0ℚ) (some : number_at pivot_row c ≢ 0ℚ) where
   here : number_at row c -ℚ (number_at row c /ℚ number_at pivot_row c) *ℚ number_at pivot_row c ≡ 0ℚ
   here = less_all (number_at row c) (number_at row c /ℚ number_at pivot_row c) (number_at pivot_row c) (/ℚ-times (number_at row c) (number_at pivot_row c) some)
 
-  pub kept_or_less-at : (b : Bool) (j : ℕ) → number_at (kept_or_less b c pivot_row row) j ≡ number_at row j -ℚ cond b 0ℚ (number_at row c /ℚ number_at pivot_row c) *ℚ number_at pivot_row j
+  pub kept_or_less-at : (b : Bool) (j : ℕ) → number_at (kept_or_less b c pivot_row row) j ≡ number_at row j -ℚ cond b 0ℚ
+      (number_at row c /ℚ number_at pivot_row c) *ℚ number_at pivot_row j
   kept_or_less-at true j = no_times (number_at row j) (number_at pivot_row j)
   kept_or_less-at false j = with_zero-at (number_at row c /ℚ number_at pivot_row c) c pivot_row row same inside early here j
 

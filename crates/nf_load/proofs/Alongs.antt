@@ -18,7 +18,8 @@ linked_along On (x ∷ []) labels last h = tt
 linked_along On (x ∷ y ∷ rest) [] last h = tt
 linked_along On (x ∷ y ∷ rest) (label ∷ labels) last h = (h.0, linked_along On (y ∷ rest) labels last h.1)
 
-pub one_more : {A B : Type 0} (On : B → A → A → Type 0) (xs : List A) (labels : List B) (p q : A) (label : B) → Linked On xs labels p → On label p q → Linked On (xs ++ q ∷ []) (labels ++ label ∷ []) q
+pub one_more : {A B : Type 0} (On : B → A → A → Type 0) (xs : List A) (labels : List B) (p q : A) (label : B) → Linked On xs labels p → On label p q
+    → Linked On (xs ++ q ∷ []) (labels ++ label ∷ []) q
 one_more On [] [] p q label h s = absurd h
 one_more On [] (k ∷ labels) p q label h s = absurd h
 one_more {A} On (x ∷ []) [] p q label h s = (subst (λ (z : A). On label z q) (sym h) s, refl)
@@ -32,7 +33,8 @@ along_none On (x ∷ []) = tt
 along_none On (x ∷ y ∷ rest) = tt
 
 -- labels of other entries
-pub along_map : {A B C D : Type 0} (On : B → A → A → Type 0) (Of : D → C → C → Type 0) (f : A → C) (g : B → D) → ((label : B) (x y : A) → On label x y → Of (g label) (f x) (f y)) → (xs : List A) (labels : List B) → Along On xs labels
+pub along_map : {A B C D : Type 0} (On : B → A → A → Type 0) (Of : D → C → C → Type 0) (f : A → C) (g : B → D)
+    → ((label : B) (x y : A) → On label x y → Of (g label) (f x) (f y)) → (xs : List A) (labels : List B) → Along On xs labels
     → Along Of (map f xs) (map g labels)
 along_map On Of f g step [] labels h = tt
 along_map On Of f g step (x ∷ []) labels h = tt
@@ -46,7 +48,8 @@ along_of On f (x ∷ y ∷ rest) [] h = tt
 along_of On f (x ∷ y ∷ rest) (label ∷ labels) h = (h.0, along_of On f (y ∷ rest) labels h.1)
 
 -- the label of this number
-pub along_at : {A B : Type 0} (On : B → A → A → Type 0) (xs : List A) (labels : List B) (i j : ℕ) (label : B) (x y : A) → Along On xs labels → slice_get labels i ≡ Some label → slice_get xs i ≡ Some x → j ≡ suc i
+pub along_at : {A B : Type 0} (On : B → A → A → Type 0) (xs : List A) (labels : List B) (i j : ℕ) (label : B) (x y : A) → Along On xs labels
+    → slice_get labels i ≡ Some label → slice_get xs i ≡ Some x → j ≡ suc i
     → slice_get xs j ≡ Some y → On label x y
 along_at {A} {B} On xs labels i j label x y h e f n g = go xs labels i h e f (subst (λ (k : ℕ). slice_get xs k ≡ Some y) n g)
   where
@@ -61,7 +64,8 @@ along_at {A} {B} On xs labels i j label x y h e f n g = go xs labels i h e f (su
     go (a ∷ b ∷ rest) (k ∷ labels) (suc i) h e f g = go (b ∷ rest) labels i h.1 e f g
 
 -- the label of this number, if there is one: labels may be none
-pub along_flat : {A B : Type 0} (On : Option B → A → A → Type 0) (xs : List A) (labels : List (Option B)) (i j : ℕ) (x y : A) → On None x y → Along On xs labels → slice_get xs i ≡ Some x → j ≡ suc i → slice_get xs j ≡ Some y
+pub along_flat : {A B : Type 0} (On : Option B → A → A → Type 0) (xs : List A) (labels : List (Option B)) (i j : ℕ) (x y : A) → On None x y
+    → Along On xs labels → slice_get xs i ≡ Some x → j ≡ suc i → slice_get xs j ≡ Some y
     → On (flat (slice_get labels i)) x y
 along_flat {A} {B} On xs labels i j x y none h e n g = go (slice_get labels i) refl
   where
@@ -83,7 +87,8 @@ Begins [] xs = Unit {0}
 Begins (y ∷ ys) (x ∷ xs) = (y ≡ x) × Begins ys xs
 Begins (y ∷ ys) [] = ⊥
 
-pub along_begins : {A B : Type 0} (On : B → A → A → Type 0) (ys xs : List A) (labels : List B) (z : A) (n : ℕ) → Begins ys xs → n < length ys → Along On xs labels → Along On (ys ++ z ∷ []) (take n labels)
+pub along_begins : {A B : Type 0} (On : B → A → A → Type 0) (ys xs : List A) (labels : List B) (z : A) (n : ℕ) → Begins ys xs → n < length ys
+    → Along On xs labels → Along On (ys ++ z ∷ []) (take n labels)
 along_begins On [] xs labels z n b lt h = absurd (omega arith)
 along_begins On (y ∷ ys) [] labels z n b lt h = absurd b
 along_begins On (y ∷ []) (x ∷ xs) labels z zero b lt h = tt
@@ -95,7 +100,8 @@ along_begins {A} On (y ∷ v ∷ ys) (x ∷ u ∷ xs) (k ∷ labels) z (suc n) b
     (subst (λ (a : A). On k a v) (sym b.0) (subst (λ (a : A). On k x a) (sym b.1.0) h.0), along_begins On (v ∷ ys) (u ∷ xs) labels z n b.1 (omega arith) h.1)
 
 -- the slope of the piece from the point of this number on, if it is known
-pub slope_there : (points : List Point) (slopes : List (Option ℚ)) (i : ℕ) (p q : Point) → AreSlopes points slopes → slice_get points i ≡ Some p → slice_get points (suc i) ≡ Some q → IsRate (flat (slice_get slopes i)) p q
+pub slope_there : (points : List Point) (slopes : List (Option ℚ)) (i : ℕ) (p q : Point) → AreSlopes points slopes → slice_get points i ≡ Some p
+    → slice_get points (suc i) ≡ Some q → IsRate (flat (slice_get slopes i)) p q
 slope_there points [] zero p q h e f = tt
 slope_there points [] (suc i) p q h e f = tt
 slope_there [] (slope ∷ slopes) i p q h e f = absurd (cc)
@@ -106,5 +112,6 @@ slope_there (x ∷ y ∷ rest) (slope ∷ slopes) zero p q h e f =
     subst (λ (z : Point). IsRate slope z q) one (subst (λ (z : Point). IsRate slope x z) two h.0)
 slope_there (x ∷ y ∷ rest) (slope ∷ slopes) (suc i) p q h e f = slope_there (y ∷ rest) slopes i p q h.1 e f
 
-pub slope_at : (points : List Point) (slopes : List (Option ℚ)) (i j : ℕ) (p q : Point) → AreSlopes points slopes → slice_get points i ≡ Some p → slice_get points j ≡ Some q → j ≡ suc i → IsRate (flat (slice_get slopes i)) p q
+pub slope_at : (points : List Point) (slopes : List (Option ℚ)) (i j : ℕ) (p q : Point) → AreSlopes points slopes → slice_get points i ≡ Some p
+    → slice_get points j ≡ Some q → j ≡ suc i → IsRate (flat (slice_get slopes i)) p q
 slope_at points slopes i j p q h e f n = slope_there points slopes i p q h e (subst (λ (k : ℕ). slice_get points k ≡ Some q) n f)

@@ -26,6 +26,7 @@ module _ (all : List Exit) (i : ℕ) (one : Exit) (front whole : List Point) (la
   same_exit new next points still e = (λ j. points j ++ outflow_from (still j) (drop (i + 1) all)) ∙ with_test true e
 
   -- a later exit
-  pub later_exit : (new : List Point) (next : ℚ) → new ≡ front ++ (one.exit, one.waits.amount) ∷ [] → next ≡ one.exit → is_same last one.exit ≡ false → new ++ outflow_from next (drop (i + 1) all) ≡ whole
+  pub later_exit : (new : List Point) (next : ℚ) → new ≡ front ++ (one.exit, one.waits.amount) ∷ [] → next ≡ one.exit → is_same last one.exit ≡ false
+      → new ++ outflow_from next (drop (i + 1) all) ≡ whole
   later_exit new next points now e =
       (λ j. points j ++ outflow_from (now j) (drop (i + 1) all)) ∙ append_assoc front ((one.exit, one.waits.amount) ∷ []) (outflow_from one.exit (drop (i + 1) all)) ∙ with_test false e

@@ -77,7 +77,8 @@ rise_by : (rise run rate : ℚ) → run ≢ 0ℚ → rate ≡ rise /ℚ run → 
 rise_by rise run rate apart e = ap (λ (z : ℚ). z *ℚ run) e ∙ /ℚ-times rise run apart
 
 -- ---- slopes by their operations
-slope_by : (p q : Point) (rise run slope : ℚ) → checked passes_Q Difference q.1 p.1 ≡ Ok rise → checked passes_Q Difference q.0 p.0 ≡ Ok run → checked passes_Q Quotient rise run ≡ Ok slope → checked_slope passes_Q p q ≡ Ok slope
+slope_by : (p q : Point) (rise run slope : ℚ) → checked passes_Q Difference q.1 p.1 ≡ Ok rise → checked passes_Q Difference q.0 p.0 ≡ Ok run
+    → checked passes_Q Quotient rise run ≡ Ok slope → checked_slope passes_Q p q ≡ Ok slope
 unfolding checked_slope
 slope_by p q rise run slope e f g =
     ap (λ r. r >>= λ rise. checked passes_Q Difference q.0 p.0 >>= λ run. checked passes_Q Quotient rise run) e
@@ -139,7 +140,8 @@ module _ (capacity : Option ℚ) (before after : lists.Exit) (pace : Pace) (is_p
 
     rise_by_step : (leaving : Leaving) → IsBusy c pace.rate leaving → amounts.rise ≡ c *ℚ step
     rise_by_step leaving busy = whole_rise pace.rate amounts.run amounts.rise step c leaving.exit
-        (rise_by amounts.rise amounts.run pace.rate apart (checked-is passes_Q Quotient amounts.rise amounts.run pace.rate amounts.slope_is)) (step_by_run leaving busy) (slope_times leaving busy)
+        (rise_by amounts.rise amounts.run pace.rate apart (checked-is passes_Q Quotient amounts.rise amounts.run pace.rate amounts.slope_is))
+            (step_by_run leaving busy) (slope_times leaving busy)
 
     busy_leaving : (leaving : Leaving) → IsBusy c pace.rate leaving → IsLeaving before after leaving
     busy_leaving leaving busy = record {
@@ -155,7 +157,8 @@ module _ (capacity : Option ℚ) (before after : lists.Exit) (pace : Pace) (is_p
     busy_if (Some leaving) busy = busy_leaving leaving busy
 
 -- the queue is empty at one of two moments at least, or it changes at the rate less the capacity
-pub changes_if : (capacity : Option ℚ) (before after : lists.Waits) (pace : Pace) (c : ℚ) → IsPace capacity before after pace → capacity ≡ Some c → (is_zero before.queue && is_zero after.queue) ≡ false
+pub changes_if : (capacity : Option ℚ) (before after : lists.Waits) (pace : Pace) (c : ℚ) → IsPace capacity before after pace → capacity ≡ Some c
+    → (is_zero before.queue && is_zero after.queue) ≡ false
     → is_zero 0ℚ ≡ true → pace.change ≡ pace.rate -ℚ c
 changes_if capacity before after pace c p e some still = ⊎_elim
     (λ (w : (before.queue ≡ 0ℚ) × (after.queue ≡ 0ℚ)). absurd (true≢false
@@ -192,7 +195,8 @@ module _ (capacity : Option ℚ) (transit : ℚ) where
   exit_at (x ∷ all) zero one h e = let same : x ≡ one = cc in subst IsExit same h.0
   exit_at (x ∷ all) (suc i) one h e = exit_at all i one h.1 e
 
-  pub exits_of : (waits : List lists.Waits) (paces : List (Option Pace)) (all : List lists.Exit) → each (exit_of passes_Q capacity transit) waits ≡ Ok all → ArePaces capacity waits paces → AreExitsOf capacity all paces
+  pub exits_of : (waits : List lists.Waits) (paces : List (Option Pace)) (all : List lists.Exit) → each (exit_of passes_Q capacity transit) waits ≡ Ok all
+      → ArePaces capacity waits paces → AreExitsOf capacity all paces
   exits_of waits paces all e h =
       let k = all_exits waits all e in
       record {

@@ -65,7 +65,8 @@ module _ (passes : Passing) (transit : ℚ) (capacity : Option ℚ) (inflow : Li
 
 module _ (passes : Passing) (transit : ℚ) (capacity : Option ℚ) (inflow : List Point) (last : ℚ) where
   -- all of them are curves
-  pub loaded_curves : IsCurve inflow → 0ℚ ≤ℚ last → (cut : List Point) → checked_cut passes inflow last ≡ Ok cut → value inflow 0ℚ ≡ 0ℚ → NeverFalls (value inflow) → 0ℚ ≤ℚ transit → IsPositive capacity
+  pub loaded_curves : IsCurve inflow → 0ℚ ≤ℚ last → (cut : List Point) → checked_cut passes inflow last ≡ Ok cut → value inflow 0ℚ ≡ 0ℚ
+      → NeverFalls (value inflow) → 0ℚ ≤ℚ transit → IsPositive capacity
       → LeadsToCurves passes transit capacity cut
   loaded_curves c from_0 cut cut_is none rises waits_0 positive = λ waits all waits_are all_are. record {
     queue = queue_curve passes transit capacity inflow last c from_0 cut cut_is waits waits_are;

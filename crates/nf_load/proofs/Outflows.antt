@@ -22,7 +22,8 @@ pub record SoFar (all : List lists.Exit) (points : List Point) (slopes : List (O
   pub linked : Linked IsRate points slopes (last, amount)
   pub next : (y : lists.Exit) → slice_get all i ≡ Some y → (last ≡ y.exit → ⊥) → IsRate known (last, amount) (y.exit, y.waits.amount)
 
-pub begins : (all : List lists.Exit) (points : List Point) (slopes : List (Option ℚ)) (last amount : ℚ) (known : Option ℚ) → points ≡ (last, amount) ∷ [] → slopes ≡ [] → known ≡ None → SoFar all points slopes last known 0
+pub begins : (all : List lists.Exit) (points : List Point) (slopes : List (Option ℚ)) (last amount : ℚ) (known : Option ℚ) → points ≡ (last, amount) ∷ []
+    → slopes ≡ [] → known ≡ None → SoFar all points slopes last known 0
 begins all points slopes last amount known e f g = record {
   amount = amount;
   linked = subst (λ (l : List Point). Linked IsRate l slopes (last, amount)) (sym e) (subst (λ (l : List (Option ℚ)). Linked IsRate ((last, amount) ∷ []) l (last, amount)) (sym f) refl);
@@ -40,21 +41,24 @@ stays all points new slopes more last next known after i j h e f g k = record {
 }
 
 -- a later exit
-pub leaves : (all : List lists.Exit) (leaving : List (Option Leaving)) (points new : List Point) (slopes more : List (Option ℚ)) (last : ℚ) (known : Option ℚ) (i j : ℕ) (one : lists.Exit) (next : ℚ) (after : Option ℚ)
+pub leaves : (all : List lists.Exit) (leaving : List (Option Leaving)) (points new : List Point) (slopes more : List (Option ℚ)) (last : ℚ)
+    (known : Option ℚ) (i j : ℕ) (one : lists.Exit) (next : ℚ) (after : Option ℚ)
     → AreLeaving all leaving → SoFar all points slopes last known i → slice_get all i ≡ Some one → (last ≡ one.exit → ⊥) → j ≡ suc i
     → new ≡ points ++ (one.exit, one.waits.amount) ∷ [] → more ≡ slopes ++ known ∷ [] → next ≡ one.exit → after ≡ option_map outflow_slope_of (flat (slice_get leaving i))
     → SoFar all new more next after j
 leaves all leaving points new slopes more last known i j one next after are h at apart n e f g k = record {
   amount = one.waits.amount;
   linked = subst (λ (t : ℚ). Linked IsRate new more (t, one.waits.amount)) (sym g)
-      (subst (λ (l : List Point). Linked IsRate l more (one.exit, one.waits.amount)) (sym e) (subst (λ (l : List (Option ℚ)). Linked IsRate (points ++ (one.exit, one.waits.amount) ∷ []) l (one.exit, one.waits.amount)) (sym f)
+      (subst (λ (l : List Point). Linked IsRate l more (one.exit, one.waits.amount)) (sym e)
+          (subst (λ (l : List (Option ℚ)). Linked IsRate (points ++ (one.exit, one.waits.amount) ∷ []) l (one.exit, one.waits.amount)) (sym f)
       (one_more IsRate points slopes (last, h.amount) (one.exit, one.waits.amount) known h.linked (h.next one at apart))));
   next = λ y there differ. subst (λ (t : ℚ). IsRate after (t, one.waits.amount) (y.exit, y.waits.amount)) (sym g)
       (subst (λ (o : Option ℚ). IsRate o (one.exit, one.waits.amount) (y.exit, y.waits.amount)) (sym k)
       (by_leaving (flat (slice_get leaving i)) one y (along_flat IsLeavingIf all leaving i j one y tt are at n there) (λ same. differ (g ∙ same))));
 }
   where
-    by_leaving : (slopes : Option Leaving) (x y : lists.Exit) → IsLeavingIf slopes x y → (x.exit ≡ y.exit → ⊥) → IsRate (option_map outflow_slope_of slopes) (x.exit, x.waits.amount) (y.exit, y.waits.amount)
+    by_leaving : (slopes : Option Leaving) (x y : lists.Exit) → IsLeavingIf slopes x y → (x.exit ≡ y.exit → ⊥)
+        → IsRate (option_map outflow_slope_of slopes) (x.exit, x.waits.amount) (y.exit, y.waits.amount)
     by_leaving None x y h apart = tt
     by_leaving (Some slopes) x y h apart = h.outflow apart
 
@@ -67,7 +71,8 @@ begins_before end (p ∷ rest) = by_test (lt_ℚ p.0 end) (begins_before end res
     by_test true h = (refl, h)
     by_test false h = tt
 
-pub cut_slopes : (points : List Point) (slopes kept : List (Option ℚ)) (end : ℚ) (cut : List Point) (n : ℕ) → checked_cut passes_Q points end ≡ Ok cut → AreSlopes points slopes → n ≡ length cut - 2 → kept ≡ take n slopes → AreSlopes cut kept
+pub cut_slopes : (points : List Point) (slopes kept : List (Option ℚ)) (end : ℚ) (cut : List Point) (n : ℕ) → checked_cut passes_Q points end ≡ Ok cut
+    → AreSlopes points slopes → n ≡ length cut - 2 → kept ≡ take n slopes → AreSlopes cut kept
 unfolding checked_cut
 cut_slopes points slopes kept end cut n e h count is =
     let y = then_ok (checked_value passes_Q points end) _ cut e in
@@ -78,4 +83,5 @@ cut_slopes points slopes kept end cut n e h count is =
   where
     go : (before : List Point) (z : Point) → Begins before points → n ≡ length (before ++ z ∷ []) - 2 → AreSlopes (before ++ z ∷ []) (take n slopes)
     go [] z b m = tt
-    go (x ∷ before) z b m = along_begins IsRate (x ∷ before) points slopes z n b (let all : length ((x ∷ before) ++ z ∷ []) ≡ length (x ∷ before) + 1 = length_push (x ∷ before) z in omega (arith, m, all)) h
+    go (x ∷ before) z b m = along_begins IsRate (x ∷ before) points slopes z n b
+        (let all : length ((x ∷ before) ++ z ∷ []) ≡ length (x ∷ before) + 1 = length_push (x ∷ before) z in omega (arith, m, all)) h

@@ -35,7 +35,8 @@ module _ (passes : Passing) (capacity : ℚ) (before : Waits) (end : Point) wher
     pub stays : empty ≡ true → Ok (record { time = end.0; amount = end.1; queue = 0ℚ } ∷ []) ≡ whole
     stays e = sym (by_test ∙ ap (λ (b : Bool). at_part Load (stays_or_moves passes b capacity rate before end)) e)
 
-    pub goes : empty ≡ false → (drains there : Bool) → drains ≡ (is_positive before.queue && lt_ℚ rate capacity) → drains ≡ there → at_part Load (moves passes there capacity rate before end) ≡ whole
+    pub goes : empty ≡ false → (drains there : Bool) → drains ≡ (is_positive before.queue && lt_ℚ rate capacity) → drains ≡ there
+        → at_part Load (moves passes there capacity rate before end) ≡ whole
     goes e drains there is same =
         ap (λ (b : Bool). at_part Load (moves passes b capacity rate before end)) (sym same ∙ is)
         ∙ sym (by_test ∙ ap (λ (b : Bool). at_part Load (stays_or_moves passes b capacity rate before end)) e)

@@ -49,7 +49,8 @@ level_slope s t run e =
     ∙ ap (λ r. r >>= λ run. checked passes_Q Quotient 0ℚ run) e
     ∙ zero_over run
 
-pub level_paced : (capacity : Option ℚ) (before : lists.Waits) (end : Point) (rate : Option ℚ) → before.time <ℚ end.0 → IsRate rate (before.time, before.amount) end → IfSome rate (λ k. is_zero before.queue ≡ true)
+pub level_paced : (capacity : Option ℚ) (before : lists.Waits) (end : Point) (rate : Option ℚ) → before.time <ℚ end.0
+    → IsRate rate (before.time, before.amount) end → IfSome rate (λ k. is_zero before.queue ≡ true)
     → IsPaced capacity before (level_over end rate)
 level_paced capacity before end None later known empty = tt
 level_paced capacity before end (Some rate) later known empty =
@@ -71,7 +72,8 @@ second_true true b c e f = sym e ∙ f
 second_true false b c e f = absurd (true≢false (sym f ∙ e))
 
 -- ---- a queue that changes at the rate less the capacity
-pub grown_paced : (capacity rate change : ℚ) (before : lists.Waits) (end : Point) (queue : ℚ) → is_wide (bound_of 127) change ≡ false → before.time <ℚ end.0 → checked_slope passes_Q (before.time, before.amount) end ≡ Ok rate
+pub grown_paced : (capacity rate change : ℚ) (before : lists.Waits) (end : Point) (queue : ℚ) → is_wide (bound_of 127) change ≡ false → before.time <ℚ end.0
+    → checked_slope passes_Q (before.time, before.amount) end ≡ Ok rate
     → checked passes_Q Difference rate capacity ≡ Ok change → grown_by passes_Q change before.queue before.time end.0 ≡ Ok queue
     → IsPace (Some capacity) before (record { time = end.0; amount = end.1; queue = queue }) (record { rate = rate; change = change })
 unfolding grown_by
@@ -89,19 +91,23 @@ module _ (part : Part) (passes : Passing) (capacity rate : ℚ) (before : lists.
   abbrev queue_at_end : ℚ → Checked (List lists.Waits)
   queue_at_end change = grown_by passes change before.queue before.time end.0 >>= λ queue. Ok (record { time = end.0; amount = end.1; queue = queue } ∷ [])
 
-  grown_is : lists.grown passes capacity rate before.queue before.time end.0 ≡ (checked passes Difference rate capacity >>= λ change. grown_by passes change before.queue before.time end.0)
+  grown_is : lists.grown passes capacity rate before.queue before.time end.0
+      ≡ (checked passes Difference rate capacity >>= λ change. grown_by passes change before.queue before.time end.0)
   unfolding lists.grown grown_by
   grown_is = refl
 
   pub change_passes : (p : PassedAt ℚ) → at_part part (checked passes Difference rate capacity) ≡ Err p → at_part part (lists.grows passes capacity rate before end) ≡ Err p
   change_passes p e =
       ap (λ (r : Checked ℚ). at_part part (r >>= λ queue. Ok (record { time = end.0; amount = end.1; queue = queue } ∷ []))) grown_is
-      ∙ after_err part (checked passes Difference rate capacity >>= λ change. grown_by passes change before.queue before.time end.0) _ p (after_err part (checked passes Difference rate capacity) _ p e)
+      ∙ after_err part (checked passes Difference rate capacity >>= λ change. grown_by passes change before.queue before.time end.0) _ p
+          (after_err part (checked passes Difference rate capacity) _ p e)
 
-  pub change_goes : (change : ℚ) → at_part part (checked passes Difference rate capacity) ≡ Ok change → at_part part (lists.grows passes capacity rate before end) ≡ at_part part (queue_at_end change)
+  pub change_goes : (change : ℚ) → at_part part (checked passes Difference rate capacity) ≡ Ok change
+      → at_part part (lists.grows passes capacity rate before end) ≡ at_part part (queue_at_end change)
   change_goes change e =
       ap (λ (r : Checked ℚ). at_part part (r >>= λ queue. Ok (record { time = end.0; amount = end.1; queue = queue } ∷ []))) grown_is
-      ∙ ap (λ (r : Checked ℚ). at_part part ((r >>= λ change. grown_by passes change before.queue before.time end.0) >>= λ queue. Ok (record { time = end.0; amount = end.1; queue = queue } ∷ [])))
+      ∙ ap (λ (r : Checked ℚ). at_part part ((r >>= λ change. grown_by passes change before.queue before.time end.0) >>= λ queue. Ok
+          (record { time = end.0; amount = end.1; queue = queue } ∷ [])))
       (was_ok part (checked passes Difference rate capacity) change e)
 
 -- ---- the paces so far, and over one more piece
@@ -120,12 +126,14 @@ module _ (capacity : Option ℚ) (waits : List lists.Waits) (paces : List (Optio
       subst (λ (l : List lists.Waits). Linked (IsPaceIf capacity) l more over.end) (sym e)
       (subst (λ (l : List (Option Pace)). Linked (IsPaceIf capacity) (waits ++ over_list over) l over.end) (sym f) (over_moments over.empty over.end over.pace h))
 
-pub first_pace : (capacity : Option ℚ) (waits : List lists.Waits) (paces : List (Option Pace)) (first : lists.Waits) → waits ≡ first ∷ [] → paces ≡ [] → Linked (IsPaceIf capacity) waits paces first
+pub first_pace : (capacity : Option ℚ) (waits : List lists.Waits) (paces : List (Option Pace)) (first : lists.Waits) → waits ≡ first ∷ [] → paces ≡ []
+    → Linked (IsPaceIf capacity) waits paces first
 first_pace capacity waits paces first e f =
     subst (λ (l : List lists.Waits). Linked (IsPaceIf capacity) l paces first) (sym e) (subst (λ (l : List (Option Pace)). Linked (IsPaceIf capacity) (first ∷ []) l first) (sym f) refl)
 
 -- ---- the slopes of the queue
-pub queue_slopes : (capacity : Option ℚ) (waits : List lists.Waits) (paces : List (Option Pace)) → ArePaces capacity waits paces → AreSlopes (map queue_point waits) (map (option_map change_of) paces)
+pub queue_slopes : (capacity : Option ℚ) (waits : List lists.Waits) (paces : List (Option Pace)) → ArePaces capacity waits paces
+    → AreSlopes (map queue_point waits) (map (option_map change_of) paces)
 queue_slopes capacity = along_map (IsPaceIf capacity) IsRate queue_point (option_map change_of) step
   where
     step : (pace : Option Pace) (x y : lists.Waits) → IsPaceIf capacity pace x y → IsRate (option_map change_of pace) (queue_point x) (queue_point y)

@@ -36,7 +36,8 @@ module _ (passes : Passing) (capacity : Option ℚ) where
   abbrev first_of : ℚ → Point → Waits
   first_of queue p = record { time = p.0; amount = p.1; queue = queue }
 
-  at_first : (xs : List Point) (p : Point) → slice_get xs 0 ≡ Some p → with_front (first_of 0ℚ p ∷ []) (waits_after passes capacity (first_of 0ℚ p) (drop 1 xs)) ≡ all_waits passes capacity xs
+  at_first : (xs : List Point) (p : Point) → slice_get xs 0 ≡ Some p → with_front (first_of 0ℚ p ∷ [])
+      (waits_after passes capacity (first_of 0ℚ p) (drop 1 xs)) ≡ all_waits passes capacity xs
   at_first [] p e = absurd (none-some p e)
   at_first (x ∷ xs) p e =
       let same : p ≡ x = sym (same_Some x p e) in
@@ -94,7 +95,8 @@ later_first (x ∷ xs) p queue curve e = subst (λ (q : Point). TimesRise ((q.0,
 pub later_here : (before : Waits) (xs : List Point) (i : ℕ) (p : Point) → slice_get xs i ≡ Some p → Later before (drop i xs) → before.time <ℚ p.0
 later_here before xs i p e h = let k : Later before (p ∷ drop (suc i) xs) = subst (λ (l : List Point). Later before l) (drop-at xs i p e) h in k.0
 
-pub later_next : (before end : Waits) (xs : List Point) (i next : ℕ) (p : Point) → slice_get xs i ≡ Some p → next ≡ suc i → end.time ≡ p.0 → Later before (drop i xs) → Later end (drop next xs)
+pub later_next : (before end : Waits) (xs : List Point) (i next : ℕ) (p : Point) → slice_get xs i ≡ Some p → next ≡ suc i → end.time ≡ p.0
+    → Later before (drop i xs) → Later end (drop next xs)
 later_next before end xs i next p e n t h =
     let k : Later before (p ∷ drop (suc i) xs) = subst (λ (l : List Point). Later before l) (drop-at xs i p e) h in
     let m : Later end (drop (suc i) xs) = moved p (drop (suc i) xs) end.time end.amount t k.1 in

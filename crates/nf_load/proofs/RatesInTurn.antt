@@ -41,7 +41,8 @@ as_many (p ∷ []) (rate ∷ rates) last h = absurd h
 as_many (p ∷ q ∷ rest) [] last h = absurd h
 as_many (p ∷ q ∷ rest) (rate ∷ rates) last h = let e : length (q ∷ rest) ≡ length rates + 1 = as_many (q ∷ rest) rates last h.1 in omega arith
 
-one_more : (points : List Point) (rates : List ℚ) (p q : Point) (rate : ℚ) → RatesTo points rates p → checked_slope passes_Q p q ≡ Ok rate → RatesTo (points ++ q ∷ []) (rates ++ rate ∷ []) q
+one_more : (points : List Point) (rates : List ℚ) (p q : Point) (rate : ℚ) → RatesTo points rates p → checked_slope passes_Q p q ≡ Ok rate
+    → RatesTo (points ++ q ∷ []) (rates ++ rate ∷ []) q
 one_more [] [] p q rate h s = absurd h
 one_more [] (k ∷ rates) p q rate h s = absurd h
 one_more (x ∷ []) [] p q rate h s = (subst (λ (z : Point). checked_slope passes_Q z q ≡ Ok rate) (sym h) s, refl)
@@ -59,7 +60,8 @@ pub record RatesSoFar (points : List Point) (rates : List ℚ) (so_far rate end 
   pub known : RatesTo points rates last
   pub goes : Goes last so_far rate end
 
-pub first_rates : (points : List Point) (rates : List ℚ) (so_far rate end a b : ℚ) → points ≡ (a, b) ∷ [] → rates ≡ [] → a ≡ 0ℚ → b ≡ 0ℚ → so_far ≡ 0ℚ → rate ≡ 0ℚ → RatesSoFar points rates so_far rate end
+pub first_rates : (points : List Point) (rates : List ℚ) (so_far rate end a b : ℚ) → points ≡ (a, b) ∷ [] → rates ≡ [] → a ≡ 0ℚ → b ≡ 0ℚ → so_far ≡ 0ℚ
+    → rate ≡ 0ℚ → RatesSoFar points rates so_far rate end
 first_rates points rates so_far rate end a b is none a_0 b_0 s r = record {
   last = (0ℚ, 0ℚ);
   known = subst (λ (l : List Point). RatesTo l rates (0ℚ, 0ℚ)) (sym is) (subst (λ (l : List ℚ). RatesTo ((a, b) ∷ []) l (0ℚ, 0ℚ)) (sym none) (λ i. (a_0 i, b_0 i)));
@@ -110,7 +112,8 @@ get_dropped (x ∷ y ∷ rest) zero p e = e
 get_dropped (x ∷ rest) (suc i) p e = get_dropped rest i p e
 
 -- the rates after a piece that starts before the last time
-pub next_rates : (pieces : List Piece) (i next : ℕ) (piece : Piece) (last so_far sum : ℚ) (new : List Point) (more : List ℚ) → ArePieces pieces → slice_get pieces i ≡ Some piece → next ≡ suc i
+pub next_rates : (pieces : List Piece) (i next : ℕ) (piece : Piece) (last so_far sum : ℚ) (new : List Point) (more : List ℚ) → ArePieces pieces
+    → slice_get pieces i ≡ Some piece → next ≡ suc i
     → lt_ℚ piece.start last ≡ true → is_wide (bound_of 127) piece.rate ≡ false → with_piece passes_Q so_far piece (end_of (drop next pieces) last) ≡ Ok sum
     → RatesTo new more (piece.start, so_far) → RatesSoFar new more sum piece.rate (end_of (drop next pieces) last)
 next_rates pieces i next piece last so_far sum new more are at n t narrow e known =
@@ -126,7 +129,8 @@ next_rates pieces i next piece last so_far sum new more are at n t narrow e know
     }
 
 -- ---- the rate over a piece of the inflow
-pub rate_there : (points : List Point) (rates : List ℚ) (i : ℕ) (p q : Point) → AreRates points rates → slice_get points i ≡ Some p → slice_get points (suc i) ≡ Some q → IsRate (slice_get rates i) p q
+pub rate_there : (points : List Point) (rates : List ℚ) (i : ℕ) (p q : Point) → AreRates points rates → slice_get points i ≡ Some p
+    → slice_get points (suc i) ≡ Some q → IsRate (slice_get rates i) p q
 rate_there points [] zero p q h e f = tt
 rate_there points [] (suc i) p q h e f = tt
 rate_there [] (rate ∷ rates) i p q h e f = absurd h

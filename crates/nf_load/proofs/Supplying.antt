@@ -53,7 +53,8 @@ module _ (passes : Passing) where
       go (Ok ys) = refl
       go (Err p) = refl
 
-  pub begins_with : (pieces : List Piece) (last so_far a b : ℚ) (front : List Point) → so_far ≡ 0ℚ → a ≡ 0ℚ → b ≡ 0ℚ → front ≡ (a, b) ∷ [] → with_front front (cumulative_from passes so_far pieces last) ≡ checked_cumulative passes pieces last
+  pub begins_with : (pieces : List Piece) (last so_far a b : ℚ) (front : List Point) → so_far ≡ 0ℚ → a ≡ 0ℚ → b ≡ 0ℚ → front ≡ (a, b) ∷ []
+      → with_front front (cumulative_from passes so_far pieces last) ≡ checked_cumulative passes pieces last
   begins_with pieces last so_far a b front s e f g =
       ap (λ (l : List Point). with_front l (cumulative_from passes so_far pieces last)) (g ∙ ap (λ (x : ℚ). (x, b) ∷ []) e ∙ ap (λ (y : ℚ). (0ℚ, y) ∷ []) f)
       ∙ ap (λ (x : ℚ). with_front ((0ℚ, 0ℚ) ∷ []) (cumulative_from passes x pieces last)) s
@@ -85,7 +86,8 @@ module _ (passes : Passing) where
           ∙ ap (λ (r : Checked ℚ). with_front front (by_sum r)) (was_ok part (with_piece passes so_far piece (end_of later last)) sum e)
           ∙ more (cumulative_from passes sum later last)) ∙ so
         where
-          more : (r : Checked (List Point)) → with_front front (r >>= λ rest. Ok (point_if_after_0 piece.start so_far ++ rest)) ≡ with_front (front ++ point_if_after_0 piece.start so_far) r
+          more : (r : Checked (List Point)) → with_front front (r >>= λ rest. Ok (point_if_after_0 piece.start so_far ++ rest)) ≡ with_front
+              (front ++ point_if_after_0 piece.start so_far) r
           more (Ok ys) = ap (λ (l : List Point). Ok l) (sym (append_assoc front (point_if_after_0 piece.start so_far) ys))
           more (Err p) = refl
 
@@ -112,7 +114,8 @@ module _ (passes : Passing) (part : Part) (front : List Point) (so_far last : �
       → with_front (front ++ point_if_after_0 piece.start so_far) (cumulative_from passes sum (drop next pieces) last) ≡ checked_cumulative passes pieces last
   goes_on_at sum f e = goes_on passes part front so_far last (checked_cumulative passes pieces last) piece (drop next pieces) from_here sum f e
 
-  pub stops_at : (p : PassedAt ℚ) → lt_ℚ piece.start last ≡ true → at_part part (with_piece passes so_far piece (end_of (drop next pieces) last)) ≡ Err p → at_part part (checked_cumulative passes pieces last) ≡ Err p
+  pub stops_at : (p : PassedAt ℚ) → lt_ℚ piece.start last ≡ true → at_part part (with_piece passes so_far piece (end_of (drop next pieces) last)) ≡ Err p
+      → at_part part (checked_cumulative passes pieces last) ≡ Err p
   stops_at p f e = stops passes part front so_far last (checked_cumulative passes pieces last) piece (drop next pieces) from_here p f e
 
 pub within_next : (i n : ℕ) → i < n → i + 1 ≤ n

@@ -78,7 +78,8 @@ module _ (passes : Passing) (f : ℚ → ℚ) (last : ℚ) where
       let d = then_ok (checked passes Difference end piece.start) _ y e in
       let p = then_ok (checked passes Product piece.rate d.between) _ y d.next in
       checked-is passes Sum so_far p.between y p.next
-      ∙ ap (λ (x : ℚ). so_far +ℚ x) (checked-is passes Product piece.rate d.between p.between p.first ∙ ap (λ (x : ℚ). piece.rate *ℚ x) (checked-is passes Difference end piece.start d.between d.first))
+      ∙ ap (λ (x : ℚ). so_far +ℚ x) (checked-is passes Product piece.rate d.between p.between p.first
+          ∙ ap (λ (x : ℚ). piece.rate *ℚ x) (checked-is passes Difference end piece.start d.between d.first))
 
   -- the amount supplied by then and the remaining pieces make the whole amount
   abbrev GoesOn : ℚ → List Piece → Type 0
@@ -92,7 +93,8 @@ module _ (passes : Passing) (f : ℚ → ℚ) (last : ℚ) where
       let n : NextFrom later t = next_up_to later t (end_of later last) j (end_next later last) in
       so_much so_far piece.rate _ _ (f t) t piece.start (time_in-up_to piece.start later t i n) (supplied-none later t (StartsRise-rest piece later s) n) (on t i)
 
-  next_goes_on : (so_far sum : ℚ) (piece : Piece) (later : List Piece) → StartsRise (piece ∷ later) → GoesOn so_far (piece ∷ later) → piece.start ≤ℚ last → sum ≡ so_far +ℚ piece.rate *ℚ (end_of later last -ℚ piece.start)
+  next_goes_on : (so_far sum : ℚ) (piece : Piece) (later : List Piece) → StartsRise (piece ∷ later) → GoesOn so_far (piece ∷ later) → piece.start ≤ℚ last
+      → sum ≡ so_far +ℚ piece.rate *ℚ (end_of later last -ℚ piece.start)
       → ((next : Piece) (rest : List Piece) → later ≡ next ∷ rest → next.start ≤ℚ last) → GoesOn sum later
   next_goes_on so_far sum piece [] s on h e k = tt
   next_goes_on so_far sum piece (next ∷ rest) s on h e k = λ t i.
@@ -111,7 +113,8 @@ module _ (passes : Passing) (f : ℚ → ℚ) (last : ℚ) where
       start (p ∷ rest) = p.start
 
   -- from a point on, up to the end of the piece in which it lies
-  from_point : (p : Point) (k so_far : ℚ) (pieces : List Piece) (points : List Point) → f p.0 ≡ p.1 → 0ℚ ≤ℚ p.0 → p.0 <ℚ end_of pieces last → IsAffine f p.0 (end_of pieces last) k → f (end_of pieces last) ≡ so_far
+  from_point : (p : Point) (k so_far : ℚ) (pieces : List Piece) (points : List Point) → f p.0 ≡ p.1 → 0ℚ ≤ℚ p.0 → p.0 <ℚ end_of pieces last
+      → IsAffine f p.0 (end_of pieces last) k → f (end_of pieces last) ≡ so_far
       → StartsRise pieces → Goes so_far pieces → cumulative_from passes so_far pieces last ≡ Ok points → FollowsFrom f last p points
   from_point p k so_far [] points at n h line e s on g =
       subst (λ (l : List Point). FollowsFrom f last p l) (sym (after_0 last so_far (zero_lt p.0 last n h)) ∙ same_Ok _ _ g) (goes k at h line (ends e refl))
@@ -140,7 +143,8 @@ module _ (passes : Passing) (f : ℚ → ℚ) (last : ℚ) where
       (λ q. next_goes_on so_far sum.between piece later s goes_on (≤ℚ_of_lt _ _ w.1) sum_is q) rest.first)))
       (λ (w : (lt_ℚ piece.start last ≡ false) × (last ≤ℚ piece.start)).
       let here : end_of (piece ∷ later) last ≡ last = min_is_right piece.start last w.1 in
-      subst (λ (l : List Point). FollowsFrom f last p l) (sym (after_0 last so_far (zero_lt p.0 last n (subst (λ (x : ℚ). p.0 <ℚ x) here h))) ∙ cumulative_done passes so_far piece later last points w.0 g)
+      subst (λ (l : List Point). FollowsFrom f last p l) (sym (after_0 last so_far (zero_lt p.0 last n (subst (λ (x : ℚ). p.0 <ℚ x) here h)))
+          ∙ cumulative_done passes so_far piece later last points w.0 g)
       (goes k at (subst (λ (x : ℚ). p.0 <ℚ x) here h) (subst (λ (x : ℚ). IsAffine f p.0 x k) here line) (ends (subst (λ (x : ℚ). f x ≡ so_far) here e) refl)))
       (lt_ℚ_cases piece.start last)
     where
@@ -184,7 +188,8 @@ module _ (passes : Passing) (pieces : List Piece) (last : ℚ) (good : ArePieces
   later_start points h g = from_point passes (λ t. supplied pieces t) last (0ℚ, 0ℚ) 0ℚ 0ℚ pieces points begins_0 (≤ℚ_refl 0ℚ) h (none_up_to (end_of pieces last) (end_next pieces last))
       (supplied-none pieces (end_of pieces last) (StartsRise-pieces pieces good) (end_next pieces last)) (StartsRise-pieces pieces good) (λ _. goes_from_0 pieces refl) g
 
-  at_start : (piece : Piece) (later : List Piece) (points : List Point) → piece ∷ later ≡ pieces → piece.start ≡ 0ℚ → 0ℚ <ℚ last → cumulative_from passes 0ℚ (piece ∷ later) last ≡ Ok points
+  at_start : (piece : Piece) (later : List Piece) (points : List Point) → piece ∷ later ≡ pieces → piece.start ≡ 0ℚ → 0ℚ <ℚ last
+      → cumulative_from passes 0ℚ (piece ∷ later) last ≡ Ok points
       → FollowsFrom (λ t. supplied pieces t) last (0ℚ, 0ℚ) points
   at_start piece later points e z h g = ⊎_elim
       (λ (w : (lt_ℚ piece.start last ≡ true) × (piece.start <ℚ last)).
@@ -213,7 +218,8 @@ module _ (passes : Passing) (pieces : List Piece) (last : ℚ) (good : ArePieces
   from_start : (l : List Piece) (points : List Point) → l ≡ pieces → 0ℚ <ℚ last → cumulative_from passes 0ℚ l last ≡ Ok points → FollowsFrom (λ t. supplied pieces t) last (0ℚ, 0ℚ) points
   from_start [] points e h g = later_start points (subst (λ (l : List Piece). 0ℚ <ℚ end_of l last) e h) (ap (λ (l : List Piece). cumulative_from passes 0ℚ l last) (sym e) ∙ g)
   from_start (piece ∷ later) points e h g = ⊎_elim
-      (λ (l : 0ℚ <ℚ piece.start). later_start points (subst (λ (l : List Piece). 0ℚ <ℚ end_of l last) e (both piece.start last l h)) (ap (λ (l : List Piece). cumulative_from passes 0ℚ l last) (sym e) ∙ g))
+      (λ (l : 0ℚ <ℚ piece.start). later_start points (subst (λ (l : List Piece). 0ℚ <ℚ end_of l last) e (both piece.start last l h))
+          (ap (λ (l : List Piece). cumulative_from passes 0ℚ l last) (sym e) ∙ g))
       (λ (l : piece.start ≤ℚ 0ℚ). at_start piece later points e (≤ℚ_antisymm _ _ l (starts_nn (piece ∷ later) piece later e refl)) h g)
       (lt_or_le_ℚ 0ℚ piece.start)
     where
@@ -227,7 +233,8 @@ module _ (passes : Passing) (pieces : List Piece) (last : ℚ) (good : ArePieces
       (λ (w : (lt_ℚ piece.start last ≡ true) × (piece.start <ℚ last)).
       absurd (not_both_ℚ piece.start last w.1 (subst (λ (x : ℚ). x ≤ℚ piece.start) (sym z) (starts_nn (piece ∷ later) piece later e refl))))
       (λ (w : (lt_ℚ piece.start last ≡ false) × (last ≤ℚ piece.start)).
-      subst (λ (l : List Point). FollowsFrom (λ t. supplied pieces t) last (0ℚ, 0ℚ) l) (sym (at_0 last 0ℚ z) ∙ cumulative_done passes 0ℚ piece later last points w.0 g) (ends begins_0 (sym z)))
+      subst (λ (l : List Point). FollowsFrom (λ t. supplied pieces t) last (0ℚ, 0ℚ) l)
+          (sym (at_0 last 0ℚ z) ∙ cumulative_done passes 0ℚ piece later last points w.0 g) (ends begins_0 (sym z)))
       (lt_ℚ_cases piece.start last)
 
   -- if no operation passes, the curve is the amount supplied by the pieces up to the last time

@@ -73,7 +73,8 @@ pub value-last : (front : List (ℚ × ℚ)) (p : ℚ × ℚ) (t : ℚ) → Time
 value-last front p t r h = value-rest front p [] t r h
 
 -- up to a point, the points after it don't matter
-pub value-front : (front : List (ℚ × ℚ)) (x p : ℚ × ℚ) (rest : List (ℚ × ℚ)) (t : ℚ) → TimesRise (x ∷ front ++ p ∷ rest) → t ≤ℚ p.0 → value (x ∷ front ++ p ∷ rest) t ≡ value (x ∷ front ++ p ∷ []) t
+pub value-front : (front : List (ℚ × ℚ)) (x p : ℚ × ℚ) (rest : List (ℚ × ℚ)) (t : ℚ) → TimesRise (x ∷ front ++ p ∷ rest) → t ≤ℚ p.0
+    → value (x ∷ front ++ p ∷ rest) t ≡ value (x ∷ front ++ p ∷ []) t
 value-front [] x p rest t r h = value-line x p rest t r h ∙ sym (value-line x p [] t (r.0, tt) h)
 value-front (y ∷ front) x p rest t r h = by_first x y (front ++ p ∷ rest) t
     (λ k e. e ∙ sym (value-before x y (front ++ p ∷ []) t k))
@@ -149,8 +150,10 @@ value-rises p (q ∷ rest) s t r v h k = by_first p q rest s
     (λ a d. by_first p q rest t
     (λ b e. line_rises p.0 p.1 s t (slope p q) _ _ k (nn-slope p.0 p.1 q.0 q.1 r.0 v.0) d e)
     (λ b e. subst (λ (y : ℚ). value (p ∷ q ∷ rest) s ≤ℚ y) (sym e)
-    (≤ℚ_trans _ _ _ (line_rises p.0 p.1 s q.0 (slope p q) _ q.1 (≤ℚ_of_lt _ _ a) (nn-slope p.0 p.1 q.0 q.1 r.0 v.0) d (sym (line_end p.0 p.1 q.0 q.1 (slope p q) (slope-times p q r.0)))) (value-floor q rest t r.1 v.1 b))))
-    (λ a d. subst (λ (y : ℚ). y ≤ℚ value (p ∷ q ∷ rest) t) (sym d) (subst (λ (y : ℚ). value (q ∷ rest) s ≤ℚ y) (sym (value-after p q rest t (≤ℚ_trans _ _ _ a k))) (value-rises q rest s t r.1 v.1 a k)))
+    (≤ℚ_trans _ _ _ (line_rises p.0 p.1 s q.0 (slope p q) _ q.1 (≤ℚ_of_lt _ _ a) (nn-slope p.0 p.1 q.0 q.1 r.0 v.0) d
+        (sym (line_end p.0 p.1 q.0 q.1 (slope p q) (slope-times p q r.0)))) (value-floor q rest t r.1 v.1 b))))
+    (λ a d. subst (λ (y : ℚ). y ≤ℚ value (p ∷ q ∷ rest) t) (sym d) (subst (λ (y : ℚ). value (q ∷ rest) s ≤ℚ y)
+        (sym (value-after p q rest t (≤ℚ_trans _ _ _ a k))) (value-rises q rest s t r.1 v.1 a k)))
 
 pub NeverFalls-value : (points : List (ℚ × ℚ)) → IsCurve points → ValuesRise points → NeverFalls (value points)
 NeverFalls-value [] c v s t h k = absurd c
@@ -202,7 +205,8 @@ value-takes p (q ∷ rest) t y r h k l = ⊎_elim
     later w = (w.0, ≤ℚ_trans _ _ _ (≤ℚ_of_lt _ _ r.0) w.1, w.2, value-after p q rest w.0 w.1 ∙ w.3)
 
 -- A curve attains each value between two of its values.
-pub value-takes_between : (points : List (ℚ × ℚ)) (last y : ℚ) → IsCurve points → 0ℚ ≤ℚ last → value points 0ℚ ≤ℚ y → y ≤ℚ value points last → (u : ℚ) × Within 0ℚ last u × (value points u ≡ y)
+pub value-takes_between : (points : List (ℚ × ℚ)) (last y : ℚ) → IsCurve points → 0ℚ ≤ℚ last → value points 0ℚ ≤ℚ y → y ≤ℚ value points last
+    → (u : ℚ) × Within 0ℚ last u × (value points u ≡ y)
 value-takes_between [] last y c h i j = absurd c
 value-takes_between (p ∷ rest) last y c h i j =
     let w : (u : ℚ) × (p.0 ≤ℚ u) × (u ≤ℚ last) × (value (p ∷ rest) u ≡ y) = value-takes p rest last y c.1 (subst (λ (z : ℚ). z ≤ℚ last) (sym c.0) h)
@@ -240,20 +244,25 @@ pub EndsAt-push : (points : List (ℚ × ℚ)) (p q : ℚ × ℚ) → EndsAt poi
 EndsAt-push points p q e h = record {
   front = points;
   same = refl;
-  curve = subst (λ (l : List (ℚ × ℚ)). IsCurve l) (sym (append_one e.front p q) ∙ ap (λ (l : List (ℚ × ℚ)). l ++ q ∷ []) (sym e.same)) (IsCurve-push e.front p q (subst (λ (l : List (ℚ × ℚ)). IsCurve l) e.same e.curve) h);
+  curve =
+      subst (λ (l : List (ℚ × ℚ)). IsCurve l) (sym (append_one e.front p q) ∙ ap (λ (l : List (ℚ × ℚ)). l ++ q ∷ []) (sym e.same))
+      (IsCurve-push e.front p q (subst (λ (l : List (ℚ × ℚ)). IsCurve l) e.same e.curve) h);
 }
 
 pub EndsAt-push_line : (points : List (ℚ × ℚ)) (p q : ℚ × ℚ) (t : ℚ) → EndsAt points p → p.0 <ℚ q.0 → p.0 ≤ℚ t → t ≤ℚ q.0 → value (points ++ q ∷ []) t ≡ p.1 +ℚ slope p q *ℚ (t -ℚ p.0)
 EndsAt-push_line points p q t e h k l = ap (λ (l : List (ℚ × ℚ)). value (l ++ q ∷ []) t) e.same ∙ value-push_piece e.front p q t (rises_at points e.front p e.same e.curve) h k l
 
-pub value-append_before : (front : List (ℚ × ℚ)) (p q : ℚ × ℚ) (t : ℚ) → IsCurve (front ++ p ∷ []) → p.0 <ℚ q.0 → 0ℚ ≤ℚ t → t ≤ℚ p.0 → value ((front ++ p ∷ []) ++ q ∷ []) t ≡ value (front ++ p ∷ []) t
+pub value-append_before : (front : List (ℚ × ℚ)) (p q : ℚ × ℚ) (t : ℚ) → IsCurve (front ++ p ∷ []) → p.0 <ℚ q.0 → 0ℚ ≤ℚ t → t ≤ℚ p.0
+    → value ((front ++ p ∷ []) ++ q ∷ []) t ≡ value (front ++ p ∷ []) t
 value-append_before [] p q t c h i k =
-    value-line p q [] t (h, tt) (≤ℚ_trans _ _ _ k (≤ℚ_of_lt _ _ h)) ∙ subst (λ (u : ℚ). p.1 +ℚ slope p q *ℚ (u -ℚ p.0) ≡ p.1) (≤ℚ_antisymm _ _ (subst (λ (z : ℚ). z ≤ℚ t) (sym c.0) i) k) (line_start p.0 p.1 (slope p q))
+    value-line p q [] t (h, tt) (≤ℚ_trans _ _ _ k (≤ℚ_of_lt _ _ h)) ∙ subst (λ (u : ℚ). p.1 +ℚ slope p q *ℚ (u -ℚ p.0) ≡ p.1)
+        (≤ℚ_antisymm _ _ (subst (λ (z : ℚ). z ≤ℚ t) (sym c.0) i) k) (line_start p.0 p.1 (slope p q))
 value-append_before (x ∷ front) p q t c h i k = value-push_before front x p q t c.1 h k
 
 pub EndsAt-push_before : (points : List (ℚ × ℚ)) (p q : ℚ × ℚ) (t : ℚ) → EndsAt points p → p.0 <ℚ q.0 → 0ℚ ≤ℚ t → t ≤ℚ p.0 → value (points ++ q ∷ []) t ≡ value points t
 EndsAt-push_before points p q t e h i k =
-    ap (λ (l : List (ℚ × ℚ)). value (l ++ q ∷ []) t) e.same ∙ value-append_before e.front p q t (subst (λ (l : List (ℚ × ℚ)). IsCurve l) e.same e.curve) h i k ∙ sym (ap (λ (l : List (ℚ × ℚ)). value l t) e.same)
+    ap (λ (l : List (ℚ × ℚ)). value (l ++ q ∷ []) t) e.same ∙ value-append_before e.front p q t
+        (subst (λ (l : List (ℚ × ℚ)). IsCurve l) e.same e.curve) h i k ∙ sym (ap (λ (l : List (ℚ × ℚ)). value l t) e.same)
 
 -- ---- the same for a curve as it stands
 pub IsCurve-append : (front : List (ℚ × ℚ)) (p q : ℚ × ℚ) → IsCurve (front ++ p ∷ []) → p.0 <ℚ q.0 → IsCurve ((front ++ p ∷ []) ++ q ∷ [])

@@ -36,7 +36,8 @@ pub record IsFirst (hops : List Hop) (source : ℕ) (Cross : ℕ → ℚ → ℚ
   pub taken : (walk : List ℕ) × IsWalk hops walk source v × Comes Cross walk departure arrival
   pub least : (walk : List ℕ) (other : ℚ) → IsWalk hops walk source v → Comes Cross walk departure other → arrival ≤ℚ other
 
-Comes-append : (Cross : ℕ → ℚ → ℚ → Type 0) (walk : List ℕ) (e : ℕ) (time between exit : ℚ) → Comes Cross walk time between → Cross e between exit → Comes Cross (walk ++ e ∷ []) time exit
+Comes-append : (Cross : ℕ → ℚ → ℚ → Type 0) (walk : List ℕ) (e : ℕ) (time between exit : ℚ) → Comes Cross walk time between → Cross e between exit
+    → Comes Cross (walk ++ e ∷ []) time exit
 Comes-append Cross [] e time between exit c p = (exit, subst (λ (t : ℚ). Cross e t exit) (sym c) p, refl)
 Comes-append Cross (f ∷ walk) e time between exit c p = (c.0, c.1, Comes-append Cross walk e c.0 between exit c.2 p)
 
@@ -45,7 +46,8 @@ abbrev LastHop : List Hop → (ℕ → ℚ → ℚ → Type 0) → ℕ → ℕ �
 LastHop hops Cross u v time arrival =
     (e : ℕ) × (hop : Hop) × (front : List ℕ) × (between : ℚ) × IsHop hops e hop × (hop.head ≡ v) × IsWalk hops front u hop.tail × Comes Cross front time between × Cross e between arrival
 
-last_hop : (hops : List Hop) (Cross : ℕ → ℚ → ℚ → Type 0) (e : ℕ) (walk : List ℕ) (u v : ℕ) (time arrival : ℚ) → IsWalk hops (e ∷ walk) u v → Comes Cross (e ∷ walk) time arrival → LastHop hops Cross u v time arrival
+last_hop : (hops : List Hop) (Cross : ℕ → ℚ → ℚ → Type 0) (e : ℕ) (walk : List ℕ) (u v : ℕ) (time arrival : ℚ) → IsWalk hops (e ∷ walk) u v
+    → Comes Cross (e ∷ walk) time arrival → LastHop hops Cross u v time arrival
 last_hop hops Cross e [] u v time arrival w c = (e, w.0, [], time, w.1, w.3, sym w.2, refl, subst (λ (t : ℚ). Cross e time t) c.2 c.1)
 last_hop hops Cross e (f ∷ walk) u v time arrival w c =
     let r : LastHop hops Cross w.0.head v c.0 arrival = last_hop hops Cross f walk w.0.head v c.0 arrival w.3 c.2 in
@@ -123,7 +125,8 @@ module _ (hops : List Hop) (nodes source : ℕ) (Cross : ℕ → ℚ → ℚ →
         subst (λ (u : ℕ). Way u v) r.1 r.2
 
     not_before : (v : ℕ) → v < nodes → label source ≤ℚ label v
-    not_before v h = let w : Way source v = tight_way v h in walks_forward hops nodes Cross good can w.0 source v (label source) (label v) (IsTight-walk w.0 source v w.1) (IsTight-comes w.0 source v w.1)
+    not_before v h = let w : Way source v = tight_way v h in walks_forward hops nodes Cross good can w.0 source v (label source) (label v)
+        (IsTight-walk w.0 source v w.1) (IsTight-comes w.0 source v w.1)
 
     -- who enters a hop no earlier than its tail's label leaves it no earlier than its head's
     one_hop : (e : ℕ) (hop : Hop) (a x : ℚ) → IsHop hops e hop → label hop.tail ≤ℚ a → Cross e a x → label hop.head ≤ℚ x
@@ -169,7 +172,8 @@ module _ (hops : List Hop) (nodes source : ℕ) (Cross : ℕ → ℚ → ℚ →
     by_last v other (e, hop, front, between, p, at, w, c, x) =
         let before : label hop.tail ≤ℚ between = (first hop.tail (good.tails e hop p)).least front between w c in
         let o : (exit : ℚ) × Cross e (label hop.tail) exit = exits e hop p (subst (λ (k : ℕ). k ≢ source) (sym at) other) in
-        let same : o.0 ≡ label hop.head = ≤ℚ_antisymm _ _ (subst (λ (k : ℕ). o.0 ≤ℚ label k) (sym at) (can.keeps e hop (label hop.tail) between o.0 (label v) p before o.1 x)) (over_hop e hop o.0 p o.1) in
+        let same : o.0 ≡ label hop.head = ≤ℚ_antisymm _ _ (subst (λ (k : ℕ). o.0 ≤ℚ label k) (sym at)
+            (can.keeps e hop (label hop.tail) between o.0 (label v) p before o.1 x)) (over_hop e hop o.0 p o.1) in
         (e, hop, p, at, subst (λ (t : ℚ). Cross e (label hop.tail) t) same o.1)
 
     by_walk : (v : ℕ) → v ≢ source → (walk : List ℕ) → IsWalk hops walk source v → Comes Cross walk departure (label v) → Entry v

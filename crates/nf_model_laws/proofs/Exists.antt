@@ -48,7 +48,8 @@ HasExit-curve transit capacity points time c h =
 back_on : (time transit : ℚ) → time ≡ time -ℚ transit +ℚ transit
 back_on time transit = linear_eq (time ∷ transit ∷ []) [] (search reading_of) tt tt
 
-pub HasOutflow-curve : (transit : ℚ) (capacity : Option ℚ) (points : List (ℚ × ℚ)) (time : ℚ) → IsCurve points → 0ℚ ≤ℚ time → (out : ℚ) × IsOutflow transit capacity (value points) time out
+pub HasOutflow-curve : (transit : ℚ) (capacity : Option ℚ) (points : List (ℚ × ℚ)) (time : ℚ) → IsCurve points → 0ℚ ≤ℚ time
+    → (out : ℚ) × IsOutflow transit capacity (value points) time out
 HasOutflow-curve transit capacity points time c h = ⊎_elim
     (λ (l : time <ℚ transit). (0ℚ, IsOutflow-early transit capacity (value points) time l))
     (λ (l : transit ≤ℚ time).

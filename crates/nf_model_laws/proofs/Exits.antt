@@ -50,7 +50,8 @@ no_wait t r x e = linear_eq (t ∷ r ∷ x ∷ []) (eq e ∷ []) (search reading
 wait_first : (t r w x : ℚ) → x ≡ t +ℚ r +ℚ w → x ≡ (t +ℚ w) +ℚ r
 wait_first t r w x e = linear_eq (t ∷ r ∷ w ∷ x ∷ []) (eq e ∷ []) (search reading_of) tt tt
 
-pub IsOutflow-at_exit : (transit : ℚ) (capacity : Option ℚ) (amount : ℚ → ℚ) (time exit : ℚ) → IsPositive capacity → NeverFalls amount → 0ℚ ≤ℚ time → IsExit transit capacity amount time exit
+pub IsOutflow-at_exit : (transit : ℚ) (capacity : Option ℚ) (amount : ℚ → ℚ) (time exit : ℚ) → IsPositive capacity → NeverFalls amount → 0ℚ ≤ℚ time
+    → IsExit transit capacity amount time exit
     → IsOutflow transit capacity amount exit (amount time)
 IsOutflow-at_exit transit None amount time exit c rises h p =
     subst (λ (y : ℚ). IsOutflow transit None amount exit y) (less_zero (amount time) p.queue (p.is_queue.unbounded refl))

@@ -70,7 +70,9 @@ module _ (transit slope rate out_rate horizon arrival amount : ℚ) (h : 0ℚ <�
       by_product p e = linear_lt (transit ∷ slope ∷ horizon ∷ arrival ∷ []) (lt p ∷ eq e ∷ []) (search reading_of) tt
 
   last_rise : amount ≡ 0ℚ +ℚ out_rate *ℚ (arrival -ℚ transit)
-  last_rise = linear_eq (transit ∷ slope ∷ rate ∷ out_rate ∷ horizon ∷ arrival ∷ amount ∷ []) (eq enters ∷ eq_times horizon each ∷ eq_times out_rate arrives ∷ []) (search reading_of) tt tt
+  last_rise =
+      linear_eq (transit ∷ slope ∷ rate ∷ out_rate ∷ horizon ∷ arrival ∷ amount ∷ []) (eq enters ∷ eq_times horizon each ∷ eq_times out_rate arrives ∷ [])
+      (search reading_of) tt tt
 
   arrival_in : (t : ℚ) → Within 0ℚ horizon t → Within transit arrival (transit +ℚ slope *ℚ t)
   arrival_in t w = (
@@ -146,7 +148,9 @@ module _ (transit : ℚ) (capacity : Option ℚ) (later : List Piece) (rate slop
 
   pub Equilibrium-steady : 0ℚ ≤ℚ transit → IsPositive capacity → ArePieces (at_rate rate later) → NotBefore horizon later → IsState capacity rate slope gain
       → Equilibrium (one_link transit capacity (at_rate rate later)) flow
-  Equilibrium-steady l c p alone state = Equilibrium-one_link transit capacity (at_rate rate later) flow l c p (FillsLink-steady transit capacity later rate slope gain flow c p state IsSteady-points alone)
+  Equilibrium-steady l c p alone state =
+      Equilibrium-one_link transit capacity (at_rate rate later) flow l c p
+      (FillsLink-steady transit capacity later rate slope gain flow c p state IsSteady-points alone)
 
 -- ---- full
 pub Equilibrium-full : (transit capacity rate horizon arrival amount waits : ℚ) (later : List Piece) (trace : Trace)

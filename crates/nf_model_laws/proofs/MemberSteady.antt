@@ -32,7 +32,8 @@ nothing_between rate later horizon time alone h (suc i) piece p after = ≤ℚ_t
 from_none : (r t s u m : ℚ) → s ≡ u +ℚ m *ℚ (t -ℚ 0ℚ) → u ≡ 0ℚ → m ≡ r → s ≡ r *ℚ t
 from_none r t s u m e f g = linear_eq (r ∷ t ∷ s ∷ u ∷ m ∷ []) (eq e ∷ eq f ∷ eq_times t g ∷ []) (search reading_of) tt tt
 
-pub supplied-at_rate : (rate : ℚ) (later : List Piece) (horizon time : ℚ) → ArePieces (at_rate rate later) → NotBefore horizon later → Within 0ℚ horizon time → supplied (at_rate rate later) time ≡ rate *ℚ time
+pub supplied-at_rate : (rate : ℚ) (later : List Piece) (horizon time : ℚ) → ArePieces (at_rate rate later) → NotBefore horizon later
+    → Within 0ℚ horizon time → supplied (at_rate rate later) time ≡ rate *ℚ time
 supplied-at_rate rate later horizon time pieces alone w =
     from_none rate time _ (supplied (at_rate rate later) 0ℚ) _ (supplied-goes_on (at_rate rate later) 0ℚ time pieces w.0 (nothing_between rate later horizon time alone w.1))
     (supplied-begins (at_rate rate later) pieces) (first_rate rate later pieces)
@@ -107,7 +108,8 @@ module _ (transit : ℚ) (capacity : Option ℚ) (later : List Piece) (rate slop
       let e : d *ℚ slope ≡ t -ℚ transit = quotient-times (t -ℚ transit) slope state.slope_ps in
       let w : Within 0ℚ flow.reached d = (
         le_from_times slope 0ℚ d state.slope_ps (departs_after transit slope t d e h),
-        le_from_times slope d flow.reached state.slope_ps (departs_by transit slope t d flow.reached e (subst (λ (l : ℚ). t ≤ℚ l) (steady.sink flow.reached (steady.begins, ≤ℚ_refl flow.reached)) k)),
+        le_from_times slope d flow.reached state.slope_ps (departs_by transit slope t d flow.reached e
+            (subst (λ (l : ℚ). t ≤ℚ l) (steady.sink flow.reached (steady.begins, ≤ℚ_refl flow.reached)) k)),
       ) in
       let at : transit +ℚ slope *ℚ d ≡ t = arrives transit slope t d e in
       subst (λ (s : ℚ). IsOutflow transit capacity amount s (outflow flow 0 s)) at

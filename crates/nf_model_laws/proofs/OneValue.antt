@@ -23,7 +23,8 @@ one_more y = linear_lt (y ∷ []) [] (search reading_of) tt
 pub IsExtension-ends : (net : Network) (slacks slopes : List ℚ) (time y : ℚ) → IsExtension net slacks slopes time y → IsUnending net slacks slopes time → ⊥
 IsExtension-ends net slacks slopes time y p u = not_both_ℚ y (y +ℚ 1ℚ) (one_more y) (p.greatest (y +ℚ 1ℚ) (u (y +ℚ 1ℚ) (nn_plus_one y p.lasts.not_negative)))
 
-pub IsPhaseLength-unique : (net : Network) (slacks slopes : List ℚ) (time horizon y z : ℚ) → IsPhaseLength net slacks slopes time horizon y → IsPhaseLength net slacks slopes time horizon z → y ≡ z
+pub IsPhaseLength-unique : (net : Network) (slacks slopes : List ℚ) (time horizon y z : ℚ) → IsPhaseLength net slacks slopes time horizon y
+    → IsPhaseLength net slacks slopes time horizon z → y ≡ z
 IsPhaseLength-unique net slacks slopes time horizon y z (inl p) (inl q) = p.2 ∙ ap (min_ℚ (horizon -ℚ time)) (IsExtension-unique net slacks slopes time p.0 q.0 p.1 q.1) ∙ sym q.2
 IsPhaseLength-unique net slacks slopes time horizon y z (inl p) (inr q) = absurd (IsExtension-ends net slacks slopes time p.0 p.1 q.0)
 IsPhaseLength-unique net slacks slopes time horizon y z (inr p) (inl q) = absurd (IsExtension-ends net slacks slopes time q.0 q.1 p.0)

@@ -137,7 +137,8 @@ IsExit-after transit capacity amount time exit c p =
 kept : (a a' b c s t u y z : ℚ) → a ≤ℚ a' → a -ℚ b -ℚ c *ℚ (s -ℚ u) ≡ y → a' -ℚ b -ℚ c *ℚ (t -ℚ u) ≤ℚ z → c *ℚ s +ℚ y ≤ℚ c *ℚ t +ℚ z
 kept a a' b c s t u y z h e k = linear_le (a ∷ a' ∷ b ∷ c ∷ s ∷ t ∷ u ∷ y ∷ z ∷ []) (le h ∷ eq e ∷ le k ∷ []) (search reading_of) tt
 
-pub IsQueue-keeps : (rate : ℚ) (amount : ℚ → ℚ) (s t y z : ℚ) → amount s ≤ℚ amount t → s ≤ℚ t → IsQueue (Some rate) amount s y → IsQueue (Some rate) amount t z → rate *ℚ s +ℚ y ≤ℚ rate *ℚ t +ℚ z
+pub IsQueue-keeps : (rate : ℚ) (amount : ℚ → ℚ) (s t y z : ℚ) → amount s ≤ℚ amount t → s ≤ℚ t → IsQueue (Some rate) amount s y
+    → IsQueue (Some rate) amount t z → rate *ℚ s +ℚ y ≤ℚ rate *ℚ t +ℚ z
 IsQueue-keeps rate amount s t y z h k p q =
     let g : IsGreatest (λ since. amount s -ℚ amount since -ℚ rate *ℚ (s -ℚ since)) 0ℚ s y = p.bounded rate refl in
     kept (amount s) (amount t) (amount g.taken.0) rate s t g.taken.0 y z h g.taken.2 ((q.bounded rate refl).bound g.taken.0 (g.taken.1.0, ≤ℚ_trans _ _ _ g.taken.1.1 k))
@@ -145,7 +146,8 @@ IsQueue-keeps rate amount s t y z h k p q =
 exit_order : (c s t r y z u v : ℚ) → c *ℚ s +ℚ y ≤ℚ c *ℚ t +ℚ z → u *ℚ c ≡ y → v *ℚ c ≡ z → c *ℚ (s +ℚ r +ℚ u) ≤ℚ c *ℚ (t +ℚ r +ℚ v)
 exit_order c s t r y z u v h e f = linear_le (c ∷ s ∷ t ∷ r ∷ y ∷ z ∷ u ∷ v ∷ []) (le h ∷ eq e ∷ eq f ∷ []) (search reading_of) tt
 
-exit_sums : (transit : ℚ) (capacity : Option ℚ) (amount : ℚ → ℚ) (s t y z : ℚ) → IsPositive capacity → NeverFalls amount → s ≤ℚ t → IsQueue capacity amount s y → IsQueue capacity amount t z
+exit_sums : (transit : ℚ) (capacity : Option ℚ) (amount : ℚ → ℚ) (s t y z : ℚ) → IsPositive capacity → NeverFalls amount → s ≤ℚ t
+    → IsQueue capacity amount s y → IsQueue capacity amount t z
     → s +ℚ transit +ℚ waiting capacity y ≤ℚ t +ℚ transit +ℚ waiting capacity z
 exit_sums transit None amount s t y z c rises k p q = linear_le (s ∷ t ∷ transit ∷ []) (le k ∷ []) (search reading_of) tt
 exit_sums transit (Some rate) amount s t y z c rises k p q =
@@ -180,7 +182,8 @@ IsQueue-same capacity f g time y e p = record {
     both : (rate s t : ℚ) → f s ≡ g s → f t ≡ g t → f s -ℚ f t -ℚ rate *ℚ (s -ℚ t) ≡ g s -ℚ g t -ℚ rate *ℚ (s -ℚ t)
     both rate s t a b = cc
 
-pub IsExit-same : (transit : ℚ) (capacity : Option ℚ) (f g : ℚ → ℚ) (time exit : ℚ) → ((t : ℚ) → Within 0ℚ time t → f t ≡ g t) → IsExit transit capacity f time exit → IsExit transit capacity g time exit
+pub IsExit-same : (transit : ℚ) (capacity : Option ℚ) (f g : ℚ → ℚ) (time exit : ℚ) → ((t : ℚ) → Within 0ℚ time t → f t ≡ g t)
+    → IsExit transit capacity f time exit → IsExit transit capacity g time exit
 IsExit-same transit capacity f g time exit e p = record { queue = p.queue; is_queue = IsQueue-same capacity f g time p.queue e p.is_queue; is_sum = p.is_sum }
 
 pub IsOutflow-same : (transit : ℚ) (capacity : Option ℚ) (f g : ℚ → ℚ) (time out : ℚ) → ((t : ℚ) → Within 0ℚ (time -ℚ transit) t → f t ≡ g t)

@@ -14,7 +14,8 @@ pub slack_at : (net : Network) (labels : List ℚ) (e : ℕ) (link : Link) → I
 slack_at net labels e link p = number_at-is (slacks_of (hops net) labels) e (slack labels (hop_of link)) (slack_entry net labels e link p)
 
 -- ---- the sets
-flag_at : (test : ℚ → Bool) (net : Network) (labels : List ℚ) (e : ℕ) (link : Link) → IsLink net e link → slice_get (map test (slacks_of (hops net) labels)) e ≡ Some (test (slack labels (hop_of link)))
+flag_at : (test : ℚ → Bool) (net : Network) (labels : List ℚ) (e : ℕ) (link : Link) → IsLink net e link
+    → slice_get (map test (slacks_of (hops net) labels)) e ≡ Some (test (slack labels (hop_of link)))
 flag_at test net labels e link p = slice_get-map test (slacks_of (hops net) labels) e ∙ ap (option_map test) (slack_entry net labels e link p)
 
 pub active_of_slack : (net : Network) (labels : List ℚ) (e : ℕ) (link : Link) → IsLink net e link → 0ℚ ≤ℚ slack labels (hop_of link) → Has (sets_at net labels).active e

@@ -10,11 +10,15 @@ if_same false a c s t e f = f
 
 pub sum_in-same : (links : List Link) (f g : ℕ → ℚ) (v : ℕ) → ((e : ℕ) (link : Link) → slice_get links e ≡ Some link → link.head ≡ v → f e ≡ g e) → sum_in links f v ≡ sum_in links g v
 sum_in-same [] f g v h = refl
-sum_in-same (link ∷ links) f g v h = if_same (eqb link.head v) (f 0) (g 0) _ _ (λ e. h 0 link refl (eqb-true link.head v e)) (sum_in-same links (λ e. f (suc e)) (λ e. g (suc e)) v (λ e l s. h (suc e) l s))
+sum_in-same (link ∷ links) f g v h =
+    if_same (eqb link.head v) (f 0) (g 0) _ _ (λ e. h 0 link refl (eqb-true link.head v e))
+    (sum_in-same links (λ e. f (suc e)) (λ e. g (suc e)) v (λ e l s. h (suc e) l s))
 
 pub sum_out-same : (links : List Link) (f g : ℕ → ℚ) (v : ℕ) → ((e : ℕ) (link : Link) → slice_get links e ≡ Some link → link.tail ≡ v → f e ≡ g e) → sum_out links f v ≡ sum_out links g v
 sum_out-same [] f g v h = refl
-sum_out-same (link ∷ links) f g v h = if_same (eqb link.tail v) (f 0) (g 0) _ _ (λ e. h 0 link refl (eqb-true link.tail v e)) (sum_out-same links (λ e. f (suc e)) (λ e. g (suc e)) v (λ e l s. h (suc e) l s))
+sum_out-same (link ∷ links) f g v h =
+    if_same (eqb link.tail v) (f 0) (g 0) _ _ (λ e. h 0 link refl (eqb-true link.tail v e))
+    (sum_out-same links (λ e. f (suc e)) (λ e. g (suc e)) v (λ e l s. h (suc e) l s))
 
 -- ---- no term
 if_none : (b : Bool) (s : ℚ) → s ≡ 0ℚ → (if b then 0ℚ +ℚ s else s) ≡ 0ℚ
@@ -49,11 +53,16 @@ if_order false a c s t h k = k
 
 pub sum_in-order : (links : List Link) (f g : ℕ → ℚ) (v : ℕ) → ((e : ℕ) (link : Link) → slice_get links e ≡ Some link → link.head ≡ v → f e ≤ℚ g e) → sum_in links f v ≤ℚ sum_in links g v
 sum_in-order [] f g v h = ≤ℚ_refl 0ℚ
-sum_in-order (link ∷ links) f g v h = if_order (eqb link.head v) (f 0) (g 0) _ _ (λ e. h 0 link refl (eqb-true link.head v e)) (sum_in-order links (λ e. f (suc e)) (λ e. g (suc e)) v (λ e l s. h (suc e) l s))
+sum_in-order (link ∷ links) f g v h =
+    if_order (eqb link.head v) (f 0) (g 0) _ _ (λ e. h 0 link refl (eqb-true link.head v e))
+    (sum_in-order links (λ e. f (suc e)) (λ e. g (suc e)) v (λ e l s. h (suc e) l s))
 
-pub sum_out-order : (links : List Link) (f g : ℕ → ℚ) (v : ℕ) → ((e : ℕ) (link : Link) → slice_get links e ≡ Some link → link.tail ≡ v → f e ≤ℚ g e) → sum_out links f v ≤ℚ sum_out links g v
+pub sum_out-order : (links : List Link) (f g : ℕ → ℚ) (v : ℕ) → ((e : ℕ) (link : Link) → slice_get links e ≡ Some link → link.tail ≡ v → f e ≤ℚ g e)
+    → sum_out links f v ≤ℚ sum_out links g v
 sum_out-order [] f g v h = ≤ℚ_refl 0ℚ
-sum_out-order (link ∷ links) f g v h = if_order (eqb link.tail v) (f 0) (g 0) _ _ (λ e. h 0 link refl (eqb-true link.tail v e)) (sum_out-order links (λ e. f (suc e)) (λ e. g (suc e)) v (λ e l s. h (suc e) l s))
+sum_out-order (link ∷ links) f g v h =
+    if_order (eqb link.tail v) (f 0) (g 0) _ _ (λ e. h 0 link refl (eqb-true link.tail v e))
+    (sum_out-order links (λ e. f (suc e)) (λ e. g (suc e)) v (λ e l s. h (suc e) l s))
 
 if_nn : (b : Bool) (a s : ℚ) → 0ℚ ≤ℚ a → 0ℚ ≤ℚ s → 0ℚ ≤ℚ (if b then a +ℚ s else s)
 if_nn true a s h k = linear_le (a ∷ s ∷ []) (le h ∷ le k ∷ []) (search reading_of) tt
@@ -78,12 +87,16 @@ if_first false a s e h = absurd (cc)
 
 pub sum_in-each : (links : List Link) (f : ℕ → ℚ) (v : ℕ) → ((e : ℕ) → 0ℚ ≤ℚ f e) → (e : ℕ) (link : Link) → slice_get links e ≡ Some link → link.head ≡ v → f e ≤ℚ sum_in links f v
 sum_in-each [] f v n e link p at = absurd (cc)
-sum_in-each (l ∷ links) f v n zero link p at = if_first (eqb l.head v) (f 0) _ (eq-eqb l.head v (ap (λ (k : Link). k.head) (same_Some l link p) ∙ at)) (sum_in-nn links (λ e. f (suc e)) v (λ e. n (suc e)))
+sum_in-each (l ∷ links) f v n zero link p at =
+    if_first (eqb l.head v) (f 0) _ (eq-eqb l.head v (ap (λ (k : Link). k.head) (same_Some l link p) ∙ at))
+    (sum_in-nn links (λ e. f (suc e)) v (λ e. n (suc e)))
 sum_in-each (l ∷ links) f v n (suc e) link p at = if_rest (eqb l.head v) (f 0) _ _ (n 0) (sum_in-each links (λ e. f (suc e)) v (λ e. n (suc e)) e link p at)
 
 pub sum_out-each : (links : List Link) (f : ℕ → ℚ) (v : ℕ) → ((e : ℕ) → 0ℚ ≤ℚ f e) → (e : ℕ) (link : Link) → slice_get links e ≡ Some link → link.tail ≡ v → f e ≤ℚ sum_out links f v
 sum_out-each [] f v n e link p at = absurd (cc)
-sum_out-each (l ∷ links) f v n zero link p at = if_first (eqb l.tail v) (f 0) _ (eq-eqb l.tail v (ap (λ (k : Link). k.tail) (same_Some l link p) ∙ at)) (sum_out-nn links (λ e. f (suc e)) v (λ e. n (suc e)))
+sum_out-each (l ∷ links) f v n zero link p at =
+    if_first (eqb l.tail v) (f 0) _ (eq-eqb l.tail v (ap (λ (k : Link). k.tail) (same_Some l link p) ∙ at))
+    (sum_out-nn links (λ e. f (suc e)) v (λ e. n (suc e)))
 sum_out-each (l ∷ links) f v n (suc e) link p at = if_rest (eqb l.tail v) (f 0) _ _ (n 0) (sum_out-each links (λ e. f (suc e)) v (λ e. n (suc e)) e link p at)
 
 -- ---- where the sum is above 0, one of its terms is

@@ -12,7 +12,9 @@ StartsRise (p ∷ q ∷ rest) = (p.start <ℚ q.start) × StartsRise (q ∷ rest
 StartsRise rest = Unit {0}
 
 ArePieces-rest : (p : Piece) (rest : List Piece) → ArePieces (p ∷ rest) → ArePieces rest
-ArePieces-rest p rest a = record { starts = λ i piece e. a.starts (suc i) piece e; rise = λ i piece next e f. a.rise (suc i) piece next e f; rates = λ i piece e. a.rates (suc i) piece e }
+ArePieces-rest p rest a =
+    record { starts = λ i piece e. a.starts (suc i) piece e; rise = λ i piece next e f. a.rise (suc i) piece next e f; rates =
+    λ i piece e. a.rates (suc i) piece e }
 
 pub StartsRise-pieces : (pieces : List Piece) → ArePieces pieces → StartsRise pieces
 StartsRise-pieces [] a = tt
@@ -62,7 +64,8 @@ NoneBetween [] time later = Unit {0}
 NoneBetween (p ∷ rest) time later = ((p.start ≤ℚ time) ⊎ (later ≤ℚ p.start)) × NoneBetween rest time later
 
 last_piece : (r s t u a b y z n m : ℚ) → a ≡ t -ℚ s → b ≡ u -ℚ s → y ≡ 0ℚ → z ≡ 0ℚ → n ≡ r → r *ℚ b +ℚ z ≡ (r *ℚ a +ℚ y) +ℚ n *ℚ (u -ℚ t)
-last_piece r s t u a b y z n m e f g h i = linear_eq (r ∷ s ∷ t ∷ u ∷ a ∷ b ∷ y ∷ z ∷ n ∷ []) (eq_times r e ∷ eq_times r f ∷ eq g ∷ eq h ∷ eq_times (u -ℚ t) i ∷ []) (search reading_of) tt tt
+last_piece r s t u a b y z n m e f g h i =
+    linear_eq (r ∷ s ∷ t ∷ u ∷ a ∷ b ∷ y ∷ z ∷ n ∷ []) (eq_times r e ∷ eq_times r f ∷ eq g ∷ eq h ∷ eq_times (u -ℚ t) i ∷ []) (search reading_of) tt tt
 
 full_piece : (r a b y z n m t : ℚ) → a ≡ b → z ≡ y +ℚ m *ℚ t → n ≡ m → r *ℚ b +ℚ z ≡ (r *ℚ a +ℚ y) +ℚ n *ℚ t
 full_piece r a b y z n m t e f g = linear_eq (r ∷ a ∷ b ∷ y ∷ z ∷ n ∷ m ∷ t ∷ []) (eq_times r e ∷ eq f ∷ eq_times t g ∷ []) (search reading_of) tt tt
@@ -93,15 +96,20 @@ module _ (time later : ℚ) (h : time <ℚ later) where
   none_yet : (x y r t : ℚ) → x ≡ 0ℚ → y ≡ 0ℚ → r ≡ 0ℚ → x ≡ y +ℚ r *ℚ t
   none_yet x y r t e f g = linear_eq (x ∷ y ∷ r ∷ t ∷ []) (eq e ∷ eq f ∷ eq_times t g ∷ []) (search reading_of) tt tt
 
-  pub supplied-step : (pieces : List Piece) → StartsRise pieces → NoneBetween pieces time later → supplied pieces later ≡ supplied pieces time +ℚ rate_from 0ℚ pieces time *ℚ (later -ℚ time)
+  pub supplied-step : (pieces : List Piece) → StartsRise pieces → NoneBetween pieces time later
+      → supplied pieces later ≡ supplied pieces time +ℚ rate_from 0ℚ pieces time *ℚ (later -ℚ time)
   supplied-step [] s n = none_yet _ _ _ (later -ℚ time) refl refl refl
   supplied-step (p ∷ rest) s (inl l, n) = step 0ℚ p rest s l n
-  supplied-step (p ∷ rest) s (inr l, n) = none_yet _ _ _ (later -ℚ time) (supplied-none (p ∷ rest) later s l) (supplied-none (p ∷ rest) time s (≤ℚ_trans _ _ _ (≤ℚ_of_lt _ _ h) l)) (rate_from-before 0ℚ (p ∷ rest) time later h l)
+  supplied-step (p ∷ rest) s (inr l, n) =
+      none_yet _ _ _ (later -ℚ time) (supplied-none (p ∷ rest) later s l) (supplied-none (p ∷ rest) time s (≤ℚ_trans _ _ _ (≤ℚ_of_lt _ _ h) l))
+      (rate_from-before 0ℚ (p ∷ rest) time later h l)
 
 -- ---- the same, of pieces by their number
 NoneBetween-from : (pieces : List Piece) (time later : ℚ) → NoStartBetween pieces time later → NoneBetween pieces time later
 NoneBetween-from [] time later n = tt
-NoneBetween-from (p ∷ rest) time later n = (⊎_elim (λ (l : time <ℚ p.start). inr (n 0 p refl l)) (λ (l : p.start ≤ℚ time). inl l) (lt_or_le_ℚ time p.start), NoneBetween-from rest time later (λ i piece e. n (suc i) piece e))
+NoneBetween-from (p ∷ rest) time later n =
+    (⊎_elim (λ (l : time <ℚ p.start). inr (n 0 p refl l)) (λ (l : p.start ≤ℚ time). inl l) (lt_or_le_ℚ time p.start),
+    NoneBetween-from rest time later (λ i piece e. n (suc i) piece e))
 
 no_time : (y r t u : ℚ) → t ≡ u → y ≡ y +ℚ r *ℚ (u -ℚ t)
 no_time y r t u e = linear_eq (y ∷ r ∷ t ∷ u ∷ []) (eq_times r e ∷ []) (search reading_of) tt tt

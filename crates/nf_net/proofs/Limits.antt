@@ -56,7 +56,8 @@ pub not_there : (names : List Name) (name : Name) → list_all is_name names ≡
 not_there [] name e f = refl
 not_there (x ∷ xs) name e f = step (is_name x) refl (bytes_eq name x) refl e (λ h. not_there xs name h f)
   where
-    step : (b : Bool) → is_name x ≡ b → (t : Bool) → bytes_eq name x ≡ t → (b && list_all is_name xs) ≡ true → (list_all is_name xs ≡ true → has_name xs name ≡ false) → (t || has_name xs name) ≡ false
+    step : (b : Bool) → is_name x ≡ b → (t : Bool) → bytes_eq name x ≡ t → (b && list_all is_name xs) ≡ true
+        → (list_all is_name xs ≡ true → has_name xs name ≡ false) → (t || has_name xs name) ≡ false
     step true is true same e rest = absurd (f (ap is_name (same_names name x same) ∙ is))
     step true is false same e rest = rest e
     step false is t same e rest = absurd (cc)

@@ -39,7 +39,8 @@ RisesFrom start (next ∷ later) = start <ℚ next.start
 
 time_when : (start : ℚ) (later : List Piece) (time : ℚ) → RisesFrom start later → start <ℚ time → time_in start later time ≡ end_before later time -ℚ start
 time_when start [] time r h = max0_of (time -ℚ start) (≤ℚ_of_lt _ _ (less_ps start time h))
-time_when start (next ∷ later) time r h = max0_of (min_ℚ time next.start -ℚ start) (≤ℚ_of_lt _ _ (less_ps start (min_ℚ time next.start) (min_keeps (λ (m : ℚ). start <ℚ m) time next.start h r)))
+time_when start (next ∷ later) time r h =
+    max0_of (min_ℚ time next.start -ℚ start) (≤ℚ_of_lt _ _ (less_ps start (min_ℚ time next.start) (min_keeps (λ (m : ℚ). start <ℚ m) time next.start h r)))
 
 time_unless : (start : ℚ) (later : List Piece) (time : ℚ) → time ≤ℚ start → time_in start later time ≡ 0ℚ
 time_unless start [] time h = max0_none (time -ℚ start) (gap_np time start h)
@@ -73,11 +74,14 @@ module _ (passes : Passing) (time : ℚ) where
           → v ≡ so_far +ℚ (piece.rate *ℚ time_in piece.start later time +ℚ supplied later time)
       step true is cases e rest =
           let found = bind_ok (with_piece passes so_far piece (end_before later time)) (λ sum. supplied_after passes sum later time) v e in
-          let starts : piece.start <ℚ time = ⊎_elim (λ (w : (lt_ℚ piece.start time ≡ true) × (piece.start <ℚ time)). w.1) (λ (w : (lt_ℚ piece.start time ≡ false) × (time ≤ℚ piece.start)). cc) cases in
-          joined v found.0 so_far piece.rate (end_before later time) piece.start (supplied later time) (rest found.0 found.2) (with_piece_is passes so_far piece (end_before later time) found.0 found.1)
+          let starts : piece.start <ℚ time = ⊎_elim (λ (w : (lt_ℚ piece.start time ≡ true) × (piece.start <ℚ time)). w.1)
+              (λ (w : (lt_ℚ piece.start time ≡ false) × (time ≤ℚ piece.start)). cc) cases in
+          joined v found.0 so_far piece.rate (end_before later time) piece.start (supplied later time) (rest found.0 found.2)
+              (with_piece_is passes so_far piece (end_before later time) found.0 found.1)
           ∙ ap (λ (t : ℚ). so_far +ℚ (piece.rate *ℚ t +ℚ supplied later time)) (sym (time_when piece.start later time (first_rises piece later r) starts))
       step false is cases e rest =
-          let starts : time ≤ℚ piece.start = ⊎_elim (λ (w : (lt_ℚ piece.start time ≡ true) × (piece.start <ℚ time)). cc) (λ (w : (lt_ℚ piece.start time ≡ false) × (time ≤ℚ piece.start)). w.1) cases in
+          let starts : time ≤ℚ piece.start = ⊎_elim (λ (w : (lt_ℚ piece.start time ≡ true) × (piece.start <ℚ time)). cc)
+              (λ (w : (lt_ℚ piece.start time ≡ false) × (time ≤ℚ piece.start)). w.1) cases in
           nothing_more v so_far piece.rate (supplied later time) (rest so_far e)
           ∙ ap (λ (t : ℚ). so_far +ℚ (piece.rate *ℚ t +ℚ supplied later time)) (sym (time_unless piece.start later time starts))
 

@@ -12,7 +12,8 @@ last_is o [] n d e = absurd (omega arith)
 last_is o (p ∷ []) n d e = let z : n ≡ 0 = omega arith in ap (λ (k : ℕ). Some (get_or (p ∷ []) k d)) (sym z)
 last_is o (p ∷ q ∷ rest) n d e = step n e (λ m f. last_is (Some p) (q ∷ rest) m d f)
   where
-    step : (n : ℕ) → length (p ∷ q ∷ rest) ≡ suc n → ((m : ℕ) → length (q ∷ rest) ≡ suc m → last_or (Some p) (q ∷ rest) ≡ Some (get_or (q ∷ rest) m d)) → last_or o (p ∷ q ∷ rest) ≡ Some (get_or (p ∷ q ∷ rest) n d)
+    step : (n : ℕ) → length (p ∷ q ∷ rest) ≡ suc n → ((m : ℕ) → length (q ∷ rest) ≡ suc m → last_or (Some p) (q ∷ rest) ≡ Some (get_or (q ∷ rest) m d))
+        → last_or o (p ∷ q ∷ rest) ≡ Some (get_or (p ∷ q ∷ rest) n d)
     step zero e f = absurd (omega arith)
     step (suc m) e f = f m (omega arith)
 

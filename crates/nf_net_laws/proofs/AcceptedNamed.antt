@@ -40,7 +40,8 @@ every_append P [] ys h k = k
 every_append P (x ∷ xs) ys h k = (h.0, every_append P xs ys h.1 k)
 
 -- ---- pieces
-rise_at : (before : Option Piece) (pieces : List Piece) (i : ℕ) (piece next : Piece) → Rises before pieces → IsPiece pieces i piece → IsPiece pieces (suc i) next → piece.start <ℚ next.start
+rise_at : (before : Option Piece) (pieces : List Piece) (i : ℕ) (piece next : Piece) → Rises before pieces → IsPiece pieces i piece
+    → IsPiece pieces (suc i) next → piece.start <ℚ next.start
 rise_at before [] i piece next h is then_ = absurd (cc)
 rise_at before (p ∷ []) i piece next h is then_ = absurd (cc)
 rise_at before (p ∷ q ∷ pieces) zero piece next h is then_ =
@@ -161,7 +162,8 @@ module _ (draft : Draft) (g : IsGoodDraft draft) (fine : AllByRecursion (λ rule
         after = reached_on draft g fine flags act i l is r;
       }
 
-  to_net : (i : ℕ) (hop : Hop) → IsHop (draft_hops draft) i hop → IsReached draft hop.tail → Corresponds (hops_among nodes active) (λ v. place_of nodes (name_at draft.nodes v)) (IsReached draft) hop
+  to_net : (i : ℕ) (hop : Hop) → IsHop (draft_hops draft) i hop → IsReached draft hop.tail
+      → Corresponds (hops_among nodes active) (λ v. place_of nodes (name_at draft.nodes v)) (IsReached draft) hop
   to_net i hop is r =
       let c : CameFrom (λ l. hop_of (numbered draft.nodes l)) draft.links i hop = came_from (λ l. hop_of (numbered draft.nodes l)) draft.links i hop is in
       subst (Corresponds (hops_among nodes active) (λ v. place_of nodes (name_at draft.nodes v)) (IsReached draft)) c.is_image
@@ -172,7 +174,9 @@ module _ (draft : Draft) (g : IsGoodDraft draft) (fine : AllByRecursion (λ rule
 
   walk_to_net : (walk : List ℕ) (v : ℕ) → IsWalk (draft_hops draft) walk (source_place draft) v
       → Carried (draft_hops draft) (hops_among nodes active) (λ v. place_of nodes (name_at draft.nodes v)) (IsReached draft) walk (source_place draft) v
-  walk_to_net walk v h = carried (draft_hops draft) (hops_among nodes active) (λ v. place_of nodes (name_at draft.nodes v)) (IsReached draft) to_net walk (source_place draft) v ([], refl) h
+  walk_to_net walk v h =
+      carried (draft_hops draft) (hops_among nodes active) (λ v. place_of nodes (name_at draft.nodes v)) (IsReached draft) to_net walk
+      (source_place draft) v ([], refl) h
 
   -- ---- the network
   good_links : AllByRecursion (IsNamedLink draft.version) active
@@ -188,8 +192,11 @@ module _ (draft : Draft) (g : IsGoodDraft draft) (fine : AllByRecursion (λ rule
   reached_node v low =
       let r : IsReachedName draft (name_at nodes v) = has_every (IsReachedName draft) nodes (name_at nodes v) (nodes_reached draft g fine flags act) (has_at nodes v low) in
       let c = walk_to_net r.reached.0 (place_of draft.nodes (name_at nodes v)) r.reached.1 in
-      let ends_at : place_of nodes (name_at draft.nodes (place_of draft.nodes (name_at nodes v))) ≡ v = ap (place_of nodes) (name_at-place draft.nodes (name_at nodes v) r.there) ∙ place_at nodes v nodes_distinct low in
-      (c.image, subst (λ hops. IsWalk hops c.image 0 v) (sym hops_are) (subst (λ w. IsWalk (hops_among nodes active) c.image 0 w) ends_at (subst (λ u. IsWalk (hops_among nodes active) c.image u (place_of nodes (name_at draft.nodes (place_of draft.nodes (name_at nodes v))))) source_number c.is_walk)))
+      let ends_at : place_of nodes (name_at draft.nodes (place_of draft.nodes (name_at nodes v))) ≡ v =
+          ap (place_of nodes) (name_at-place draft.nodes (name_at nodes v) r.there) ∙ place_at nodes v nodes_distinct low in
+      (c.image, subst (λ hops. IsWalk hops c.image 0 v) (sym hops_are) (subst (λ w. IsWalk (hops_among nodes active) c.image 0 w) ends_at
+          (subst (λ u. IsWalk (hops_among nodes active) c.image u (place_of nodes (name_at draft.nodes (place_of draft.nodes (name_at nodes v)))))
+          source_number c.is_walk)))
 
   is_network : IsNetwork n.net
   is_network = record {
@@ -198,9 +205,11 @@ module _ (draft : Draft) (g : IsGoodDraft draft) (fine : AllByRecursion (λ rule
     apart = λ e. absurd (omega arith);
     tails = λ e link is. (let c = link_from e link is in subst (λ (x : Link). x.tail < length nodes) c.is_image (place_below nodes c.entry.tail (active_ends e c.entry c.is_entry).0));
     heads = λ e link is. (let c = link_from e link is in subst (λ (x : Link). x.head < length nodes) c.is_image (place_below nodes c.entry.head (active_ends e c.entry c.is_entry).1));
-    transits = λ e link is. (let c = link_from e link is in subst (λ (x : Link). 0ℚ ≤ℚ x.transit) c.is_image (at_marked (IsNamedLink draft.version) active good_links e c.entry c.is_entry).transit);
+    transits = λ e link is. (let c = link_from e link is in subst (λ (x : Link). 0ℚ ≤ℚ x.transit) c.is_image
+        (at_marked (IsNamedLink draft.version) active good_links e c.entry c.is_entry).transit);
     capacities = λ e link capacity is eq. (let c = link_from e link is in
-        positive_capacity draft.version c.entry.capacity capacity (at_marked (IsNamedLink draft.version) active good_links e c.entry c.is_entry).capacity (ap (λ (x : Link). x.capacity) c.is_image ∙ eq));
+        positive_capacity draft.version c.entry.capacity capacity (at_marked (IsNamedLink draft.version) active good_links e c.entry c.is_entry).capacity
+            (ap (λ (x : Link). x.capacity) c.is_image ∙ eq));
     pieces = are_pieces draft.pieces g.not_negative g.rise;
     cycles = λ e walk v h. subst (λ hops. 0ℚ <ℚ transit_sum hops (e ∷ walk)) (sym hops_are)
         (circles draft g nodes active active_of fine.1.1.1.1.0 e walk v (subst (λ hops. IsWalk hops (e ∷ walk) v v) hops_are h));
@@ -225,7 +234,8 @@ module _ (draft : Draft) (g : IsGoodDraft draft) (fine : AllByRecursion (λ rule
   all_names : AreNames (nodes ++ others)
   all_names = record {
     each = subst (λ names. list_all is_name names ≡ true) all_nodes_are
-        (all_with_names is_name nodes (ends idle) (all_with_names is_name (s ∷ t ∷ []) (ends active) (λ i. s_is_name i && (t_is_name i && true)) (ends_are_names active good_links)) (ends_are_names idle good_idle));
+        (all_with_names is_name nodes (ends idle) (all_with_names is_name (s ∷ t ∷ []) (ends active) (λ i. s_is_name i && (t_is_name i && true))
+            (ends_are_names active good_links)) (ends_are_names idle good_idle));
     distinct = subst (IsDistinct bytes_eq) all_nodes_are (distinct_with_names nodes (ends idle) nodes_distinct);
   }
 
@@ -245,7 +255,8 @@ module _ (draft : Draft) (g : IsGoodDraft draft) (fine : AllByRecursion (λ rule
     nodes = (let few : length (nodes ++ others) ≤ length draft.nodes = subst (λ names. length names ≤ length draft.nodes) all_nodes_are
         (no_more (with_names nodes (ends idle)) draft.nodes (distinct_with_names nodes (ends idle) nodes_distinct) all_in_file) in
         let most : length draft.nodes ≤ 64 = g.few_nodes in omega arith);
-    links = subst (λ k. k ≤ 200) (sym (ap (λ first. length (first ++ idle)) active_again ∙ length-append active idle ∙ length_split (λ l. IsReached draft (place_of draft.nodes l.tail)) flags draft.links act)) g.few_links;
+    links = subst (λ k. k ≤ 200) (sym (ap (λ first. length (first ++ idle)) active_again ∙ length-append active idle
+        ∙ length_split (λ l. IsReached draft (place_of draft.nodes l.tail)) flags draft.links act)) g.few_links;
     pieces = g.few_pieces;
   }
 
@@ -266,7 +277,9 @@ module _ (draft : Draft) (g : IsGoodDraft draft) (fine : AllByRecursion (λ rule
 
   none_idle : draft.version ≡ 1 → (links : List NamedLink) → AllByRecursion (λ l. Entry draft.links l × (¬ Reached l)) links → links ≡ []
   none_idle e [] h = refl
-  none_idle e (l ∷ links) h = absurd (fine.1.1.1.0 (subst (λ k. MatchBool (k == 1) ((v : ℕ) × (v < length draft.nodes) × (¬ IsReached draft v)) (¬ IsReached draft (place_of draft.nodes t))) (sym e)
+  none_idle e (l ∷ links) h =
+      absurd (fine.1.1.1.0 (subst (λ k. MatchBool (k == 1) ((v : ℕ) × (v < length draft.nodes) × (¬ IsReached draft v))
+      (¬ IsReached draft (place_of draft.nodes t))) (sym e)
       (place_of draft.nodes l.tail, place_below draft.nodes l.tail (there draft g fine flags act h.0.0.0 l h.0.0.1).0, h.0.1)))
 
   no_reached_name : (name : Name) (b : Bool) → has_name nodes name ≡ b → (¬ IsReached draft (place_of draft.nodes name)) → b ≡ false
@@ -285,10 +298,12 @@ module _ (draft : Draft) (g : IsGoodDraft draft) (fine : AllByRecursion (λ rule
         let c = walk_to_file draft g nodes active active_of h.taken.0 0 (place_of nodes l.tail) h.taken.1 in
         let from : place_of draft.nodes (name_at nodes 0) ≡ source_place draft = ap (place_of draft.nodes) first_name in
         let to : place_of draft.nodes (name_at nodes (place_of nodes l.tail)) ≡ place_of draft.nodes l.tail = ap (place_of draft.nodes) (name_at-place nodes l.tail named_) in
-        (c.image, subst (λ u. IsWalk (draft_hops draft) c.image u (place_of draft.nodes l.tail)) from (subst (λ w. IsWalk (draft_hops draft) c.image (place_of draft.nodes (name_at nodes 0)) w) to c.is_walk), c.sum ∙ h.taken.2));
+        (c.image, subst (λ u. IsWalk (draft_hops draft) c.image u (place_of draft.nodes l.tail)) from
+            (subst (λ w. IsWalk (draft_hops draft) c.image (place_of draft.nodes (name_at nodes 0)) w) to c.is_walk), c.sum ∙ h.taken.2));
     bound = λ walk w. (
         let c = walk_to_net walk (place_of draft.nodes l.tail) w in
-        let to : place_of nodes (name_at draft.nodes (place_of draft.nodes l.tail)) ≡ place_of nodes l.tail = ap (place_of nodes) (name_at-place draft.nodes l.tail (there draft g fine flags act i l is).0) in
+        let to : place_of nodes (name_at draft.nodes (place_of draft.nodes l.tail)) ≡ place_of nodes l.tail =
+            ap (place_of nodes) (name_at-place draft.nodes l.tail (there draft g fine flags act i l is).0) in
         subst (λ x. least ≤ℚ x) c.sum (h.bound c.image (subst (λ u. IsWalk (hops_among nodes active) c.image u (place_of nodes l.tail)) source_number
         (subst (λ v. IsWalk (hops_among nodes active) c.image (place_of nodes (name_at draft.nodes (source_place draft))) v) to c.is_walk))));
   }
@@ -346,7 +361,8 @@ read_lines_named : (lines : Result Draft Broken) (n : Named) → ((draft : Draft
 read_lines_named (Ok draft) n good h = closed draft n (good draft refl) h
 read_lines_named (Err broken) n good h = absurd (cc)
 
-read_bytes_named : (fault : Option LineFault) (lines : Result Draft Broken) (n : Named) → ((draft : Draft) → lines ≡ Ok draft → IsGoodDraft draft) → by_bytes fault lines (Ok n) → IsNamed n
+read_bytes_named : (fault : Option LineFault) (lines : Result Draft Broken) (n : Named) → ((draft : Draft) → lines ≡ Ok draft → IsGoodDraft draft)
+    → by_bytes fault lines (Ok n) → IsNamed n
 read_bytes_named None lines n good h = read_lines_named lines n good h
 read_bytes_named (Some fault) lines n good h = absurd (cc)
 

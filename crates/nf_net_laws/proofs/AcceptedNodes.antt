@@ -92,20 +92,25 @@ module _ (draft : Draft) (g : IsGoodDraft draft) (fine : AllByRecursion (λ rule
   two_nodes e = fine.1.1.0 (some_ends.0 ∙ ap (λ name. Some name) e ∙ sym some_ends.1)
 
   pub there : (i : ℕ) (l : NamedLink) → slice_get draft.links i ≡ Some l → (has_name draft.nodes l.tail ≡ true) × (has_name draft.nodes l.head ≡ true)
-  there i l is = entry_all (λ l. (has_name draft.nodes l.tail ≡ true) × (has_name draft.nodes l.head ≡ true)) draft.links i l (ends_of_each (has_name draft.nodes) draft.links g.ends_there) is
+  there i l is =
+      entry_all (λ l. (has_name draft.nodes l.tail ≡ true) × (has_name draft.nodes l.head ≡ true)) draft.links i l
+      (ends_of_each (has_name draft.nodes) draft.links g.ends_there) is
 
   pub hop_there : (i : ℕ) (l : NamedLink) → slice_get draft.links i ≡ Some l → IsHop (draft_hops draft) i (hop_of (numbered draft.nodes l))
   hop_there i l is = slice_get-image (λ l. hop_of (numbered draft.nodes l)) draft.links i l is
 
   pub reached_on : (i : ℕ) (l : NamedLink) → slice_get draft.links i ≡ Some l → Reached l → IsReached draft (place_of draft.nodes l.head)
-  reached_on i l is r = (r.0 ++ i ∷ [], walk_push (draft_hops draft) r.0 (source_place draft) (place_of draft.nodes l.tail) i (hop_of (numbered draft.nodes l)) r.1 (hop_there i l is) refl)
+  reached_on i l is r =
+      (r.0 ++ i ∷ [], walk_push (draft_hops draft) r.0 (source_place draft) (place_of draft.nodes l.tail) i (hop_of (numbered draft.nodes l)) r.1
+      (hop_there i l is) refl)
 
   -- ---- the sink is reached
   active_ones : AllByRecursion (λ l. Entry draft.links l × Reached l) (marked flags draft.links)
   active_ones = both_all (Entry draft.links) (λ l. IsReached draft (place_of draft.nodes l.tail)) (marked flags draft.links)
       (marked_all (Entry draft.links) flags draft.links (all_entries draft.links)) (marked_have (λ l. IsReached draft (place_of draft.nodes l.tail)) flags draft.links act)
 
-  heads_reached : (links : List NamedLink) → AllByRecursion (λ l. Entry draft.links l × Reached l) links → AllByRecursion (λ name. IsReached draft (place_of draft.nodes name)) (heads links)
+  heads_reached : (links : List NamedLink) → AllByRecursion (λ l. Entry draft.links l × Reached l) links
+      → AllByRecursion (λ name. IsReached draft (place_of draft.nodes name)) (heads links)
   unfolding heads
   heads_reached [] h = tt
   heads_reached (l ∷ links) h = (reached_on h.0.0.0 l h.0.0.1 h.0.1, heads_reached links h.1)
@@ -113,7 +118,9 @@ module _ (draft : Draft) (g : IsGoodDraft draft) (fine : AllByRecursion (λ rule
   head_among : (links : List NamedLink) (e : ℕ) (l : NamedLink) → slice_get links e ≡ Some l → has_name (heads links) l.head ≡ true
   unfolding heads
   head_among [] e l is = absurd (cc)
-  head_among (k ∷ links) zero l is = let same : k ≡ l = cc in or_left (bytes_eq l.head k.head) (has_name (heads links) l.head) (subst (λ x. bytes_eq l.head x.head ≡ true) (sym same) (bytes_eq-self l.head))
+  head_among (k ∷ links) zero l is =
+      let same : k ≡ l = cc in or_left (bytes_eq l.head k.head) (has_name (heads links) l.head)
+      (subst (λ x. bytes_eq l.head x.head ≡ true) (sym same) (bytes_eq-self l.head))
   head_among (k ∷ links) (suc e) l is = or_right (bytes_eq l.head k.head) (has_name (heads links) l.head) (head_among links e l is)
 
   same_place : (a b : Name) → has_name draft.nodes a ≡ true → has_name draft.nodes b ≡ true → place_of draft.nodes a ≡ place_of draft.nodes b → a ≡ b
@@ -131,7 +138,8 @@ module _ (draft : Draft) (g : IsGoodDraft draft) (fine : AllByRecursion (λ rule
           let k = in_marked (λ l. IsReached draft (place_of draft.nodes l.tail)) flags draft.links r.number c.entry act c.is_entry tail in
           let head : place_of draft.nodes c.entry.head ≡ place_of draft.nodes t = ap (λ (x : Hop). x.head) c.is_image ∙ r.head in
           let same : c.entry.head ≡ t = same_place c.entry.head t (there r.number c.entry c.is_entry).1 t_there head in
-          let yes : has_name (heads (marked flags draft.links)) t ≡ true = subst (λ name. has_name (heads (marked flags draft.links)) name ≡ true) same (head_among (marked flags draft.links) k.0 c.entry k.1) in
+          let yes : has_name (heads (marked flags draft.links)) t ≡ true = subst (λ name. has_name (heads (marked flags draft.links)) name ≡ true) same
+              (head_among (marked flags draft.links) k.0 c.entry k.1) in
           absurd (cc)
 
   leaves : (¬ IsReached draft (place_of draft.nodes t)) → LeavesUnreached draft
@@ -148,7 +156,8 @@ module _ (draft : Draft) (g : IsGoodDraft draft) (fine : AllByRecursion (λ rule
   ]
 
   -- ---- the nodes of the network are there in the file, and reached
-  ends_reached : (links : List NamedLink) → AllByRecursion (λ l. Entry draft.links l × Reached l) links → AllByRecursion (λ l. IsReachedName draft l.tail × IsReachedName draft l.head) links
+  ends_reached : (links : List NamedLink) → AllByRecursion (λ l. Entry draft.links l × Reached l) links
+      → AllByRecursion (λ l. IsReachedName draft l.tail × IsReachedName draft l.head) links
   ends_reached [] h = tt
   ends_reached (l ∷ links) h = (
     (

@@ -23,7 +23,8 @@ module _ (draft : Draft) (g : IsGoodDraft draft) (names : List Name) (links : Li
   abbrev pub file_place : ℕ → ℕ
   file_place v = place_of draft.nodes (name_at names v)
 
-  as_file_hop : (e : ℕ) (l : NamedLink) → slice_get links e ≡ Some l → Corresponds (draft_hops draft) (λ v. place_of draft.nodes (name_at names v)) (λ v. Unit {0}) (hop_of (numbered names l))
+  as_file_hop : (e : ℕ) (l : NamedLink) → slice_get links e ≡ Some l → Corresponds (draft_hops draft) (λ v. place_of draft.nodes (name_at names v))
+      (λ v. Unit {0}) (hop_of (numbered names l))
   as_file_hop e l is = record {
     number = (of.entry e l is).0;
     image = hop_of (numbered draft.nodes l);
@@ -39,7 +40,8 @@ module _ (draft : Draft) (g : IsGoodDraft draft) (names : List Name) (links : Li
       let c : CameFrom (λ l. hop_of (numbered names l)) links e hop = came_from (λ l. hop_of (numbered names l)) links e hop is in
       subst (Corresponds (draft_hops draft) (λ v. place_of draft.nodes (name_at names v)) (λ v. Unit {0})) c.is_image (as_file_hop e c.entry c.is_entry)
 
-  pub walk_to_file : (walk : List ℕ) (v w : ℕ) → IsWalk (hops_among names links) walk v w → Carried (hops_among names links) (draft_hops draft) (λ v. place_of draft.nodes (name_at names v)) (λ v. Unit {0}) walk v w
+  pub walk_to_file : (walk : List ℕ) (v w : ℕ) → IsWalk (hops_among names links) walk v w
+      → Carried (hops_among names links) (draft_hops draft) (λ v. place_of draft.nodes (name_at names v)) (λ v. Unit {0}) walk v w
   walk_to_file walk v w h = carried (hops_among names links) (draft_hops draft) (λ v. place_of draft.nodes (name_at names v)) (λ v. Unit {0}) to_file walk v w tt h
 
   -- going round in a circle takes time

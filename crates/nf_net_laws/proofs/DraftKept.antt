@@ -269,8 +269,10 @@ module _ (draft : Draft) (h : IsGoodDraft draft) where
   link_kept : (l : NamedLink) → IsReadLink draft.version l → broken_rule draft (LinkLine l) ≡ None → IsGoodDraft (after draft (LinkLine l))
   link_kept l good e =
       let two : List Name = l.tail ∷ l.head ∷ [] in
-      let a = first_says_no (has_name (names_of draft.links) l.name) N9 ((too_many_nodes draft (l.tail ∷ l.head ∷ []), N10) ∷ (nat_le 200 (length draft.links), N11) ∷ (is_negative l.transit, N13) ∷ (is_no_capacity l.capacity, N14) ∷ []) e in
-      let b = first_says_no (too_many_nodes draft (l.tail ∷ l.head ∷ [])) N10 ((nat_le 200 (length draft.links), N11) ∷ (is_negative l.transit, N13) ∷ (is_no_capacity l.capacity, N14) ∷ []) a.1 in
+      let a = first_says_no (has_name (names_of draft.links) l.name) N9 ((too_many_nodes draft (l.tail ∷ l.head ∷ []),
+          N10) ∷ (nat_le 200 (length draft.links), N11) ∷ (is_negative l.transit, N13) ∷ (is_no_capacity l.capacity, N14) ∷ []) e in
+      let b = first_says_no (too_many_nodes draft (l.tail ∷ l.head ∷ [])) N10
+          ((nat_le 200 (length draft.links), N11) ∷ (is_negative l.transit, N13) ∷ (is_no_capacity l.capacity, N14) ∷ []) a.1 in
       let c = first_says_no (nat_le 200 (length draft.links)) N11 ((is_negative l.transit, N13) ∷ (is_no_capacity l.capacity, N14) ∷ []) b.1 in
       let d = first_says_no (is_negative l.transit) N13 ((is_no_capacity l.capacity, N14) ∷ []) c.1 in
       let f = first_says_no (is_no_capacity l.capacity) N14 [] d.1 in
@@ -295,7 +297,8 @@ module _ (draft : Draft) (h : IsGoodDraft draft) where
           ends_there = ap (list_all (has_name (with_names draft.nodes (l.tail ∷ l.head ∷ [])))) (ends-append draft.links (l ∷ []))
               ∙ all_pushed (has_name (with_names draft.nodes (l.tail ∷ l.head ∷ []))) (ends draft.links) (l.tail ∷ l.head ∷ []) (ends_kept (l.tail ∷ l.head ∷ []))
               (λ i. now_there draft.nodes (l.tail ∷ l.head ∷ []) l.tail (or_left (bytes_eq l.tail l.tail) (bytes_eq l.tail l.head || false) (bytes_eq-self l.tail)) i
-              && (now_there draft.nodes (l.tail ∷ l.head ∷ []) l.head (or_right (bytes_eq l.head l.tail) (bytes_eq l.head l.head || false) (or_left (bytes_eq l.head l.head) false (bytes_eq-self l.head))) i && true));
+              && (now_there draft.nodes (l.tail ∷ l.head ∷ []) l.head (or_right (bytes_eq l.head l.tail) (bytes_eq l.head l.head || false)
+                  (or_left (bytes_eq l.head l.head) false (bytes_eq-self l.head))) i && true));
           link_names = subst (IsDistinct bytes_eq) (sym (map-append (λ (l : NamedLink). l.name) draft.links (l ∷ []))) (distinct_push (names_of draft.links) l.name h.link_names a.0);
           few_links = one_more_below draft.links l c.0;
         };
@@ -304,7 +307,8 @@ module _ (draft : Draft) (h : IsGoodDraft draft) where
 
   piece_kept : (piece : Piece) → IsFractionPiece piece → broken_rule draft (InflowLine piece) ≡ None → IsGoodDraft (after draft (InflowLine piece))
   piece_kept piece good e =
-      let a = first_says_no (nat_le 200 (length draft.pieces)) N12 ((is_negative piece.start || is_negative piece.rate, N15) ∷ (is_not_after piece.start (last_or None draft.pieces), N16) ∷ []) e in
+      let a = first_says_no (nat_le 200 (length draft.pieces)) N12 ((is_negative piece.start || is_negative piece.rate,
+          N15) ∷ (is_not_after piece.start (last_or None draft.pieces), N16) ∷ []) e in
       let b = first_says_no (is_negative piece.start || is_negative piece.rate) N15 ((is_not_after piece.start (last_or None draft.pieces), N16) ∷ []) a.1 in
       let c = first_says_no (is_not_after piece.start (last_or None draft.pieces)) N16 [] b.1 in
       let signs = or_parts (is_negative piece.start) (is_negative piece.rate) b.0 in
@@ -315,7 +319,8 @@ module _ (draft : Draft) (h : IsGoodDraft draft) where
         good_pieces = record {
           pieces = all_push IsFractionPiece draft.pieces piece h.pieces good;
           few_pieces = one_more_below draft.pieces piece a.0;
-          not_negative = all_push (λ (piece : Piece). (0ℚ ≤ℚ piece.start) × (0ℚ ≤ℚ piece.rate)) draft.pieces piece h.not_negative (from_not_negative piece.start signs.0, from_not_negative piece.rate signs.1);
+          not_negative = all_push (λ (piece : Piece). (0ℚ ≤ℚ piece.start) × (0ℚ ≤ℚ piece.rate)) draft.pieces piece h.not_negative
+              (from_not_negative piece.start signs.0, from_not_negative piece.rate signs.1);
           rise = rises_push None draft.pieces piece h.rise c.0;
         };
       }
@@ -330,7 +335,8 @@ module _ (draft : Draft) (h : IsGoodDraft draft) where
   entry_kept (InflowLine piece) good e = piece_kept piece good e
   entry_kept End good e = end_kept
 
-  unless_kept : (entry : Entry) (rule : Option NetRule) (next : Draft) → IsReadEntry draft.version entry → broken_rule draft entry ≡ rule → unless rule (after draft entry) ≡ Ok next → IsGoodDraft next
+  unless_kept : (entry : Entry) (rule : Option NetRule) (next : Draft) → IsReadEntry draft.version entry → broken_rule draft entry ≡ rule
+      → unless rule (after draft entry) ≡ Ok next → IsGoodDraft next
   unless_kept entry None next good f e = subst IsGoodDraft (same_Ok (after draft entry) next e) (entry_kept entry good f)
   unless_kept entry (Some rule) next good f e = absurd (cc)
 

@@ -90,7 +90,8 @@ unfolding IsDistinct
 distinct_split Q [] links h d = tt
 distinct_split Q (b ∷ flags) [] h d = absurd h
 distinct_split Q (true ∷ flags) (l ∷ links) h d = (
-  differs_append l.name (names_of (marked flags links)) (names_of (marked (map not flags) links)) (differs_marked l.name flags links d.0) (differs_marked l.name (map not flags) links d.0),
+  differs_append l.name (names_of (marked flags links)) (names_of (marked (map not flags) links)) (differs_marked l.name flags links d.0)
+      (differs_marked l.name (map not flags) links d.0),
   distinct_split Q flags links h.1 d.1,
 )
 distinct_split Q (false ∷ flags) (l ∷ links) h d =
@@ -118,7 +119,8 @@ still_among x z (y ∷ ys) e h = step (bytes_eq x y) (bytes_eq z y) refl refl h 
   where
     step : (b c : Bool) → bytes_eq x y ≡ b → bytes_eq z y ≡ c → (c || has_name ys z) ≡ true → (has_name ys z ≡ true → has_name (without_first x ys) z ≡ true)
         → has_name (if b then ys else y ∷ without_first x ys) z ≡ true
-    step true true f g h k = let same : x ≡ z = same_names x y f ∙ sym (same_names z y g) in let yes : bytes_eq x z ≡ true = subst (λ w. bytes_eq x w ≡ true) same (bytes_eq-self x) in absurd (cc)
+    step true true f g h k = let same : x ≡ z = same_names x y f ∙ sym (same_names z y g) in
+        let yes : bytes_eq x z ≡ true = subst (λ w. bytes_eq x w ≡ true) same (bytes_eq-self x) in absurd (cc)
     step true false f g h k = h
     step false true f g h k = or_left (bytes_eq z y) (has_name (without_first x ys) z) g
     step false false f g h k = or_right (bytes_eq z y) (has_name (without_first x ys) z) (k h)

@@ -45,7 +45,8 @@ head_line version (inr e) = subst (λ v. IsPlainLine (codes "nfot" ∷ digits_of
     (plain_line (codes "nfot" ∷ digits_of 2 ∷ []) (omega arith) (omega arith) (short_key (codes "nfot") refl refl refl, (short_key (digits_of 2) refl refl refl, tt)))
 
 -- ---- all lines
-each_line : {X : Type 0} (P : X → Type 0) (words_of : X → List (List ℕ)) → ((x : X) → P x → IsPlainLine (words_of x)) → (xs : List X) → AllByRecursion P xs → AllByRecursion IsPlainLine (map words_of xs)
+each_line : {X : Type 0} (P : X → Type 0) (words_of : X → List (List ℕ)) → ((x : X) → P x → IsPlainLine (words_of x)) → (xs : List X) → AllByRecursion P xs
+    → AllByRecursion IsPlainLine (map words_of xs)
 each_line P words_of f [] h = tt
 each_line P words_of f (x ∷ xs) h = (f x h.0, each_line P words_of f xs h.1)
 
@@ -56,7 +57,8 @@ lines_append (x ∷ xs) ys h k = (h.0, lines_append xs ys h.1 k)
 pub plain_canonical : (n : Named) → IsNamed n → AllByRecursion IsPlainLine (canonical_lines n)
 plain_canonical n h =
     let links : AllByRecursion IsPlainLine (map link_words (active_links n) ++ map link_words n.idle_links) =
-    subst (AllByRecursion IsPlainLine) (map-append link_words (active_links n) n.idle_links) (each_line (IsNamedLink n.version) link_words (link_line n.version) (all_links n) h.links) in (
+    subst (AllByRecursion IsPlainLine) (map-append link_words (active_links n) n.idle_links)
+        (each_line (IsNamedLink n.version) link_words (link_line n.version) (all_links n) h.links) in (
       head_line n.version h.version,
       (
         subst (λ v. IsPlainLine (codes "source" ∷ name_at n.node_names v ∷ [])) (sym h.numbered.source) (source_line (name_at n.node_names 0) (s_is_name n h)),

@@ -95,7 +95,8 @@ module _ (hops : List Hop) (u : ℕ) where
     ];
   }
 
-  into_grown : (S : ℕ → Bool) (rest : List Hop) → ((e : ℕ) (h : Hop) → slice_get rest e ≡ Some h → (i : ℕ) × (slice_get hops i ≡ Some h)) → AllByRecursion (λ h. S h.tail ≡ true → grown S h.head ≡ true) rest
+  into_grown : (S : ℕ → Bool) (rest : List Hop) → ((e : ℕ) (h : Hop) → slice_get rest e ≡ Some h → (i : ℕ) × (slice_get hops i ≡ Some h))
+      → AllByRecursion (λ h. S h.tail ≡ true → grown S h.head ≡ true) rest
   unfolding grown leads
   into_grown S [] f = tt
   into_grown S (h ∷ rest) f = (
@@ -114,7 +115,8 @@ module _ (hops : List Hop) (u : ℕ) where
   search_closed (suc fuel) S h room = elim (true_or_false (list_all (stays_in S) hops)) [
     | inl e ↦ record { set = S; sound = h; closed = e }
     | inr e ↦ search_closed fuel (grown S) (sound_grown S h)
-        (let k : suc (heads_in S hops) ≤ heads_in (grown S) hops = grows S (grown S) (λ v f. or_left (S v) (list_any (leads S v) hops) f) hops (into_grown S hops (λ e h is. (e, is))) e in omega arith)
+        (let k : suc (heads_in S hops) ≤ heads_in (grown S) hops = grows S (grown S) (λ v f. or_left (S v) (list_any (leads S v) hops) f) hops
+            (into_grown S hops (λ e h is. (e, is))) e in omega arith)
   ]
 
   source_alone : IsSound (λ v. u == v)
@@ -145,7 +147,8 @@ pub reaching : (hops : List Hop) (u v : ℕ) → Decides ((closure hops u).set v
 reaching hops u v = ((λ e. (closure hops u).sound.walks v e), λ w. stays_closed hops (closure hops u).set (closure hops u).closed w.0 u v (closure hops u).sound.start w.1)
 
 -- one more of the hops leads to a node that is found
-pub one_more_head : (S G : ℕ → Bool) → ((v : ℕ) → S v ≡ true → G v ≡ true) → (hops : List Hop) (place : ℕ) (hop : Hop) → slice_get hops place ≡ Some hop → S hop.head ≡ false → G hop.head ≡ true
+pub one_more_head : (S G : ℕ → Bool) → ((v : ℕ) → S v ≡ true → G v ≡ true) → (hops : List Hop) (place : ℕ) (hop : Hop) → slice_get hops place ≡ Some hop
+    → S hop.head ≡ false → G hop.head ≡ true
     → suc (heads_in S hops) ≤ heads_in G hops
 unfolding heads_in bit
 one_more_head S G more [] place hop is out into = absurd (cc)

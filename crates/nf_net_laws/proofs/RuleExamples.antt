@@ -239,7 +239,8 @@ to_itself hops v least positive h =
     ≤ℚ_antisymm least 0ℚ (h.bound [] refl) (subst (λ x. 0ℚ ≤ℚ x) h.taken.2 above)
 
 -- no sum passes at a link out of the source
-fits_at_source : (hops : List Hop) (source : ℕ) (h other : Hop) (least : ℚ) → AllByRecursion (λ hop. le_ℚ 0ℚ hop.transit ≡ true) hops → h.tail ≡ source → passes_Q Sum 0ℚ h.transit ≡ false
+fits_at_source : (hops : List Hop) (source : ℕ) (h other : Hop) (least : ℚ) → AllByRecursion (λ hop. le_ℚ 0ℚ hop.transit ≡ true) hops → h.tail ≡ source
+    → passes_Q Sum 0ℚ h.transit ≡ false
     → h ≡ other → IsLeastTransit hops source other.tail least → passes_Q Sum least other.transit ≡ true → ⊥
 fits_at_source hops source h other least positive out fits same is_least wide =
     let zero_ : least ≡ 0ℚ = to_itself hops source least positive (subst (λ v. IsLeastTransit hops source v least) (sym (ap (λ (x : Hop). x.tail) same) ∙ out) is_least) in

@@ -90,7 +90,8 @@ module _ (hops : List Hop) (positive : (e : ℕ) (hop : Hop) → IsHop hops e ho
     cheapest (h ∷ rest) = with_hop h rest (s.set h.tail) (s.set h.head) refl refl (cheapest rest)
 
     -- a walk from the source that leads out costs no less than the hop on which it does
-    leaving : (c : Cheapest hops) (front walk : List ℕ) (a b e : ℕ) (h : Hop) → IsWalk hops front u a → s.set a ≡ true → IsHop hops e h → h.tail ≡ a → IsWalk hops walk h.head b → (inside : Bool) → s.set h.head ≡ inside
+    leaving : (c : Cheapest hops) (front walk : List ℕ) (a b e : ℕ) (h : Hop) → IsWalk hops front u a → s.set a ≡ true → IsHop hops e h → h.tail ≡ a
+        → IsWalk hops walk h.head b → (inside : Bool) → s.set h.head ≡ inside
         → (s.set h.head ≡ true → cost c.hop ≤ℚ (transit_sum hops (front ++ e ∷ []) +ℚ transit_sum hops walk))
         → cost c.hop ≤ℚ (transit_sum hops front +ℚ (transit_of hops e +ℚ transit_sum hops walk))
     unfolding cost
@@ -98,14 +99,16 @@ module _ (hops : List Hop) (positive : (e : ℕ) (hop : Hop) → IsHop hops e ho
         let t : transit_of hops e ≡ h.transit = transit_of-hop hops e h is in
         let p : transit_sum hops (front ++ e ∷ []) ≡ transit_sum hops front +ℚ h.transit = sum_push front e h is in
         let k : cost c.hop ≤ℚ (transit_sum hops (front ++ e ∷ []) +ℚ transit_sum hops walk) = later f in
-        linear_le (cost c.hop ∷ transit_sum hops (front ++ e ∷ []) ∷ transit_sum hops front ∷ transit_sum hops walk ∷ transit_of hops e ∷ h.transit ∷ []) (eq t ∷ eq p ∷ le k ∷ []) (search reading_of) tt
+        linear_le (cost c.hop ∷ transit_sum hops (front ++ e ∷ []) ∷ transit_sum hops front ∷ transit_sum hops walk ∷ transit_of hops e ∷ h.transit ∷ [])
+            (eq t ∷ eq p ∷ le k ∷ []) (search reading_of) tt
     leaving c front walk a b e h w here is from rest false f later =
         let t : transit_of hops e ≡ h.transit = transit_of-hop hops e h is in
         let tail : s.set h.tail ≡ true = ap s.set from ∙ here in
         let k : cost c.hop ≤ℚ (s.label h.tail +ℚ h.transit) = entry_all (λ g. s.set g.tail ≡ true → s.set g.head ≡ false → cost c.hop ≤ℚ cost g) hops e h c.least is tail f in
         let j : s.label h.tail ≤ℚ transit_sum hops front = (s.least h.tail tail).bound front (subst (IsWalk hops front u) (sym from) w) in
         let n : 0ℚ ≤ℚ transit_sum hops walk = transit_sum_nn hops positive walk h.head b rest in
-        linear_le (cost c.hop ∷ s.label h.tail ∷ transit_sum hops front ∷ transit_sum hops walk ∷ transit_of hops e ∷ h.transit ∷ []) (eq t ∷ le k ∷ le j ∷ le n ∷ []) (search reading_of) tt
+        linear_le (cost c.hop ∷ s.label h.tail ∷ transit_sum hops front ∷ transit_sum hops walk ∷ transit_of hops e ∷ h.transit ∷ [])
+            (eq t ∷ le k ∷ le j ∷ le n ∷ []) (search reading_of) tt
 
     leads_out : (c : Cheapest hops) (front walk : List ℕ) (a b : ℕ) → IsWalk hops front u a → s.set a ≡ true → IsWalk hops walk a b → s.set b ≡ false
         → cost c.hop ≤ℚ (transit_sum hops front +ℚ transit_sum hops walk)
@@ -154,7 +157,8 @@ module _ (hops : List Hop) (positive : (e : ℕ) (hop : Hop) → IsHop hops e ho
 
     more_heads : (c : Cheapest hops) → suc (heads_in s.set hops) ≤ heads_in (more_set c) hops
     unfolding more_set
-    more_heads c = one_more_head s.set (more_set c) (λ v h. or_left (s.set v) (c.hop.head == v) h) hops c.place c.hop c.is_hop c.head (or_right (s.set c.hop.head) (c.hop.head == c.hop.head) (eq-eqb c.hop.head c.hop.head refl))
+    more_heads c = one_more_head s.set (more_set c) (λ v h. or_left (s.set v) (c.hop.head == v) h) hops c.place c.hop c.is_hop c.head
+        (or_right (s.set c.hop.head) (c.hop.head == c.hop.head) (eq-eqb c.hop.head c.hop.head refl))
 
   -- ---- until no hop leads out
   pub record AllSettled : Type 0 where

@@ -16,7 +16,8 @@ use Rattle.nf_net_laws.proofs.Settling.{AllSettled, all_settled}
 use Rattle.std.proofs.lemmas.Map.Keys.{any_passes_from_place}
 
 -- ---- the first of some rules that are decided
-decide_first : (P : NetRule → Type 0) → ((rule : NetRule) → P rule ⊎ (¬ P rule)) → (rules : List NetRule) → ((first : NetRule) × IsFirst P rules first) ⊎ AllByRecursion (λ rule. ¬ P rule) rules
+decide_first : (P : NetRule → Type 0) → ((rule : NetRule) → P rule ⊎ (¬ P rule)) → (rules : List NetRule)
+    → ((first : NetRule) × IsFirst P rules first) ⊎ AllByRecursion (λ rule. ¬ P rule) rules
 decide_first P decide [] = inr tt
 decide_first P decide (rule ∷ rules) = join (decide rule) (decide_first P decide rules)
   where
@@ -39,7 +40,8 @@ same_option None (Some y) = inr (λ e. absurd (cc))
 same_option (Some x) None = inr (λ e. absurd (cc))
 same_option (Some x) (Some y) = elim (true_or_false (bytes_eq x y)) [
   | inl e ↦ inl (ap (λ name. Some name) (same_names x y e))
-  | inr e ↦ inr (λ same. (let same_name : x ≡ y = ap (λ o. unwrap_or o x) same in let equal : bytes_eq x y ≡ true = subst (λ z. bytes_eq x z ≡ true) same_name (bytes_eq-self x) in absurd (cc)))
+  | inr e ↦ inr (λ same. (let same_name : x ≡ y = ap (λ o. unwrap_or o x) same in
+      let equal : bytes_eq x y ≡ true = subst (λ z. bytes_eq x z ≡ true) same_name (bytes_eq-self x) in absurd (cc)))
 ]
 
 -- a number below a bound at which a test says no, or none
@@ -83,7 +85,8 @@ module _ (draft : Draft) (g : IsGoodDraft draft) where
         | inr e ↦ inl (lacks (place_of draft.nodes (sink_name draft)) e)
       ]
 
-  active_flags : (links : List NamedLink) → AllZip (λ flag l. Decides flag (IsReached draft (place_of draft.nodes l.tail))) (map (λ l. is_reached (place_of draft.nodes l.tail)) links) links
+  active_flags : (links : List NamedLink) → AllZip (λ flag l. Decides flag (IsReached draft (place_of draft.nodes l.tail)))
+      (map (λ l. is_reached (place_of draft.nodes l.tail)) links) links
   active_flags [] = tt
   active_flags (l ∷ links) = (reach (place_of draft.nodes l.tail), active_flags links)
 
@@ -105,7 +108,8 @@ module _ (draft : Draft) (g : IsGoodDraft draft) where
   decide_22 = elim (true_or_false (list_any sum_test (draft_hops draft))) [
     | inl e ↦ inl (
         let r : FoundEntry sum_test (draft_hops draft) = found sum_test (draft_hops draft) e in
-        let p = and_parts (settled.settled.set r.entry.tail) (not (is_wide greatest (settled.settled.label r.entry.tail)) && passes_Q Sum (settled.settled.label r.entry.tail) r.entry.transit) r.passes in
+        let p = and_parts (settled.settled.set r.entry.tail) (not (is_wide greatest (settled.settled.label r.entry.tail)) && passes_Q Sum
+            (settled.settled.label r.entry.tail) r.entry.transit) r.passes in
         let q = and_parts (not (is_wide greatest (settled.settled.label r.entry.tail))) (passes_Q Sum (settled.settled.label r.entry.tail) r.entry.transit) p.1 in
         record {
           link = r.place;
@@ -117,7 +121,8 @@ module _ (draft : Draft) (g : IsGoodDraft draft) where
           passes = q.1;
         })
     | inr e ↦ inr (λ p.
-        let inside : settled.settled.set p.hop.tail ≡ true = stays_closed (draft_hops draft) settled.settled.set settled.closed p.is_least.taken.0 (source_place draft) p.hop.tail settled.settled.start p.is_least.taken.1 in
+        let inside : settled.settled.set p.hop.tail ≡ true = stays_closed (draft_hops draft) settled.settled.set settled.closed p.is_least.taken.0
+            (source_place draft) p.hop.tail settled.settled.start p.is_least.taken.1 in
         let same : p.least ≡ settled.settled.label p.hop.tail = least_once p.hop.tail p.least (settled.settled.label p.hop.tail) p.is_least (settled.settled.least p.hop.tail inside) in
         let there : list_any sum_test (draft_hops draft) ≡ true = any_passes_from_place sum_test (draft_hops draft) p.link p.hop p.is_hop
         (three (settled.settled.set p.hop.tail) (is_wide greatest (settled.settled.label p.hop.tail)) (passes_Q Sum (settled.settled.label p.hop.tail) p.hop.transit) inside
@@ -147,7 +152,8 @@ module _ (draft : Draft) (g : IsGoodDraft draft) where
   head_there : (e : ℕ) (h : Hop) → IsHop (draft_hops draft) e h → h.head < length draft.nodes
   head_there e h is =
       let c : CameFrom (λ l. hop_of (numbered draft.nodes l)) draft.links e h = came_from (λ l. hop_of (numbered draft.nodes l)) draft.links e h is in
-      subst (λ (x : Hop). x.head < length draft.nodes) c.is_image (place_below draft.nodes c.entry.head (entry_all (λ l. (has_name draft.nodes l.tail ≡ true) × (has_name draft.nodes l.head ≡ true)) draft.links e c.entry
+      subst (λ (x : Hop). x.head < length draft.nodes) c.is_image (place_below draft.nodes c.entry.head
+          (entry_all (λ l. (has_name draft.nodes l.tail ≡ true) × (has_name draft.nodes l.head ≡ true)) draft.links e c.entry
       (ends_of_each (has_name draft.nodes) draft.links g.ends_there) c.is_entry).1)
 
   -- a zeroed hop that leaves a node that is there is one of zero transit
@@ -155,7 +161,9 @@ module _ (draft : Draft) (g : IsGoodDraft draft) where
     hop : IsHop (draft_hops draft) e k
     zero_ : is_zero k ≡ true
 
-  zeroed_hop : (e : ℕ) (h k : Hop) (b : Bool) → IsHop (draft_hops draft) e h → is_zero h ≡ b → (if b then h else record { tail = length draft.nodes; head = length draft.nodes; transit = h.transit }) ≡ k → k.tail < length draft.nodes → IsZeroHop e k
+  zeroed_hop : (e : ℕ) (h k : Hop) (b : Bool) → IsHop (draft_hops draft) e h → is_zero h ≡ b
+      → (if b then h else record { tail = length draft.nodes; head = length draft.nodes; transit = h.transit }) ≡ k → k.tail < length draft.nodes
+      → IsZeroHop e k
   zeroed_hop e h k true is z same low = record { hop = subst (IsHop (draft_hops draft) e) same is; zero_ = subst (λ x. is_zero x ≡ true) same z }
   zeroed_hop e h k false is z same low = absurd (let at : length draft.nodes ≡ k.tail = ap (λ (x : Hop). x.tail) same in omega arith)
 
@@ -167,9 +175,12 @@ module _ (draft : Draft) (g : IsGoodDraft draft) where
 
   to_zeroed : (e : ℕ) (h : Hop) → IsHop (draft_hops draft) e h → is_zero h ≡ true → IsHop zero_hops e h
   unfolding zero_hops zeroed
-  to_zeroed e h is z = slice_get-image zeroed (draft_hops draft) e h is ∙ ap (λ (b : Bool). Some (if b then h else record { tail = length draft.nodes; head = length draft.nodes; transit = h.transit })) z
+  to_zeroed e h is z =
+      slice_get-image zeroed (draft_hops draft) e h is ∙ ap (λ (b : Bool). Some
+      (if b then h else record { tail = length draft.nodes; head = length draft.nodes; transit = h.transit })) z
 
-  walk_out : (walk : List ℕ) (a b : ℕ) → a < length draft.nodes → IsWalk zero_hops walk a b → IsWalk (draft_hops draft) walk a b × AllByRecursion (λ e. transit_of (draft_hops draft) e ≡ 0ℚ) walk
+  walk_out : (walk : List ℕ) (a b : ℕ) → a < length draft.nodes → IsWalk zero_hops walk a b
+      → IsWalk (draft_hops draft) walk a b × AllByRecursion (λ e. transit_of (draft_hops draft) e ≡ 0ℚ) walk
   walk_out [] a b low h = (h, tt)
   walk_out (e ∷ walk) a b low h =
       let z : IsZeroHop e h.0 = from_zeroed e h.0 h.1 (subst (λ x. x < length draft.nodes) (sym h.2) low) in
@@ -194,7 +205,8 @@ module _ (draft : Draft) (g : IsGoodDraft draft) where
         let back = walk_out w.0 r.entry.head r.entry.tail (head_there r.place r.entry r.is_entry) w.1 in
         record { first = r.place; walk = w.0; node = r.entry.tail; closed = (r.entry, r.is_entry, refl, back.0); zero = (zero_is r.place r.entry r.is_entry p.0, back.1) })
     | inr e ↦ inr (λ c.
-        let back : IsWalk zero_hops c.walk c.closed.0.head c.closed.0.tail = subst (λ v. IsWalk zero_hops c.walk c.closed.0.head v) (sym c.closed.2) (walk_in c.walk c.closed.0.head c.node c.closed.3 c.zero.1) in
+        let back : IsWalk zero_hops c.walk c.closed.0.head c.closed.0.tail =
+            subst (λ v. IsWalk zero_hops c.walk c.closed.0.head v) (sym c.closed.2) (walk_in c.walk c.closed.0.head c.node c.closed.3 c.zero.1) in
         let there : list_any cycle_test (draft_hops draft) ≡ true = any_passes_from_place cycle_test (draft_hops draft) c.first c.closed.0 c.closed.1
         (λ i. zero_test c.first c.closed.0 c.closed.1 c.zero.0 i && (reaching zero_hops c.closed.0.head c.closed.0.tail).1 (c.walk, back) i) in
         absurd (cc))
@@ -222,7 +234,8 @@ by_lines_some : (lines : Result Draft Broken) → ((draft : Draft) → lines ≡
 by_lines_some (Err broken) good = (Err broken, refl)
 by_lines_some (Ok draft) good = closing draft (good draft refl)
 
-by_bytes_some : (fault : Option LineFault) (lines : Result Draft Broken) → ((draft : Draft) → lines ≡ Ok draft → IsGoodDraft draft) → (result : Result Named Broken) × by_bytes fault lines result
+by_bytes_some : (fault : Option LineFault) (lines : Result Draft Broken) → ((draft : Draft) → lines ≡ Ok draft → IsGoodDraft draft)
+    → (result : Result Named Broken) × by_bytes fault lines result
 by_bytes_some (Some fault) lines good = (Err (as_rule fault), refl)
 by_bytes_some None lines good = by_lines_some lines good
 

@@ -88,13 +88,15 @@ module _ (hops : List Hop) (p : Pattern) (n : ℕ) (ends tails heads : List (Opt
       }
 
   -- The hop read for a link.
-  pub read_tails : (hop : Hop) (i : ℕ) (found : Option ℕ) → IsHop hops n hop → HasState p n Tight → n < length hops → found ≡ get_or tails n found → i ≡ hop.tail → found ≡ last_at (ends_at hops p) n i
+  pub read_tails : (hop : Hop) (i : ℕ) (found : Option ℕ) → IsHop hops n hop → HasState p n Tight → n < length hops → found ≡ get_or tails n found
+      → i ≡ hop.tail → found ≡ last_at (ends_at hops p) n i
   read_tails hop i found is tight within read at =
       same_Some found (last_at (ends_at hops p) n i) (ap (λ (o : Option ℕ). Some o) read
       ∙ (sym (slice_get-get_or tails n found (let count = chains.count_tails in omega arith)) ∙ (chains.tails_are n hop (omega arith) tight is
       ∙ ap (λ (h : ℕ). Some (last_at (ends_at hops p) n h)) (sym at))))
 
-  pub read_heads : (hop : Hop) (j : ℕ) (found : Option ℕ) → IsHop hops n hop → HasState p n Tight → n < length hops → found ≡ get_or heads n found → j ≡ hop.head → found ≡ last_at (ends_at hops p) n j
+  pub read_heads : (hop : Hop) (j : ℕ) (found : Option ℕ) → IsHop hops n hop → HasState p n Tight → n < length hops → found ≡ get_or heads n found
+      → j ≡ hop.head → found ≡ last_at (ends_at hops p) n j
   read_heads hop j found is tight within read at =
       same_Some found (last_at (ends_at hops p) n j) (ap (λ (o : Option ℕ). Some o) read
       ∙ (sym (slice_get-get_or heads n found (let count = chains.count_heads in omega arith)) ∙ (chains.heads_are n hop (omega arith) tight is

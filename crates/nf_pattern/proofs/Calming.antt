@@ -68,7 +68,8 @@ pub marked_set : (base : Pattern) (n i : ℕ) (flags : List Bool) (flag : Bool) 
 marked_set base n i flags flag same within told marked e has = ⊎_elim
     (λ (here : e ≡ i). (
       omega arith,
-      subst (λ (k : ℕ). HasState base k Tight) (sym (here ∙ same)) (is_tight flag told (same_Some flag true (sym (set_same flags i flag within) ∙ subst (λ (k : ℕ). slice_get (slice_set flags i flag) k ≡ Some true) here has))),
+      subst (λ (k : ℕ). HasState base k Tight) (sym (here ∙ same)) (is_tight flag told
+          (same_Some flag true (sym (set_same flags i flag within) ∙ subst (λ (k : ℕ). slice_get (slice_set flags i flag) k ≡ Some true) here has))),
     ))
     (λ (other : e ≢ i). marked_more base n flags marked e (sym (set_other flags i e flag other) ∙ has))
     (tell e i)
@@ -86,7 +87,8 @@ none_has (suc n) (suc e) has = none_has n e has
 pub marked_none : (base : Pattern) (flags : List Bool) → ((e : ℕ) → Has flags e → ⊥) → AreMarked base 0 flags
 marked_none base flags none e has = absurd (none e has)
 
-pub calm_marked : (hops : List Hop) (base p : Pattern) (n : ℕ) (links : FirmLinks) → length links.flags.items ≡ length hops → NoneCloses hops base n → AreMarked base n links.flags.items → AreCalm hops p 0 links
+pub calm_marked : (hops : List Hop) (base p : Pattern) (n : ℕ) (links : FirmLinks) → length links.flags.items ≡ length hops → NoneCloses hops base n
+    → AreMarked base n links.flags.items → AreCalm hops p 0 links
 calm_marked hops base p n links count clear marked = record {
   count = count;
   firm = λ e hop firm is joined. clear e (marked e firm).0 (

@@ -40,7 +40,8 @@ none_earliest base us n valid more = go (earliest base us n) refl
         let few = changes_few base us q is.0 in
         let c : changes base q ≡ n = is.1 in absurd (omega arith)
 
-pub else_other : (i : ℕ) (base : Pattern) (us zs : List Bool) (p : Pattern) (o : Option Pattern) → later i base us zs p ≡ None → earliest base us (suc (changes base p)) ≡ o → next_assignment i base us zs p ≡ o
+pub else_other : (i : ℕ) (base : Pattern) (us zs : List Bool) (p : Pattern) (o : Option Pattern) → later i base us zs p ≡ None
+    → earliest base us (suc (changes base p)) ≡ o → next_assignment i base us zs p ≡ o
 else_other i base us zs p o none e = ap (λ (x : Option Pattern). or_else x (earliest base us (suc (changes base p)))) none ∙ e
 
 pub else_first : (i : ℕ) (base : Pattern) (us zs : List Bool) (p q : Pattern) → later i base us zs p ≡ Some q → next_assignment i base us zs p ≡ Some q

@@ -75,7 +75,9 @@ decide_entry (Some Zero) Zero = inl refl
 
 pub decide_state : (p : Pattern) (e : ℕ) (state : State) → Decided (HasState p e state)
 decide_state [] e state = inr (λ h. none-some (Some state) h)
-decide_state (s ∷ p) zero state = ⊎_elim (λ (same : s ≡ Some state). inl (ap (λ (x : Option State). Some x) same)) (λ (other : s ≡ Some state → ⊥). inr (λ h. other (same_Some s (Some state) h))) (decide_entry s state)
+decide_state (s ∷ p) zero state =
+    ⊎_elim (λ (same : s ≡ Some state). inl (ap (λ (x : Option State). Some x) same))
+    (λ (other : s ≡ Some state → ⊥). inr (λ h. other (same_Some s (Some state) h))) (decide_entry s state)
 decide_state (s ∷ p) (suc e) state = decide_state p e state
 
 -- the hop at a place
@@ -139,15 +141,19 @@ module _ (hops : List Hop) (p : Pattern) where
   no_steps [] v w q other = other q
   no_steps ((e, d) ∷ s) v w q other = let l = q.2.0 in omega arith
 
-  decide_more : (n : ℕ) → ((a b : ℕ) → Decided (Joined n a b)) → (v w : ℕ) → Decided (Joined n v w) → ((hop : Hop) × IsHop hops n hop) ⊎ ((hop : Hop) → IsHop hops n hop → ⊥) → Decided (HasState p n Tight)
+  decide_more : (n : ℕ) → ((a b : ℕ) → Decided (Joined n a b)) → (v w : ℕ) → Decided (Joined n v w)
+      → ((hop : Hop) × IsHop hops n hop) ⊎ ((hop : Hop) → IsHop hops n hop → ⊥) → Decided (HasState p n Tight)
       → Decided (Joined (suc n) v w)
   decide_more n each v w (inl j) h t = inl (j.0, wider n j.0 v w j.1)
-  decide_more n each v w (inr none) (inr no_hop) t = inr (λ j. ⊎_elim none (λ (x : (hop : Hop) × IsHop hops n hop × HasState p n Tight × Over n hop v w). no_hop x.0 x.1) (joins_over n v w j))
-  decide_more n each v w (inr none) (inl h) (inr loose) = inr (λ j. ⊎_elim none (λ (x : (hop : Hop) × IsHop hops n hop × HasState p n Tight × Over n hop v w). loose x.2) (joins_over n v w j))
+  decide_more n each v w (inr none) (inr no_hop) t =
+      inr (λ j. ⊎_elim none (λ (x : (hop : Hop) × IsHop hops n hop × HasState p n Tight × Over n hop v w). no_hop x.0 x.1) (joins_over n v w j))
+  decide_more n each v w (inr none) (inl h) (inr loose) =
+      inr (λ j. ⊎_elim none (λ (x : (hop : Hop) × IsHop hops n hop × HasState p n Tight × Over n hop v w). loose x.2) (joins_over n v w j))
   decide_more n each v w (inr none) (inl h) (inl tight) = ⊎_elim
       (λ (x : Over n h.0 v w). inl (over_joins n h.0 v w h.1 tight x))
       (λ (not_over : Over n h.0 v w → ⊥). inr (λ j. ⊎_elim none
-      (λ (x : (hop : Hop) × IsHop hops n hop × HasState p n Tight × Over n hop v w). not_over (subst (λ (y : Hop). Over n y v w) (IsHop-unique hops n x.0 h.0 x.1 h.1) x.3)) (joins_over n v w j)))
+      (λ (x : (hop : Hop) × IsHop hops n hop × HasState p n Tight × Over n hop v w). not_over
+          (subst (λ (y : Hop). Over n y v w) (IsHop-unique hops n x.0 h.0 x.1 h.1) x.3)) (joins_over n v w j)))
       (decide_one (Joined n v h.0.tail × Joined n h.0.head w) (Joined n v h.0.head × Joined n h.0.tail w)
       (decide_both (Joined n v h.0.tail) (Joined n h.0.head w) (each v h.0.tail) (each h.0.head w))
       (decide_both (Joined n v h.0.head) (Joined n h.0.tail w) (each v h.0.head) (each h.0.tail w)))
@@ -197,7 +203,8 @@ module _ (question : Question) (is : IsQuestion question) where
       (λ (w : (v : ℕ) × (v < question.nodes) × (v ≢ question.source) × (IsEntered question.hops question.sets.resetting p v → ⊥)). inr (λ l. w.3 (l.entered w.0 w.1 w.2)))
       (λ (all : (v : ℕ) → v < question.nodes → (v ≢ question.source) × (IsEntered question.hops question.sets.resetting p v → ⊥) → ⊥). inl (listed_by question is p assigned
       (is_forest question.hops p (λ e c. none e (closing_below question.hops p e c) c))
-      (λ v below apart. ⊎_elim (λ (e : IsEntered question.hops question.sets.resetting p v). e) (λ (n : IsEntered question.hops question.sets.resetting p v → ⊥). absurd (all v below (apart, n)))
+      (λ v below apart. ⊎_elim (λ (e : IsEntered question.hops question.sets.resetting p v). e)
+          (λ (n : IsEntered question.hops question.sets.resetting p v → ⊥). absurd (all v below (apart, n)))
       (decide_entered question.hops p question.sets.resetting v))))
       (nodes_below question.nodes))
       (decide_below (λ e. Closes question.hops p e) (decide_closes question.hops p) (length question.hops))
@@ -207,9 +214,11 @@ module _ (question : Question) (is : IsQuestion question) where
       nodes_below n = ⊎_elim
           (λ (w : (v : ℕ) × (v < n) × ((v ≢ question.source) × (IsEntered question.hops question.sets.resetting p v → ⊥))). inl (w.0, w.1, w.2.0, w.2.1))
           (λ (none : (v : ℕ) → v < n → (v ≢ question.source) × (IsEntered question.hops question.sets.resetting p v → ⊥) → ⊥). inr none)
-          (decide_below (λ v. (v ≢ question.source) × (IsEntered question.hops question.sets.resetting p v → ⊥)) (λ v. decide_both (v ≢ question.source) (IsEntered question.hops question.sets.resetting p v → ⊥)
+          (decide_below (λ v. (v ≢ question.source) × (IsEntered question.hops question.sets.resetting p v → ⊥))
+              (λ v. decide_both (v ≢ question.source) (IsEntered question.hops question.sets.resetting p v → ⊥)
           (⊎_elim (λ (e : v ≡ question.source). inr (λ n. n e)) (λ (n : v ≡ question.source → ⊥). inl n) (decide_same v question.source))
-          (⊎_elim (λ (e : IsEntered question.hops question.sets.resetting p v). inr (λ n. n e)) (λ (n : IsEntered question.hops question.sets.resetting p v → ⊥). inl n) (decide_entered question.hops p question.sets.resetting v))) n)
+          (⊎_elim (λ (e : IsEntered question.hops question.sets.resetting p v). inr (λ n. n e))
+              (λ (n : IsEntered question.hops question.sets.resetting p v → ⊥). inl n) (decide_entered question.hops p question.sets.resetting v))) n)
 
   -- ---- the listed patterns from an assignment on
   abbrev base : Pattern
@@ -232,7 +241,8 @@ module _ (question : Question) (is : IsQuestion question) where
   with_first p rest is_rest (inl listed) = (
     p ∷ rest,
     record {
-      listed = λ r here. ⊎_elim (λ (same : p ≡ r). subst (λ (x : Pattern). IsListedBy question x) same listed) (λ (w : StandsIn rest r). is_rest.listed r w) (stands_cases base p r rest here);
+      listed = λ r here. ⊎_elim (λ (same : p ≡ r). subst (λ (x : Pattern). IsListedBy question x) same listed) (λ (w : StandsIn rest r). is_rest.listed r w)
+          (stands_cases base p r rest here);
       from = λ r here. ⊎_elim (λ (same : p ≡ r). inl (sym same)) (λ (w : StandsIn rest r). inr (is_rest.later r w)) (stands_cases base p r rest here);
       whole = λ r l from. ⊎_elim (λ (same : r ≡ p). (0, ap (λ (x : Pattern). Some x) (sym same))) (λ (w : IsBefore base p r). let at = is_rest.whole r l w in (suc at.0, at.1)) from;
       ordered = ordered_first;
@@ -261,16 +271,19 @@ module _ (question : Question) (is : IsQuestion question) where
   none_rest p assigned e = record {
     listed = λ r here. absurd (none-some r here.1);
     later = λ r here. absurd (none-some r here.1);
-    whole = λ r listed later. absurd (none_after question is p assigned (length base) (omega arith) (none_advances_by question is (unflagged base) spared (length base) p e) r listed later);
+    whole = λ r listed later. absurd (none_after question is p assigned (length base) (omega arith)
+        (none_advances_by question is (unflagged base) spared (length base) p e) r listed later);
     ordered = λ i j x y less at_x at_y. absurd (none-some x at_x);
   }
 
-  more_rest : (p q : Pattern) (rest : List Pattern) → IsAssignment base question.unbounded p → next_assignment (length base) base question.unbounded (unflagged base) p ≡ Some q → IsListingFrom q rest → IsRest p rest
+  more_rest : (p q : Pattern) (rest : List Pattern) → IsAssignment base question.unbounded p
+      → next_assignment (length base) base question.unbounded (unflagged base) p ≡ Some q → IsListingFrom q rest → IsRest p rest
   more_rest p q rest assigned e is_listing =
       let step = advances_by question is (unflagged base) spared (length base) p q assigned e in
       record {
         listed = is_listing.listed;
-        later = λ r here. ⊎_elim (λ (same : r ≡ q). subst (λ (x : Pattern). IsBefore base p x) (sym same) step.later) (λ (w : IsBefore base q r). IsBefore-transitive base p q r step.later w) (is_listing.from r here);
+        later = λ r here. ⊎_elim (λ (same : r ≡ q). subst (λ (x : Pattern). IsBefore base p x) (sym same) step.later)
+            (λ (w : IsBefore base q r). IsBefore-transitive base p q r step.later w) (is_listing.from r here);
         whole = λ r listed later. is_listing.whole r listed (from_next question is p assigned (length base) (omega arith) q step r listed later);
         ordered = is_listing.ordered;
       }
@@ -280,7 +293,8 @@ module _ (question : Question) (is : IsQuestion question) where
   list_from (suc fuel) p assigned left = go (next_assignment (length base) base question.unbounded (unflagged base) p) refl (λ q h l. list_from fuel q h l)
     where
       go : (o : Option Pattern) → next_assignment (length base) base question.unbounded (unflagged base) p ≡ o
-          → ((q : Pattern) → IsAssignment base question.unbounded q → left_after base q < fuel → (listing : List Pattern) × IsListingFrom q listing) → (listing : List Pattern) × IsListingFrom p listing
+          → ((q : Pattern) → IsAssignment base question.unbounded q → left_after base q < fuel → (listing : List Pattern) × IsListingFrom q listing)
+              → (listing : List Pattern) × IsListingFrom p listing
       go None e rec = with_first p [] (none_rest p assigned e) (decide_listed p assigned)
       go (Some q) e rec =
           let step = advances_by question is (unflagged base) spared (length base) p q assigned e in

@@ -128,7 +128,8 @@ module _ (hops : List Hop) (resetting : List Bool) (p : Pattern) where
                 (more_before e hop.head before);
           }
 
-      pub strands_told : i ≢ source → (MayCarry resetting p e → ⊥) → slice_get ends i ≡ Some (suc e) → (before : Bool) → MatchBool before (EnteredBefore hops resetting p e i) (EnteredBefore hops resetting p e i → ⊥)
+      pub strands_told : i ≢ source → (MayCarry resetting p e → ⊥) → slice_get ends i ≡ Some (suc e) → (before : Bool)
+          → MatchBool before (EnteredBefore hops resetting p e i) (EnteredBefore hops resetting p e i → ⊥)
           → MatchBool (not before) (Strands source hops resetting p ends e) (Keeps source hops resetting p ends e)
       strands_told other none last true told = entered_keeps told
       strands_told other none last false told = strands_there other none last told
@@ -175,7 +176,8 @@ none_last hops count v found read = subst (λ (o : Option ℕ). IsLastInto hops 
 
 -- ---- the last link that can enter each node
 module _ (hops : List Hop) (resetting : List Bool) (base : Pattern) where
-  end_later : (m v n : ℕ) → IsEndBefore hops resetting base m v n → ((hop : Hop) → IsHop hops m hop → hop.head ≡ v → CanCarry resetting base m → ⊥) → IsEndBefore hops resetting base (suc m) v n
+  end_later : (m v n : ℕ) → IsEndBefore hops resetting base m v n → ((hop : Hop) → IsHop hops m hop → hop.head ≡ v → CanCarry resetting base m → ⊥)
+      → IsEndBefore hops resetting base (suc m) v n
   end_later m v n end none = record {
     all = λ e hop less is_hop head can. ⊎_elim
         (λ (l : e < m). end.all e hop l is_hop head can)
@@ -187,7 +189,8 @@ module _ (hops : List Hop) (resetting : List Bool) (base : Pattern) where
   pub ends_kept : (m : ℕ) (ends : List ℕ) → AreEndsBefore hops resetting base m ends → (CanCarry resetting base m → ⊥) → AreEndsBefore hops resetting base (suc m) ends
   ends_kept m ends before none v n read = end_later m v n (before v n read) (λ hop is_hop head can. none can)
 
-  pub end_noted : (m : ℕ) → CanCarry resetting base m → (hop : Hop) → IsHop hops m hop → (i : ℕ) → i ≡ hop.head → (ends : List ℕ) → i < length ends → AreEndsBefore hops resetting base m ends
+  pub end_noted : (m : ℕ) → CanCarry resetting base m → (hop : Hop) → IsHop hops m hop → (i : ℕ) → i ≡ hop.head → (ends : List ℕ) → i < length ends
+      → AreEndsBefore hops resetting base m ends
       → AreEndsBefore hops resetting base (suc m) (slice_set ends i (m + 1))
   end_noted m can_here hop is_hop i at ends within before v n read = ⊎_elim
       (λ (same : v ≡ i). subst (λ (k : ℕ). IsEndBefore hops resetting base (suc m) v k)

@@ -53,7 +53,8 @@ prefixed-nothing : (o : Option Pattern) → o ≡ prefixed [] o
 prefixed-nothing None = refl
 prefixed-nothing (Some states) = refl
 
-pub none_filled : (base : Pattern) (us : List Bool) (n more : ℕ) (states : Pattern) → length states ≡ length base → IsAssignment base us base → more ≡ free base → n ≤ more → AreFilled base us n states 0 n more
+pub none_filled : (base : Pattern) (us : List Bool) (n more : ℕ) (states : Pattern) → length states ≡ length base → IsAssignment base us base
+    → more ≡ free base → n ≤ more → AreFilled base us n states 0 n more
 none_filled base us n more states count valid all few = record { said = prefixed-nothing (earliest base us n); all_free = all; few = few; valid = valid; count = count }
 
 module _ (base : Pattern) (us : List Bool) (n : ℕ) (states : Pattern) (i left more : ℕ) (b : Option State) (u : Bool) (filled : AreFilled base us n states i left more)
@@ -112,7 +113,8 @@ module _ (base : Pattern) (us : List Bool) (n : ℕ) (states : Pattern) (i left 
       only : (s : Option State) → IsIn (choices b u) s → s ≡ None
       only s is = ⊎_elim (λ (e : s ≡ None). e) (λ (no : ⊥). absurd no) (subst (λ (x : Option State). IsIn (choices x u) s) none is)
 
-      go : (o : Option (Option State)) → first_good (fits b left (free (drop (suc i) base))) (choices b u) ≡ o → first_good (fits b left (free (drop (suc i) base))) (choices b u) ≡ Some None
+      go : (o : Option (Option State)) → first_good (fits b left (free (drop (suc i) base))) (choices b u) ≡ o
+          → first_good (fits b left (free (drop (suc i) base))) (choices b u) ≡ Some None
       go None e = absurd (has_choice e)
       go (Some s) e = e ∙ ap (λ (x : Option State). Some x) (only s (good_some (fits b left (free (drop (suc i) base))) (choices b u) s e).0)
 
@@ -128,7 +130,8 @@ none_left us left h = go (eqb left 0) refl
     go true e = refl
     go false e = absurd (apart_from_test left 0 (sym e) (omega arith))
 
-pub all_filled : (base : Pattern) (us : List Bool) (n : ℕ) (states : Pattern) (i left more : ℕ) → length base ≤ i → AreFilled base us n states i left more → earliest base us n ≡ Some states
+pub all_filled : (base : Pattern) (us : List Bool) (n : ℕ) (states : Pattern) (i left more : ℕ) → length base ≤ i → AreFilled base us n states i left more
+    → earliest base us n ≡ Some states
 all_filled base us n states i left more end filled =
     let nothing : drop i base ≡ [] = drop_of_length-le base end in
     let zero_more : more ≡ 0 = filled.all_free ∙ ap free nothing in
@@ -158,7 +161,8 @@ earliest_same (b ∷ base) (u ∷ us) h =
     ap (λ (o : Option (Option State)). with_rest o (λ s. earliest base us (0 - change b s))) (same_first b u (free base) h.0)
     ∙ (ap (λ (n : ℕ). before_all b (earliest base us n)) (let e = no_change b in omega arith) ∙ ap (before_all b) (earliest_same base us h.1))
 
-pub rest_filled : (base : Pattern) (us : List Bool) (n : ℕ) (states : Pattern) (i left more : ℕ) → left ≡ 0 → AreFilled base us n states i left more → earliest base us n ≡ Some (take i states ++ drop i base)
+pub rest_filled : (base : Pattern) (us : List Bool) (n : ℕ) (states : Pattern) (i left more : ℕ) → left ≡ 0 → AreFilled base us n states i left more
+    → earliest base us n ≡ Some (take i states ++ drop i base)
 rest_filled base us n states i left more none filled = filled.said ∙ (ap (λ (k : ℕ). prefixed (take i states) (earliest (drop i base) (drop i us) k)) none
     ∙ ap (prefixed (take i states)) (earliest_same (drop i base) (drop i us) filled.valid))
 

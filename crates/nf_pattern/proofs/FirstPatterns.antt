@@ -60,7 +60,8 @@ module _ (hops : List Hop) (sets : Sets) where
   same_state : (last : Pattern) (e : ℕ) (s t : State) → slice_get last e ≡ Some (Some s) → HasState last e t → s ≡ t
   same_state last e s t at was = same_Some s t (same_Some (Some s) (Some t) (sym at ∙ was))
 
-  pub state_kept : (last : Pattern) (e : ℕ) (state : State) → Has sets.active e → slice_get sets.resetting e ≡ Some false → slice_get last e ≡ Some (Some state) → IsBaseState hops sets last e (Some state)
+  pub state_kept : (last : Pattern) (e : ℕ) (state : State) → Has sets.active e → slice_get sets.resetting e ≡ Some false
+      → slice_get last e ≡ Some (Some state) → IsBaseState hops sets last e (Some state)
   state_kept last e state active off at = record {
     needed = λ s _. (active, not_set e off);
     there = λ _. (state, refl);

@@ -53,7 +53,8 @@ module _ (source : ℕ) (hops : List Hop) (resetting : List Bool) (p : Pattern) 
   }
 
   -- The first possible exception changes, for links that are not examined.
-  pub calmed : {trail after : Trail} → Follows source hops resetting p trail → after ≡ record { depth = trail.depth; tight = trail.tight; firm = after.firm; chain = trail.chain; ends = trail.ends; lost = trail.lost }
+  pub calmed : {trail after : Trail} → Follows source hops resetting p trail
+      → after ≡ record { depth = trail.depth; tight = trail.tight; firm = after.firm; chain = trail.chain; ends = trail.ends; lost = trail.lost }
       → AreCalm hops p trail.depth after.firm → Follows source hops resetting p after
   calmed {trail} {after} follows same calm = subst (λ (t : Trail). Follows source hops resetting p t) (sym same) (record {
     depth = follows.depth;

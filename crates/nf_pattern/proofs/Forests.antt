@@ -10,7 +10,8 @@ use Rattle.nf_pattern.proofs.Trails.{Steps, numbers, start_of, end_of, find_step
 
 module _ (hops : List Hop) where
   -- one allowed hop more
-  module _ (A B : ℕ → Type 0) (n : ℕ) (forest : IsForest hops A) (others : (e : ℕ) → e ≢ n → B e → A e) (apart : B n → (hop : Hop) → IsHop hops n hop → AreJoined hops A hop.head hop.tail → ⊥) where
+  module _ (A B : ℕ → Type 0) (n : ℕ) (forest : IsForest hops A) (others : (e : ℕ) → e ≢ n → B e → A e)
+      (apart : B n → (hop : Hop) → IsHop hops n hop → AreJoined hops A hop.head hop.tail → ⊥) where
     avoiding : (s : Steps) (v w : ℕ) → (Contains (numbers s) n → ⊥) → IsTrail hops B s v w → IsTrail hops A s v w
     avoiding s v w none p = trail_by hops B A s v w (λ k c b. others k (λ (same : k ≡ n). none (subst (λ (m : ℕ). Contains (numbers s) m) same c)) b) p
 
@@ -56,8 +57,10 @@ module _ (hops : List Hop) where
     no_forest e closes forest =
         let short = shorten hops (TightBefore pattern e) closes.1.joined.0 closes.1.hop.head closes.1.hop.tail closes.1.joined.1 in
         forest (e, true) short.0 closes.1.hop.tail
-        (λ (c : Contains (numbers short.0) e). let t = trail_allows hops (TightBefore pattern e) short.0 closes.1.hop.head closes.1.hop.tail e short.2 c in let l = t.0 in omega arith, short.1)
-        (closes.1.hop, closes.1.is_hop, closes.0, refl, trail_by hops (TightBefore pattern e) (λ k. HasState pattern k Tight) short.0 closes.1.hop.head closes.1.hop.tail (λ k c t. t.1) short.2)
+        (λ (c : Contains (numbers short.0) e). let t = trail_allows hops (TightBefore pattern e) short.0 closes.1.hop.head closes.1.hop.tail e short.2 c in
+            let l = t.0 in omega arith, short.1)
+        (closes.1.hop, closes.1.is_hop, closes.0, refl, trail_by hops (TightBefore pattern e)
+            (λ k. HasState pattern k Tight) short.0 closes.1.hop.head closes.1.hop.tail (λ k c t. t.1) short.2)
 
     pub closing_below : (e : ℕ) → Closes hops pattern e → e < length hops
     closing_below e closes = slice_get_within hops e closes.1.hop closes.1.is_hop

@@ -24,7 +24,8 @@ each_alike zero v x less = absurd (omega arith)
 each_alike (suc n) zero x less = refl
 each_alike (suc n) (suc v) x less = each_alike n v x (omega arith)
 
-pub holds_none : (hops : List Hop) (p : Pattern) (nodes : ℕ) (last tails heads : List (Option ℕ)) → AreBelow nodes hops → last ≡ replicate nodes None → length tails ≡ length hops → length heads ≡ length hops
+pub holds_none : (hops : List Hop) (p : Pattern) (nodes : ℕ) (last tails heads : List (Option ℕ)) → AreBelow nodes hops → last ≡ replicate nodes None
+    → length tails ≡ length hops → length heads ≡ length hops
     → IsWalkable hops p zero last tails heads
 holds_none hops p nodes last tails heads below none count_tails count_heads =
     let count : length last ≡ nodes = ap (λ (os : List (Option ℕ)). length os) none ∙ length-replicate nodes None in record {
@@ -101,7 +102,8 @@ module _ (hops : List Hop) (p : Pattern) (n : ℕ) where
             (tell v i))
             (tell v j)
 
-        pub holds_tight : (k l : ℕ) (before_tail before_head : Option ℕ) → k ≡ n → l ≡ n → before_tail ≡ last_at (ends_at hops p) n hop.tail → before_head ≡ last_at (ends_at hops p) n hop.head
+        pub holds_tight : (k l : ℕ) (before_tail before_head : Option ℕ) → k ≡ n → l ≡ n → before_tail ≡ last_at (ends_at hops p) n hop.tail
+            → before_head ≡ last_at (ends_at hops p) n hop.head
             → IsWalkable hops p (suc n) after (slice_set tails k before_tail) (slice_set heads l before_head)
         holds_tight k l before_tail before_head at_tails at_heads read_tail read_head = record {
           below = subst (λ (m : ℕ). AreBelow m hops) (sym count_after) holds.below;

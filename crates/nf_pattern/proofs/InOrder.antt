@@ -45,7 +45,8 @@ module _ (i : ℕ) (base : Pattern) (us zs : List Bool) (valid : IsAssignment ba
       absurd (earliest_exists base us (suc (changes base p)) valid (omega arith) (else_none (later i base us zs p) (earliest base us (suc (changes base p))) e).1)
   next_none r e h sp (inr k) = later_none i base us zs p r valid (else_none (later i base us zs p) (earliest base us (suc (changes base p))) e).0 h sp (sym k.0) k.1
 
-  between_later : (q r : Pattern) → IsAssignment base us p → later i base us zs p ≡ Some q → IsAssignment base us r → Spares zs r → IsBefore base p r → IsBefore base r q → take i r ≡ take i p
+  between_later : (q r : Pattern) → IsAssignment base us p → later i base us zs p ≡ Some q → IsAssignment base us r → Spares zs r → IsBefore base p r
+      → IsBefore base r q → take i r ≡ take i p
   between_later q r a e h sp before after = go (later_is i base us zs p q valid a e).1 before after
     where
       go : changes base q ≡ changes base p → IsBefore base p r → IsBefore base r q → take i r ≡ take i p
@@ -54,7 +55,8 @@ module _ (i : ℕ) (base : Pattern) (us zs : List Bool) (valid : IsAssignment ba
       go c (inr k) (inl more) = let f = k.0 in absurd (omega arith)
       go c (inr k) (inr l) = later_next i base us zs p q r valid e h sp (sym k.0) k.1 l.1
 
-  between_more : (q r : Pattern) → later i base us zs p ≡ None → earliest base us (suc (changes base p)) ≡ Some q → IsAssignment base us r → Spares zs r → IsBefore base p r → IsBefore base r q
+  between_more : (q r : Pattern) → later i base us zs p ≡ None → earliest base us (suc (changes base p)) ≡ Some q → IsAssignment base us r → Spares zs r
+      → IsBefore base p r → IsBefore base r q
       → take i r ≡ take i p
   between_more q r none e h sp before after = go (earliest_is base us (suc (changes base p)) q valid e).1 before after
     where
@@ -64,7 +66,8 @@ module _ (i : ℕ) (base : Pattern) (us zs : List Bool) (valid : IsAssignment ba
       go c (inr k) after = later_none i base us zs p r valid none h sp (sym k.0) k.1
 
   -- All assignments between them in which no flagged link is Zero have the same states at the first links.
-  pub next_least : (q r : Pattern) → IsAssignment base us p → next_assignment i base us zs p ≡ Some q → IsAssignment base us r → Spares zs r → IsBefore base p r → IsBefore base r q → take i r ≡ take i p
+  pub next_least : (q r : Pattern) → IsAssignment base us p → next_assignment i base us zs p ≡ Some q → IsAssignment base us r → Spares zs r
+      → IsBefore base p r → IsBefore base r q → take i r ≡ take i p
   next_least q r a e h sp before after = ⊎_elim
       (λ (w : later i base us zs p ≡ Some q). between_later q r a w h sp before after)
       (λ (w : (later i base us zs p ≡ None) × (earliest base us (suc (changes base p)) ≡ Some q)). between_more q r w.0 w.1 h sp before after)

@@ -11,7 +11,9 @@ module _ (b : Option State) (u z : Bool) (base : Pattern) (us zs : List Bool) (a
   n = changes (b ∷ base) (a ∷ p)
 
   abbrev pub Raised : Pattern → Type 0
-  Raised q = (s : Option State) × (states : Pattern) × (first_good (higher b z a n (free base)) (choices b u) ≡ Some s) × (earliest base us (n - change b s) ≡ Some states) × (q ≡ s ∷ states)
+  Raised q =
+      (s : Option State) × (states : Pattern) × (first_good (higher b z a n (free base)) (choices b u) ≡ Some s)
+      × (earliest base us (n - change b s) ≡ Some states) × (q ≡ s ∷ states)
 
   raised_parts : (q : Pattern) → raised b u z base us a n ≡ Some q → Raised q
   raised_parts q e = rest_given (first_good (higher b z a n (free base)) (choices b u)) (λ s. earliest base us (n - change b s)) q e
@@ -38,7 +40,8 @@ module _ (b : Option State) (u z : Bool) (base : Pattern) (us zs : List Bool) (a
       let le : change b w.0 ≤ n = fit.0 in
       let all : changes (b ∷ base) (w.0 ∷ w.1) ≡ n = omega arith in
       let less : IsEarlier (a ∷ p) (w.0 ∷ w.1) = inl high.0 in
-      (subst (λ (x : Pattern). IsAssignment (b ∷ base) (u ∷ us) x) (sym w.4) (good.0, rest.0), ap (changes (b ∷ base)) w.4 ∙ all, subst (λ (x : Pattern). IsEarlier (a ∷ p) x) (sym w.4) less)
+      (subst (λ (x : Pattern). IsAssignment (b ∷ base) (u ∷ us) x) (sym w.4) (good.0, rest.0), ap (changes (b ∷ base)) w.4
+          ∙ all, subst (λ (x : Pattern). IsEarlier (a ∷ p) x) (sym w.4) less)
 
   raised_next : (q : Pattern) (t : Option State) (r : Pattern) → Raised q → IsAssignment (b ∷ base) (u ∷ us) (t ∷ r) → changes (b ∷ base) (t ∷ r) ≡ n
       → may_raise z t ≡ true → rank a < rank t → IsEarlier (t ∷ r) q → ⊥
@@ -55,11 +58,13 @@ module _ (b : Option State) (u z : Bool) (base : Pattern) (us zs : List Bool) (a
       go s states f e (inr k) (inl same) d = earliest_first base us (n - change b s) states r e h.1 (d ∙ ap (λ (x : Option State). n - change b x) same) k.1
       go s states f e (inr k) (inr more) d = let i : rank t ≡ rank s = ap rank k.0 in omega arith
 
-  raised_none : (t : Option State) (r : Pattern) → IsAssignment base us base → raised b u z base us a n ≡ None → IsAssignment (b ∷ base) (u ∷ us) (t ∷ r) → changes (b ∷ base) (t ∷ r) ≡ n → may_raise z t ≡ true → rank a < rank t → ⊥
+  raised_none : (t : Option State) (r : Pattern) → IsAssignment base us base → raised b u z base us a n ≡ None → IsAssignment (b ∷ base) (u ∷ us) (t ∷ r)
+      → changes (b ∷ base) (t ∷ r) ≡ n → may_raise z t ≡ true → rank a < rank t → ⊥
   raised_none t r v e h c may less =
       let fit = within b u base us n t r h.1 c in
       ⊎_elim
-      (λ (w : first_good (higher b z a n (free base)) (choices b u) ≡ None). good_none (higher b z a n (free base)) (choices b u) t w h.0 (higher_in b z a t n (free base) may less fit.0))
+      (λ (w : first_good (higher b z a n (free base)) (choices b u) ≡ None). good_none (higher b z a n (free base)) (choices b u) t w h.0
+          (higher_in b z a t n (free base) may less fit.0))
       (λ (w : (s : Option State) × (first_good (higher b z a n (free base)) (choices b u) ≡ Some s) × (earliest base us (n - change b s) ≡ None)).
       let good = good_some (higher b z a n (free base)) (choices b u) w.0 w.1 in
       let high = higher_out b z a w.0 n (free base) good.1 in
@@ -96,7 +101,8 @@ same_front : (i : ℕ) (a t : Option State) (p r : Pattern) → a ≡ t → take
 same_front i a t p r e f = ap (λ (x : Option State). x ∷ take i r) (sym e) ∙ ap (λ (x : Pattern). a ∷ x) f
 
 -- If there is none, only assignments with the same first states are later, of those in which no flagged link is Zero.
-pub later_none : (i : ℕ) (base : Pattern) (us zs : List Bool) (p r : Pattern) → IsAssignment base us base → later i base us zs p ≡ None → IsAssignment base us r → Spares zs r → changes base r ≡ changes base p
+pub later_none : (i : ℕ) (base : Pattern) (us zs : List Bool) (p r : Pattern) → IsAssignment base us base → later i base us zs p ≡ None
+    → IsAssignment base us r → Spares zs r → changes base r ≡ changes base p
     → IsEarlier p r → take i r ≡ take i p
 later_none zero base us zs p r v e h sp c before = refl
 later_none (suc i) base us zs [] r v e h sp c before = absurd before
@@ -108,12 +114,17 @@ later_none (suc i) [] us zs (a ∷ p) (t ∷ r) v e h sp c before = absurd (noth
     nothing (u ∷ us) t r h = h
 later_none (suc i) (b ∷ base) [] zs (a ∷ p) (t ∷ r) v e h sp c before = absurd h
 later_none (suc i) (b ∷ base) (u ∷ us) [] (a ∷ p) (t ∷ r) v e h sp c before = absurd sp
-later_none (suc i) (b ∷ base) (u ∷ us) (z ∷ zs) (a ∷ p) (t ∷ r) v e h sp c (inl less) = absurd (raised_none b u z base us zs a p t r v.1 (else_none (before_all a (later i base us zs p)) (raised b u z base us a (changes (b ∷ base) (a ∷ p))) e).1 h c sp.0 less)
+later_none (suc i) (b ∷ base) (u ∷ us) (z ∷ zs) (a ∷ p) (t ∷ r) v e h sp c (inl less) =
+    absurd (raised_none b u z base us zs a p t r v.1 (else_none (before_all a (later i base us zs p))
+    (raised b u z base us a (changes (b ∷ base) (a ∷ p))) e).1 h c sp.0 less)
 later_none (suc i) (b ∷ base) (u ∷ us) (z ∷ zs) (a ∷ p) (t ∷ r) v e h sp c (inr k) = same_front i a t p r k.0
-    (later_none i base us zs p r v.1 (before_none a (later i base us zs p) (else_none (before_all a (later i base us zs p)) (raised b u z base us a (changes (b ∷ base) (a ∷ p))) e).0) h.1 sp.1 (same_rest b u z base us zs a p t r c k.0) k.1)
+    (later_none i base us zs p r v.1 (before_none a (later i base us zs p)
+        (else_none (before_all a (later i base us zs p)) (raised b u z base us a (changes (b ∷ base) (a ∷ p))) e).0) h.1 sp.1
+        (same_rest b u z base us zs a p t r c k.0) k.1)
 
 -- No other such assignment is between.
-pub later_next : (i : ℕ) (base : Pattern) (us zs : List Bool) (p q r : Pattern) → IsAssignment base us base → later i base us zs p ≡ Some q → IsAssignment base us r → Spares zs r → changes base r ≡ changes base p
+pub later_next : (i : ℕ) (base : Pattern) (us zs : List Bool) (p q r : Pattern) → IsAssignment base us base → later i base us zs p ≡ Some q
+    → IsAssignment base us r → Spares zs r → changes base r ≡ changes base p
     → IsEarlier p r → IsEarlier r q → take i r ≡ take i p
 later_next zero base us zs p q r v e h sp c before after = refl
 later_next (suc i) [] us zs p q r v e h sp c before after = absurd (cc)

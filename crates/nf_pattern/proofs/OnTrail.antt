@@ -45,7 +45,9 @@ gone_on question p before after is follows way = record {
   follows = follows;
   nodes = way.nodes ∙ is.nodes;
   ends = subst (λ (x : List ℕ). AreEnds question.hops question.sets.resetting question.base x) (sym (ap (λ (x : _). x.items) way.ends)) is.ends;
-  lost = subst (λ (b : Bool). IsLost question.source after.ends.items b) (sym way.lost) (subst (λ (x : List ℕ). IsLost question.source x before.lost) (sym (ap (λ (x : _). x.items) way.ends)) is.lost);
+  lost =
+      subst (λ (b : Bool). IsLost question.source after.ends.items b) (sym way.lost)
+      (subst (λ (x : List ℕ). IsLost question.source x before.lost) (sym (ap (λ (x : _). x.items) way.ends)) is.lost);
 }
 
 take_fewer : (n link : ℕ) (r p : Pattern) → n ≤ link → take link r ≡ take link p → take n r ≡ take n p
@@ -101,7 +103,8 @@ module _ (question : Question) (is : IsQuestion question) (p : Pattern) (trail :
   barren_from_start lost =
       let w : (v : ℕ) × (v ≢ question.source) × (slice_get trail.ends.items v ≡ Some 0) = subst (λ (b : Bool). IsLost question.source trail.ends.items b) lost here.lost in (
         omega arith,
-        barren_lost question is p trail.ends.items here.ends w.0 (let l = slice_get_within trail.ends.items w.0 0 w.2 in let a = here.follows.count_ends in let b = here.nodes in omega arith) w.1 w.2,
+        barren_lost question is p trail.ends.items here.ends w.0 (let l = slice_get_within trail.ends.items w.0 0 w.2 in let a = here.follows.count_ends in
+            let b = here.nodes in omega arith) w.1 w.2,
       )
 
 -- ---- the components of a question
@@ -112,7 +115,8 @@ module _ (q seen : Question) (same : q ≡ seen) (hops : List Hop) (resetting : 
 
   pub follows_given : (p : Pattern) (trail : Trail) → Follows seen.source seen.hops seen.sets.resetting p trail → Follows q.source hops resetting p trail
   follows_given p trail follows = subst (λ (x : List Bool). Follows q.source hops x p trail) (sym is_resetting)
-      (subst (λ (x : List Hop). Follows q.source x q.sets.resetting p trail) (sym is_hops) (subst (λ (x : Question). Follows x.source x.hops x.sets.resetting p trail) (sym same) follows))
+      (subst (λ (x : List Hop). Follows q.source x q.sets.resetting p trail) (sym is_hops)
+          (subst (λ (x : Question). Follows x.source x.hops x.sets.resetting p trail) (sym same) follows))
 
   pub fails_seen : (p : Pattern) (ends : List ℕ) (e : ℕ) → (e < length hops) × (Strands q.source hops resetting p ends e ⊎ Closes hops p e)
       → (e < length seen.hops) × (Strands seen.source seen.hops seen.sets.resetting p ends e ⊎ Closes seen.hops p e)
@@ -125,7 +129,8 @@ module _ (q seen : Question) (same : q ≡ seen) (hops : List Hop) (resetting : 
       → IfOk result (λ trail. IsLost q.source trail.ends.items trail.lost) → IfOk result (λ trail. IsTrailOf seen seen.base trail)
   trail_seen base is_base (Err fault) follows nodes ends lost = tt
   trail_seen base is_base (Ok trail) follows nodes ends lost = subst (λ (x : Question). IsTrailOf x x.base trail) same (record {
-    follows = subst (λ (x : List Hop). Follows q.source x q.sets.resetting q.base trail) is_hops (subst (λ (x : List Bool). Follows q.source hops x q.base trail) is_resetting (follows q.base));
+    follows = subst (λ (x : List Hop). Follows q.source x q.sets.resetting q.base trail) is_hops
+        (subst (λ (x : List Bool). Follows q.source hops x q.base trail) is_resetting (follows q.base));
     nodes = nodes;
     ends = subst (λ (x : List Hop). AreEnds x q.sets.resetting q.base trail.ends.items) is_hops
         (subst (λ (x : List Bool). AreEnds hops x q.base trail.ends.items) is_resetting (subst (λ (x : Pattern). AreEnds hops resetting x trail.ends.items) is_base ends));

@@ -30,7 +30,8 @@ module _ (source : ℕ) (hops : List Hop) (resetting : List Bool) (p : Pattern) 
       (λ (w : (state : State) × HasState p e state). absurd (no_state p e w.0 none w.1))
       (carry v e last)
 
-  pub passed_on : (trail : Trail) (k n : ℕ) → Follows source hops resetting p trail → DoEndsCarry resetting p trail.ends.items → n ≡ trail.depth + k → n ≤ length hops → AreIdle p trail.depth n
+  pub passed_on : (trail : Trail) (k n : ℕ) → Follows source hops resetting p trail → DoEndsCarry resetting p trail.ends.items → n ≡ trail.depth + k
+      → n ≤ length hops → AreIdle p trail.depth n
       → Follows source hops resetting p (moved trail n)
   passed_on trail zero n follows carry is few idle = subst (λ (m : ℕ). Follows source hops resetting p (moved trail m)) (let same : trail.depth ≡ n = omega arith in same) follows
   passed_on trail (suc k) n follows carry is few idle =
@@ -55,7 +56,8 @@ module _ (source : ℕ) (hops : List Hop) (resetting : List Bool) (p : Pattern) 
       passed_back (moved trail m) k n one refl (λ e from less. idle e from (omega arith))
 
 -- the ends carry in each assignment
-pub ends_carry : (hops : List Hop) (resetting : List Bool) (base : Pattern) (us : List Bool) (p : Pattern) (ends : List ℕ) → AreEnds hops resetting base ends → IsAssignment base us p → DoEndsCarry resetting p ends
+pub ends_carry : (hops : List Hop) (resetting : List Bool) (base : Pattern) (us : List Bool) (p : Pattern) (ends : List ℕ)
+    → AreEnds hops resetting base ends → IsAssignment base us p → DoEndsCarry resetting p ends
 ends_carry hops resetting base us p ends are assigned v e at = ⊎_elim
     (λ (on : Has resetting e). inl on)
     (λ (w : (state : State) × HasState base e state). inr (some_too base us p e w.0 assigned w.1))

@@ -24,7 +24,8 @@ quiet_end base states quiet all none = record {
 }
 
 -- the first links, and then the base
-pub quiet_rest : (base states after : Pattern) (quiet : Quiet) → quiet.link ≤ length base → length states ≡ length base → after ≡ take quiet.link states ++ drop quiet.link base → quiet.free ≡ free (drop quiet.link base)
+pub quiet_rest : (base states after : Pattern) (quiet : Quiet) → quiet.link ≤ length base → length states ≡ length base
+    → after ≡ take quiet.link states ++ drop quiet.link base → quiet.free ≡ free (drop quiet.link base)
     → IsQuiet base quiet after
 quiet_rest base states after quiet within count is free_is =
     let i : ℕ = quiet.link in
@@ -34,7 +35,8 @@ quiet_rest base states after quiet within count is free_is =
     record { within = within; unchanged = ap (changes (drop i base)) rest ∙ changes_self (drop i base); free_is = free_is }
 
 -- The first links, and then an unchanged suffix.
-pub quiet_behind : (base states rest after : Pattern) (i : ℕ) (quiet behind : Quiet) → i ≤ length base → length states ≡ length base → after ≡ take i states ++ rest → IsQuiet (drop i base) quiet rest
+pub quiet_behind : (base states rest after : Pattern) (i : ℕ) (quiet behind : Quiet) → i ≤ length base → length states ≡ length base
+    → after ≡ take i states ++ rest → IsQuiet (drop i base) quiet rest
     → behind.link ≡ i + quiet.link → behind.free ≡ quiet.free → IsQuiet base behind after
 quiet_behind base states rest after i quiet behind within count is is_quiet link free_is =
     let n : ℕ = quiet.link in
@@ -75,7 +77,8 @@ module _ (base states : Pattern) (quiet : Quiet) (is : IsQuiet base quiet states
   changes_to_quiet count =
       let front = length-drop i base in let all = length-drop i states in
       let parts = changes_parts (quiet.link - i) (drop i base) (drop i states) (omega arith) in
-      let none : changes (drop (quiet.link - i) (drop i base)) (drop (quiet.link - i) (drop i states)) ≡ 0 = (λ j. changes (behind base j) (behind states j)) ∙ is.unchanged in omega arith
+      let none : changes (drop (quiet.link - i) (drop i base)) (drop (quiet.link - i) (drop i states)) ≡ 0 =
+          (λ j. changes (behind base j) (behind states j)) ∙ is.unchanged in omega arith
 
   pub free_to_quiet : free (to_quiet base) + quiet.free ≡ free (drop i base)
   free_to_quiet = ap (λ (n : ℕ). free (to_quiet base) + n) (is.free_is ∙ sym (ap free (behind base))) ∙ sym (free_parts (quiet.link - i) (drop i base))
@@ -87,9 +90,12 @@ free_few (None ∷ base) = let w = free_few base in omega arith
 free_few (Some b ∷ base) = let w = free_few base in omega arith
 
 -- No link of the unchanged suffix can be raised with as many changes.
-pub raised_up_to : (base : Pattern) (us zs : List Bool) (states after : Pattern) (quiet : Quiet) (same : ℕ) (found : Option Raised) → quiet.link ≤ same → length states ≡ length base → IsQuiet base quiet states
-    → MatchOption found ((later quiet.link base us zs states ≡ None) × (after ≡ states)) (λ raised. (later quiet.link base us zs states ≡ Some after) × IsSameBefore quiet.link raised.link states after × IsQuiet base raised.quiet after)
-    → MatchOption found ((later same base us zs states ≡ None) × (after ≡ states)) (λ raised. (later same base us zs states ≡ Some after) × IsSameBefore same raised.link states after × IsQuiet base raised.quiet after)
+pub raised_up_to : (base : Pattern) (us zs : List Bool) (states after : Pattern) (quiet : Quiet) (same : ℕ) (found : Option Raised) → quiet.link ≤ same
+    → length states ≡ length base → IsQuiet base quiet states
+    → MatchOption found ((later quiet.link base us zs states ≡ None) × (after ≡ states))
+        (λ raised. (later quiet.link base us zs states ≡ Some after) × IsSameBefore quiet.link raised.link states after × IsQuiet base raised.quiet after)
+    → MatchOption found ((later same base us zs states ≡ None) × (after ≡ states))
+        (λ raised. (later same base us zs states ≡ Some after) × IsSameBefore same raised.link states after × IsQuiet base raised.quiet after)
 raised_up_to base us zs states after quiet same None few count is h = (later_up_to base us zs states quiet.link same few count is.unchanged ∙ h.0, h.1)
 raised_up_to base us zs states after quiet same (Some raised) few count is h =
     (later_up_to base us zs states quiet.link same few count is.unchanged ∙ h.0, (let l = h.1.0 in omega arith, h.1.1), h.2)

@@ -20,7 +20,9 @@ pub from_here : {A : Type 0} (xs : List A) (i : ℕ) → take (length xs - i) (d
 from_here xs i = take_all (length xs - i) (drop i xs) (let l = length-drop i xs in omega arith)
 
 pub put_end : {A : Type 0} (xs ys : List A) (i k : ℕ) → length xs ≤ i + k → put_mid i k xs ys ≡ take i xs ++ ys
-put_end xs ys i k all = ap (λ (zs : List _). take i xs ++ (ys ++ zs)) (drop_of_length-le (drop i xs) (let l = length-drop i xs in omega arith)) ∙ ap (λ (zs : List _). take i xs ++ zs) (append-nil ys)
+put_end xs ys i k all =
+    ap (λ (zs : List _). take i xs ++ (ys ++ zs)) (drop_of_length-le (drop i xs) (let l = length-drop i xs in omega arith))
+    ∙ ap (λ (zs : List _). take i xs ++ zs) (append-nil ys)
 
 pub valid_after : (i : ℕ) (base : Pattern) (us : List Bool) → IsAssignment base us base → IsAssignment (drop i base) (drop i us) (drop i base)
 valid_after zero base us v = v
@@ -43,7 +45,8 @@ module _ (base : Pattern) (us zs : List Bool) (states : Pattern) (e n m : ℕ) (
       let fit = fits_out (get_or base e None) s n m (higher_out (get_or base e None) (get_or zs e false) (get_or states e None) s n m good.1).1 in
       (let f = fit.0 in omega arith, let f = fit.1 in omega arith)
 
-  raised_by : (o : Option (Option State)) → Chosen o → raised_at base us zs states e n ≡ with_rest o (λ t. earliest (drop (suc e) base) (drop (suc e) us) (n - change (get_or base e None) t))
+  raised_by : (o : Option (Option State)) → Chosen o → raised_at base us zs states e n ≡ with_rest o
+      (λ t. earliest (drop (suc e) base) (drop (suc e) us) (n - change (get_or base e None) t))
   raised_by o chosen = ap (λ (x : Option (Option State)). with_rest x (λ t. earliest (drop (suc e) base) (drop (suc e) us) (n - change (get_or base e None) t)))
       (sym (subst (λ (more : ℕ). o ≡ first_good (Good more) (choices (get_or base e None) (get_or us e false))) all chosen))
 
@@ -63,7 +66,8 @@ front_stays zero xs ys h = refl
 front_stays (suc e) [] ys h = absurd (omega arith)
 front_stays (suc e) (x ∷ xs) ys h = ap (λ (zs : Pattern). x ∷ zs) (front_stays e xs ys (omega arith))
 
-pub raised_same : (base : Pattern) (us zs : List Bool) (states : Pattern) (same e n : ℕ) (after : Pattern) → e < same → e < length states → RaisesAt base us zs states e n after → IsSameBefore same e states after
+pub raised_same : (base : Pattern) (us zs : List Bool) (states : Pattern) (same e n : ℕ) (after : Pattern) → e < same → e < length states
+    → RaisesAt base us zs states e n after → IsSameBefore same e states after
 raised_same base us zs states same e n after less below up = (omega arith, ap (take e) up.stays ∙ front_stays e states up.rest (omega arith))
 
 -- ---- from the last link backward
@@ -78,7 +82,8 @@ pub record AreLast (base : Pattern) (us zs : List Bool) (states : Pattern) (same
   pub few_free : more + i ≤ length base
 
 -- the links from that number on are counted
-pub last_from : (base : Pattern) (us zs : List Bool) (states : Pattern) (same made more : ℕ) → same ≤ length base → made ≡ changes (drop same base) (drop same states) → made ≤ length (drop same base)
+pub last_from : (base : Pattern) (us zs : List Bool) (states : Pattern) (same made more : ℕ) → same ≤ length base
+    → made ≡ changes (drop same base) (drop same states) → made ≤ length (drop same base)
     → more ≡ free (drop same base) → more ≤ length (drop same base) → AreLast base us zs states same same made more
 last_from base us zs states same made more within is few is_free few_free =
     let k : same - same ≡ 0 = omega arith in let l = length-drop same base in
@@ -92,9 +97,11 @@ last_from base us zs states same made more within is few is_free few_free =
     }
 
 -- If nothing later is possible after it, the first link is raised.
-later_here : (b : Option State) (u z : Bool) (base : Pattern) (us zs : List Bool) (a : Option State) (p : Pattern) (k n : ℕ) → later k base us zs p ≡ None → n ≡ changes (b ∷ base) (a ∷ p)
+later_here : (b : Option State) (u z : Bool) (base : Pattern) (us zs : List Bool) (a : Option State) (p : Pattern) (k n : ℕ) → later k base us zs p ≡ None
+    → n ≡ changes (b ∷ base) (a ∷ p)
     → later (suc k) (b ∷ base) (u ∷ us) (z ∷ zs) (a ∷ p) ≡ raised b u z base us a n
-later_here b u z base us zs a p k n last is = ap (λ (o : Option Pattern). or_else (before_all a o) (raised b u z base us a (changes (b ∷ base) (a ∷ p)))) last ∙ ap (raised b u z base us a) (sym is)
+later_here b u z base us zs a p k n last is =
+    ap (λ (o : Option Pattern). or_else (before_all a o) (raised b u z base us a (changes (b ∷ base) (a ∷ p)))) last ∙ ap (raised b u z base us a) (sym is)
 
 -- If nothing differs from the base, nothing is later with as many changes.
 later_none : (k : ℕ) (base : Pattern) (us zs : List Bool) (states : Pattern) → length states ≡ length base → changes base states ≡ 0 → later k base us zs states ≡ None
@@ -126,7 +133,8 @@ later_up_to base us zs states i same few count none =
     subst (λ (m : ℕ). later m base us zs states ≡ later i base us zs states) n (later_quiet i (same - i) base us zs states count none)
 
 -- the states before a link stay
-later_after : (k : ℕ) (base : Pattern) (us zs : List Bool) (states q : Pattern) (i : ℕ) → later k (drop i base) (drop i us) (drop i zs) (drop i states) ≡ Some q → later (i + k) base us zs states ≡ Some (take i states ++ q)
+later_after : (k : ℕ) (base : Pattern) (us zs : List Bool) (states q : Pattern) (i : ℕ)
+    → later k (drop i base) (drop i us) (drop i zs) (drop i states) ≡ Some q → later (i + k) base us zs states ≡ Some (take i states ++ q)
 later_after k base us zs states q zero e = subst (λ (n : ℕ). later n base us zs states ≡ Some q) (sym (zero-add k)) e
 later_after k [] us zs states q (suc i) e = absurd (nothing k us e)
   where
@@ -204,8 +212,10 @@ module _ (base : Pattern) (us zs : List Bool) (states : Pattern) (same i j made 
         ∙ (ap (λ (x : List Bool). later (same - i) (get_or base i None ∷ drop (suc i) base) x (drop i zs) (drop i states)) us_from
         ∙ (ap (λ (x : List Bool). later (same - i) (get_or base i None ∷ drop (suc i) base) (get_or us i false ∷ drop (suc i) us) x (drop i states)) zs_from
         ∙ (ap (later (same - i) (get_or base i None ∷ drop (suc i) base) (get_or us i false ∷ drop (suc i) us) (get_or zs i false ∷ drop (suc i) zs)) states_from
-        ∙ (ap (λ (m : ℕ). later m (get_or base i None ∷ drop (suc i) base) (get_or us i false ∷ drop (suc i) us) (get_or zs i false ∷ drop (suc i) zs) (get_or states i None ∷ drop (suc i) states)) k
-        ∙ later_here (get_or base i None) (get_or us i false) (get_or zs i false) (drop (suc i) base) (drop (suc i) us) (drop (suc i) zs) (get_or states i None) (drop (suc i) states) (same - suc i) all none_behind made_here))))
+        ∙ (ap (λ (m : ℕ). later m (get_or base i None ∷ drop (suc i) base) (get_or us i false ∷ drop (suc i) us) (get_or zs i false ∷ drop (suc i) zs)
+            (get_or states i None ∷ drop (suc i) states)) k
+        ∙ later_here (get_or base i None) (get_or us i false) (get_or zs i false) (drop (suc i) base) (drop (suc i) us) (drop (suc i) zs)
+            (get_or states i None) (drop (suc i) states) (same - suc i) all none_behind made_here))))
 
     pub raised_later : (after : Pattern) → i < same → RaisesAt base us zs states i all after → later same base us zs states ≡ Some after
     raised_later after before raised =
@@ -215,7 +225,8 @@ module _ (base : Pattern) (us zs : List Bool) (states : Pattern) (same i j made 
 
     module _ (d rest : ℕ) (is_free : d ≡ change None (get_or base i None)) (free_sum : rest ≡ more + d) where
       free_here : rest ≡ free (drop i base)
-      free_here = let f = free_first (get_or base i None) (drop (suc i) base) in let m = free_behind in let e : free (drop i base) ≡ free (get_or base i None ∷ drop (suc i) base) = ap free base_from in omega arith
+      free_here = let f = free_first (get_or base i None) (drop (suc i) base) in let m = free_behind in
+          let e : free (drop i base) ≡ free (get_or base i None ∷ drop (suc i) base) = ap free base_from in omega arith
 
       last_more : later (same - i) (drop i base) (drop i us) (drop i zs) (drop i states) ≡ None → c ≤ 1 → d ≤ 1 → AreLast base us zs states same i all rest
       last_more none small small_free = record {
@@ -234,19 +245,24 @@ module _ (base : Pattern) (us zs : List Bool) (states : Pattern) (same i j made 
   pub last_idle : get_or base i None ≡ None → get_or states i None ≡ None → i < same → AreLast base us zs states same i made more
   last_idle none nor before = last_kept 0 made (idle_change (get_or base i None) (get_or states i None) none nor) (omega arith)
       0 more (idle_change None (get_or base i None) refl none) (omega arith)
-      (idle_raised (get_or base i None) (get_or states i None) (get_or us i false) (get_or zs i false) (drop (suc i) base) (drop (suc i) us) made none nor) before (omega arith) (omega arith)
+      (idle_raised (get_or base i None) (get_or states i None) (get_or us i false) (get_or zs i false) (drop (suc i) base) (drop (suc i) us) made none nor)
+          before (omega arith) (omega arith)
 
 -- and those behind the last one that has a state
-last_passed : (base : Pattern) (us zs : List Bool) (states : Pattern) (same k i j made more : ℕ) → AreLast base us zs states same j made more → j ≡ i + k → j ≤ same → length states ≡ length base → length us ≡ length base → length zs ≡ length base
+last_passed : (base : Pattern) (us zs : List Bool) (states : Pattern) (same k i j made more : ℕ) → AreLast base us zs states same j made more → j ≡ i + k
+    → j ≤ same → length states ≡ length base → length us ≡ length base → length zs ≡ length base
     → ((e : ℕ) → i ≤ e → e < j → (get_or base e None ≡ None) × (get_or states e None ≡ None)) → AreLast base us zs states same i made more
-last_passed base us zs states same zero i j made more last is few count us_count zs_count idle = subst (λ (m : ℕ). AreLast base us zs states same m made more) (let e : j ≡ i = omega arith in e) last
+last_passed base us zs states same zero i j made more last is few count us_count zs_count idle =
+    subst (λ (m : ℕ). AreLast base us zs states same m made more) (let e : j ≡ i = omega arith in e) last
 last_passed base us zs states same (suc k) i j made more last is few count us_count zs_count idle =
     let m : ℕ = i + k in
     let here = idle m (omega arith) (omega arith) in
-    last_passed base us zs states same k i m made more (last_idle base us zs states same m j made more last (omega arith) count us_count zs_count here.0 here.1 (omega arith)) refl (omega arith) count us_count zs_count
+    last_passed base us zs states same k i m made more (last_idle base us zs states same m j made more last
+        (omega arith) count us_count zs_count here.0 here.1 (omega arith)) refl (omega arith) count us_count zs_count
     (λ e from less. idle e from (omega arith))
 
-pub last_stated : (base : Pattern) (us zs : List Bool) (states : Pattern) (same i j made more : ℕ) → AreLast base us zs states same j made more → 0 < j → j ≤ same → IsAssignment base us states → length us ≡ length base → length zs ≡ length base
+pub last_stated : (base : Pattern) (us zs : List Bool) (states : Pattern) (same i j made more : ℕ) → AreLast base us zs states same j made more → 0 < j
+    → j ≤ same → IsAssignment base us states → length us ≡ length base → length zs ≡ length base
     → IsLastTo base (j - 1) i → AreLast base us zs states same (suc i) made more
 last_stated base us zs states same i j made more last some few assigned us_count zs_count is =
     let before = is.0 in

@@ -100,4 +100,5 @@ fewer_left base p q n few (inl less) =
     let same : times (free base - changes base p) (room q) ≡ times (free base - changes base p) (room p) = ap (times (free base - changes base p)) (sym r) in omega arith
 fewer_left base p q n few (inr k) =
     let l = place_more p q n k.1 in let r = same_room p q n in let b = place_below q in
-    let same : times (free base - changes base q) (room q) ≡ times (free base - changes base p) (room p) = ap (λ (c : ℕ). times (free base - c) (room q)) (sym k.0) ∙ ap (times (free base - changes base p)) (sym r) in omega arith
+    let same : times (free base - changes base q) (room q) ≡ times (free base - changes base p) (room p) =
+        ap (λ (c : ℕ). times (free base - c) (room q)) (sym k.0) ∙ ap (times (free base - changes base p)) (sym r) in omega arith

@@ -83,7 +83,8 @@ module _ (question : Question) (is : IsQuestion question) where
       pub sought_more : (q : Pattern) → Advances question n p q → IsSought question start q
       sought_more q step = record {
         assigned = step.assigned;
-        after = inr (⊎_elim (λ (same : p ≡ start). subst (λ (x : Pattern). IsBefore base x q) same step.later) (λ (w : IsBefore base start p). IsBefore-transitive base start p q w step.later) sought.after);
+        after = inr (⊎_elim (λ (same : p ≡ start). subst (λ (x : Pattern). IsBefore base x q) same step.later)
+            (λ (w : IsBefore base start p). IsBefore-transitive base start p q w step.later) sought.after);
         first = λ r listed from before. later r listed from (λ after. step.between r listed after before);
       }
 
@@ -144,7 +145,8 @@ module _ (question : Question) (is : IsQuestion question) where
       pub next_after : (p : Pattern) → IsFirstFrom question q p → IsNext question (UpTo l) p
       next_after p f = record {
         listed = f.listed;
-        later = ⊎_elim (λ (same : p ≡ q). subst (λ (x : Pattern). IsBefore base l x) (sym same) step.later) (λ (w : IsBefore base q p). IsBefore-transitive base l q p step.later w) f.after;
+        later = ⊎_elim (λ (same : p ≡ q). subst (λ (x : Pattern). IsBefore base l x) (sym same) step.later)
+            (λ (w : IsBefore base q p). IsBefore-transitive base l q p step.later w) f.after;
         least = λ r listed later before. f.first r listed (from_next r listed later) before;
       }
 
@@ -152,17 +154,20 @@ module _ (question : Question) (is : IsQuestion question) where
       none_left_after none r listed later = none r listed (from_next r listed later)
 
   -- ---- whether one was found
-  pub match_start : (start : Pattern) → start ≡ base → (p : Pattern) (found : Bool) → MatchBool found (IsFirstFrom question start p) (NoneFrom question start) → MatchBool found (IsNext question AtStart p) (NoneLeft question AtStart)
+  pub match_start : (start : Pattern) → start ≡ base → (p : Pattern) (found : Bool)
+      → MatchBool found (IsFirstFrom question start p) (NoneFrom question start) → MatchBool found (IsNext question AtStart p) (NoneLeft question AtStart)
   match_start start same p true f = next_at_start p (subst (λ (x : Pattern). IsFirstFrom question x p) same f)
   match_start start same p false none = none_at_start (subst (λ (x : Pattern). NoneFrom question x) same none)
 
-  pub match_after : (l q p : Pattern) (n : ℕ) (found : Bool) → IsAssignment base us l → length base ≤ n → Advances question n l q → MatchBool found (IsFirstFrom question q p) (NoneFrom question q)
+  pub match_after : (l q p : Pattern) (n : ℕ) (found : Bool) → IsAssignment base us l → length base ≤ n → Advances question n l q
+      → MatchBool found (IsFirstFrom question q p) (NoneFrom question q)
       → MatchBool found (IsNext question (UpTo l) p) (NoneLeft question (UpTo l))
   match_after l q p n true h whole step f = next_after l h n whole q step p f
   match_after l q p n false h whole step none = none_left_after l h n whole q step none
 
 -- ---- where a listing begins
-pub standing_start : (question seen : Question) (current : Pattern) (trail : Trail) (quiet : Quiet) → question ≡ seen → IsQuestion seen → current ≡ seen.base → IsTrailOf question question.base trail
+pub standing_start : (question seen : Question) (current : Pattern) (trail : Trail) (quiet : Quiet) → question ≡ seen → IsQuestion seen
+    → current ≡ seen.base → IsTrailOf question question.base trail
     → quiet.link ≡ length seen.hops → quiet.free ≡ 0 → IsStanding question Start current trail quiet
 standing_start question seen current trail quiet same is at on_trail all none =
     let q : IsQuestion question = subst IsQuestion (sym same) is in
@@ -182,8 +187,10 @@ standing_start question seen current trail quiet same is at on_trail all none =
 abbrev given_up_to : Question → Pattern → ℕ → Given
 given_up_to question p place = record { question = question; last = UpTo p; place = place }
 
-pub gives_next : (question : Question) (last : Last) (place : ℕ) (seen : Given) → ◌≡◌ {A = Given} (record { question = question; last = last; place = place }) seen → (p now : Pattern) (after : ℕ)
-    → IsNext question last p → now ≡ p → after ≡ next_place place → (x : Pattern) × (IsNext seen.question seen.last x × (given_up_to question now after ≡ given_up_to seen.question x (next_place seen.place)))
+pub gives_next : (question : Question) (last : Last) (place : ℕ) (seen : Given)
+    → ◌≡◌ {A = Given} (record { question = question; last = last; place = place }) seen → (p now : Pattern) (after : ℕ)
+    → IsNext question last p → now ≡ p → after ≡ next_place place → (x : Pattern)
+        × (IsNext seen.question seen.last x × (given_up_to question now after ≡ given_up_to seen.question x (next_place seen.place)))
 gives_next question last place seen same p now after next is count = (
   p,
   (

@@ -68,7 +68,8 @@ module _ (question : Question) (is : IsQuestion question) (r : Pattern) (listed 
       let same = sole.only way.0 (way.1, way.2, way.3) (can_too way.0 way.4) in
       not_zero e sole (subst (λ (k : ℕ). MayCarry question.sets.resetting r k) same way.4) zero
 
-pub are_spared : (question : Question) → IsQuestion question → (sole : List Bool) → length sole ≡ length question.hops → AllEnterAlone question.source question.hops question.sets.resetting question.base sole → AreSpared question sole
+pub are_spared : (question : Question) → IsQuestion question → (sole : List Bool) → length sole ≡ length question.hops
+    → AllEnterAlone question.source question.hops question.sets.resetting question.base sole → AreSpared question sole
 are_spared question is sole count are = record {
   count = count ∙ (sym is.active ∙ sym is.base.count);
   never = λ r listed e has zero. never_zero question is r listed e (are e has) zero;
@@ -79,7 +80,8 @@ stated_there : (base : Pattern) (e : ℕ) (o : Option State) → is_some o ≡ t
 stated_there base e None some at = absurd (cc)
 stated_there base e (Some state) some at = (state, at)
 
-pub sole_told : (hops : List Hop) (resetting : List Bool) (base : Pattern) (source e : ℕ) (hop : Hop) → IsHop hops e hop → (i : ℕ) → i ≡ hop.head → (o : Option State) → is_some o ≡ true → slice_get base e ≡ Some o
+pub sole_told : (hops : List Hop) (resetting : List Bool) (base : Pattern) (source e : ℕ) (hop : Hop) → IsHop hops e hop → (i : ℕ) → i ≡ hop.head
+    → (o : Option State) → is_some o ≡ true → slice_get base e ≡ Some o
     → (before all : List ℕ) → i ≢ source → slice_get before i ≡ Some 0 → slice_get all i ≡ Some (suc e) → AreEndsBefore hops resetting base e before → AreEnds hops resetting base all
     → EntersAlone source hops resetting base e
 sole_told hops resetting base source e hop is_hop i at o some read before all other none last before_are all_are = record {

@@ -83,7 +83,8 @@ module _ (hops : List Hop) (p : Pattern) (n : ℕ) where
   ended v x (Some l) goes = absurd goes
 
   -- The path continues to its end.
-  pub to_end : (v k x : ℕ) (o : Option ℕ) (after : Place) → On v k x o v None → GoesBy hops p n v x o (Some after) → (j : ℕ) × (suc j ≡ k) × On v j after.node after.link v None × Joined v after.node
+  pub to_end : (v k x : ℕ) (o : Option ℕ) (after : Place) → On v k x o v None → GoesBy hops p n v x o (Some after)
+      → (j : ℕ) × (suc j ≡ k) × On v j after.node after.link v None × Joined v after.node
   to_end v k x o after path goes = ⊎_elim
       (λ (e : (x ≡ v) × (o ≡ None)). absurd (at_end v x o after e.0 e.1 goes))
       (λ (w : (j : ℕ) × (suc j ≡ k) × On v j after.node after.link v None × Joined v after.node). w)
@@ -156,7 +157,8 @@ module _ (hops : List Hop) (p : Pattern) (n : ℕ) where
   pub goes_anew : (start v : ℕ) (o : Option ℕ) (after : Place) → o ≡ None → v ≢ start → after.node ≡ v → after.link ≡ last n v → GoesBy hops p n start v o (Some after)
   goes_anew start v o after none differ node link = subst (λ (q : Option ℕ). GoesBy hops p n start v q (Some after)) (sym none) (differ, node, link)
 
-  pub read_last : {ends tails heads : List (Option ℕ)} → IsWalkable hops p n ends tails heads → (v i : ℕ) (found : Option ℕ) → v < length ends → i ≡ v → found ≡ get_or ends i found → found ≡ last n v
+  pub read_last : {ends tails heads : List (Option ℕ)} → IsWalkable hops p n ends tails heads → (v i : ℕ) (found : Option ℕ) → v < length ends → i ≡ v
+      → found ≡ get_or ends i found → found ≡ last n v
   read_last {ends} chains v i found within at read = same_Some found (last n v)
       (ap (λ (o : Option ℕ). Some o) (read ∙ ap (λ (k : ℕ). get_or ends k found) at) ∙ (sym (slice_get-get_or ends v found within) ∙ chains.last_is v within))
 

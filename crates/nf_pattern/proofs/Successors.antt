@@ -55,7 +55,8 @@ module _ (good : Option State → Bool) where
   good_none [] t e h k = h
   good_none (x ∷ states) t e h k = none_at x t states (good x) refl e h k (λ f g. good_none states t f g k)
 
-  compared_at : (x s t : Option State) (states : List (Option State)) (b : Bool) → good x ≡ b → (if b then Some x else first_good good states) ≡ Some s → IsIn (x ∷ states) t → good t ≡ true
+  compared_at : (x s t : Option State) (states : List (Option State)) (b : Bool) → good x ≡ b → (if b then Some x else first_good good states) ≡ Some s
+      → IsIn (x ∷ states) t → good t ≡ true
       → ((y : Option State) → IsIn states y → rank x < rank y) → (first_good good states ≡ Some s → IsIn states t → (t ≡ s) ⊎ (rank s < rank t)) → (t ≡ s) ⊎ (rank s < rank t)
   compared_at x s t states true i j (inl same) k above rest = inl (let f : x ≡ s = cc in same ∙ f)
   compared_at x s t states true i j (inr l) k above rest = inr (let f : x ≡ s = cc in subst (λ (y : Option State). rank y < rank t) f (above t l))
@@ -140,7 +141,8 @@ module _ (b : Option State) (u : Bool) (base : Pattern) (us : List Bool) where
       → (s : Option State) × (states : Pattern) × (first_good (fits b n (free base)) (choices b u) ≡ Some s) × (earliest base us (n - change b s) ≡ Some states) × (q ≡ s ∷ states)
   parts n q e = rest_given (first_good (fits b n (free base)) (choices b u)) (λ s. earliest base us (n - change b s)) q e
 
-  pub within : (n : ℕ) (s : Option State) (states : Pattern) → IsAssignment base us states → changes (b ∷ base) (s ∷ states) ≡ n → (fits b n (free base) s ≡ true) × (changes base states ≡ n - change b s)
+  pub within : (n : ℕ) (s : Option State) (states : Pattern) → IsAssignment base us states → changes (b ∷ base) (s ∷ states) ≡ n
+      → (fits b n (free base) s ≡ true) × (changes base states ≡ n - change b s)
   within n s states h e =
       let few = changes_few base us states h in
       let first = changes_first b s base states in
@@ -216,10 +218,12 @@ no_change (Some Tight) = refl
 no_change (Some Full) = refl
 no_change (Some Zero) = refl
 
-pub good_choice : (b : Option State) (u : Bool) (base : Pattern) (n : ℕ) → IsIn (choices b u) b → n ≤ free (b ∷ base) → (t : Option State) × IsIn (choices b u) t × (fits b n (free base) t ≡ true)
+pub good_choice : (b : Option State) (u : Bool) (base : Pattern) (n : ℕ) → IsIn (choices b u) b → n ≤ free (b ∷ base)
+    → (t : Option State) × IsIn (choices b u) t × (fits b n (free base) t ≡ true)
 good_choice None u base n h k = (None, h, fits_in None None n (free base) (omega arith) (omega arith))
 good_choice (Some b) u base n h k = ⊎_elim
-    (λ (w : (leb n (free base) ≡ true) × (n ≤ free base)). let z = no_change (Some b) in (Some b, h, fits_in (Some b) (Some b) n (free base) (let l = w.1 in omega arith) (let l = w.1 in omega arith)))
+    (λ (w : (leb n (free base) ≡ true) × (n ≤ free base)). let z = no_change (Some b) in
+        (Some b, h, fits_in (Some b) (Some b) n (free base) (let l = w.1 in omega arith) (let l = w.1 in omega arith)))
     (λ (w : (leb n (free base) ≡ false) × (free base < n)). let o = other_choice b u in
     let one : change (Some b) o.0 ≡ 1 = o.2 in let l : free base < n = w.1 in
     (o.0, o.1, fits_in (Some b) o.0 n (free base) (omega arith) (omega arith)))

@@ -36,7 +36,8 @@ by_test m n P to from = ⊎_elim
     (eqb_tells m n)
 
 -- whether this link is the last one that can enter a node
-pub is_end_told : (ends : List ℕ) (v e i j : ℕ) → v < length ends → i ≡ v → j ≡ e → MatchBool (eqb (get_or ends i 0) (j + 1)) (slice_get ends v ≡ Some (suc e)) (slice_get ends v ≡ Some (suc e) → ⊥)
+pub is_end_told : (ends : List ℕ) (v e i j : ℕ) → v < length ends → i ≡ v → j ≡ e
+    → MatchBool (eqb (get_or ends i 0) (j + 1)) (slice_get ends v ≡ Some (suc e)) (slice_get ends v ≡ Some (suc e) → ⊥)
 is_end_told ends v e i j below at_v at_e = by_test (get_or ends i 0) (j + 1) (slice_get ends v ≡ Some (suc e))
     (λ same. entry_at ends 0 (suc e) v i below at_v (same ∙ (add-one j ∙ ap suc at_e)))
     (λ there. same_Some (get_or ends i 0) (suc e) (sym (entry_at ends 0 (get_or ends i 0) v i below at_v refl) ∙ there) ∙ (ap suc (sym at_e) ∙ sym (add-one j)))

@@ -37,7 +37,8 @@ find_step n ((e, d) ∷ steps) = ⊎_elim
     (λ (w : (eqb e n ≡ true) × (e ≡ n)). inl ([], d, steps, ap (λ (k : ℕ). (k, d) ∷ steps) w.1))
     (λ (w : (eqb e n ≡ false) × (e ≢ n)). ⊎_elim
     (λ (s : Splits n steps). inl ((e, d) ∷ s.0, s.1, s.2, ap (λ (x : Steps). (e, d) ∷ x) s.3))
-    (λ (none : Contains (numbers steps) n → ⊥). inr (λ c. ⊎_elim (λ (same : e ≡ n). absurd (w.1 same)) (λ (later : Contains (numbers steps) n). absurd (none later)) (contains_cases e (numbers steps) n c)))
+    (λ (none : Contains (numbers steps) n → ⊥). inr (λ c. ⊎_elim (λ (same : e ≡ n). absurd (w.1 same))
+        (λ (later : Contains (numbers steps) n). absurd (none later)) (contains_cases e (numbers steps) n c)))
     (find_step n steps))
     (eqb_tells e n)
 
@@ -112,7 +113,8 @@ module _ (hops : List Hop) where
   Short A v w = (s : Steps) × AllDiffer (numbers s) × IsTrail hops A s v w
 
   -- A hop before a trail that crosses the hop again: in both directions, the trail after the hop is enough.
-  again : (A : ℕ → Type 0) (e : ℕ) (d f : Bool) (v w : ℕ) (hop : Hop) (back : Steps) → IsHop hops e hop → A e → v ≡ start_of d hop → (Contains (numbers back) e → ⊥) → AllDiffer (numbers back)
+  again : (A : ℕ → Type 0) (e : ℕ) (d f : Bool) (v w : ℕ) (hop : Hop) (back : Steps) → IsHop hops e hop → A e → v ≡ start_of d hop
+      → (Contains (numbers back) e → ⊥) → AllDiffer (numbers back)
       → IsTrail hops A back (end_of f hop) w → Short A v w
   again A e true true v w hop back p a s none differ q = ((e, true) ∷ back, (none, differ), (hop, p, a, s, q))
   again A e true false v w hop back p a s none differ q = (back, differ, subst (λ (n : ℕ). IsTrail hops A back n w) (sym s) q)

@@ -37,7 +37,8 @@ module _ (Ends : ℕ → ℕ → Bool) (other : ℕ → ℕ → ℕ) (Joined : �
       (here.1, far x p.1, subst (λ (q : Option ℕ). Path (suc n) u k x q y r) (sym (last_still n x here.0)) (kept n v u safe far k x (last_at n x) y r p.2))
   kept n v u safe far (suc k) x (Some l) y r p = (far (other l x) p.0, kept n v u safe far k (other l x) (last_at l (other l x)) y r p.1)
 
-  module _ (back : (n v w : ℕ) → Joined n v w → Joined n w v) (through : (n v w x : ℕ) → Joined n v w → Joined n w x → Joined n v x) (wider : (n v w : ℕ) → Joined n v w → Joined (suc n) v w) (itself : (n v : ℕ) → Joined n v v) where
+  module _ (back : (n v w : ℕ) → Joined n v w → Joined n w v) (through : (n v w x : ℕ) → Joined n v w → Joined n w x → Joined n v x)
+      (wider : (n v w : ℕ) → Joined n v w → Joined (suc n) v w) (itself : (n v : ℕ) → Joined n v v) where
     -- The link joins nodes a and b, which were not joined.
     module _ (n a b : ℕ) (ends_a : Ends n a ≡ true) (ends_b : Ends n b ≡ true) (ends : (x : ℕ) → x ≢ a → x ≢ b → Ends n x ≡ false) (over : other n a ≡ b) (again : other n b ≡ a)
         (apart : Joined n a b → ⊥) (link : Joined (suc n) a b) (comes : (v u : ℕ) → Joined n v u → Way n v v (last_at n v) u None) where

@@ -34,7 +34,9 @@ use Rattle.nf_thin_laws.proofs.OneRun.{fails_below}
 -- ---- no phase extends beyond the horizon
 module _ (passes : Passing) (net : Network) where
   pub goes_within : (horizon : ℚ) (patterns : ℕ) (s t : Standing) → Goes passes net horizon patterns s t → t.time ≤ℚ horizon
-  goes_within horizon patterns s t g = subst (λ (n : Standing). n.time ≤ℚ horizon) (sym g.new_is) (IsPhaseLength-within net (slacks_of (hops net) s.labels) g.slopes s.time horizon g.step.length g.is_length)
+  goes_within horizon patterns s t g =
+      subst (λ (n : Standing). n.time ≤ℚ horizon) (sym g.new_is) (IsPhaseLength-within net
+      (slacks_of (hops net) s.labels) g.slopes s.time horizon g.step.length g.is_length)
 
 -- ---- the end of a run
 pub record EndsWell (passes : Passing) (net : Network) (horizon : ℚ) (last : Standing) (stop : Option (Cause ℚ)) : Type 0 where
@@ -50,13 +52,17 @@ module _ (passes : Passing) (net : Network) (good : IsNetwork net) (bounds : Bou
   step_within s _ (continues {t = t} c g) = goes_within passes net bounds.horizon bounds.patterns s t g
   step_within s t (begins c g) = goes_within passes net bounds.horizon bounds.patterns s t g
 
-  ends_well : (s last : Standing) (stop : Option (Cause ℚ)) → Reaches passes net s → s.time ≤ℚ bounds.horizon → RunsOn passes net bounds s last stop → EndsWell passes net bounds.horizon last stop
+  ends_well : (s last : Standing) (stop : Option (Cause ℚ)) → Reaches passes net s → s.time ≤ℚ bounds.horizon → RunsOn passes net bounds s last stop
+      → EndsWell passes net bounds.horizon last stop
   ends_well s last stop reaches within (at_horizon e) = record { reaches = reaches; within = within; stops = (λ _. e, λ _. refl) }
   ends_well s last stop reaches within (at_phases below e) = record { reaches = reaches; within = within; stops = below_stops s _ below }
-  ends_well s last stop reaches within (fails {cause = c} may f) = record { reaches = reaches; within = within; stops = below_stops s c (fails_below passes net bounds.horizon bounds.patterns s c f) }
-  ends_well s last stop reaches within (steps {new = t} may g rest) = ends_well t last stop (reaches_step passes net good s reaches bounds.horizon bounds.patterns t g) (step_within s t g) rest
+  ends_well s last stop reaches within (fails {cause = c} may f) =
+      record { reaches = reaches; within = within; stops = below_stops s c (fails_below passes net bounds.horizon bounds.patterns s c f) }
+  ends_well s last stop reaches within (steps {new = t} may g rest) =
+      ends_well t last stop (reaches_step passes net good s reaches bounds.horizon bounds.patterns t g) (step_within s t g) rest
 
-  module _ (first : Standing) (reaches : Reaches passes net first) (within : first.time ≤ℚ bounds.horizon) (last : Standing) (stop : Option (Cause ℚ)) (runs : RunsOn passes net bounds first last stop) where
+  module _ (first : Standing) (reaches : Reaches passes net first) (within : first.time ≤ℚ bounds.horizon) (last : Standing) (stop : Option (Cause ℚ))
+      (runs : RunsOn passes net bounds first last stop) where
     ends : EndsWell passes net bounds.horizon last stop
     ends = ends_well first last stop reaches within runs
 
@@ -104,7 +110,8 @@ module _ (net : Network) (good : IsNetwork net) (bounds : Bounds) where
 
   solution_of : (first : Standing) → IsStart net first → (phases : ℕ) (report : Report) → IsFinished net bounds first phases report → IsRunSolution net bounds phases report
   solution_of first start phases report f =
-      let run : IsPhaseRun passes_Q net bounds f.last f.stop = record { first = first; start = start; runs = runs_begun passes_Q first f.last f.stop (closed-at_start net first good start) f.runs } in
+      let run : IsPhaseRun passes_Q net bounds f.last f.stop = record { first = first; start = start; runs =
+          runs_begun passes_Q first f.last f.stop (closed-at_start net first good start) f.runs } in
       record {
         well_formed = f.well_formed;
         equilibrium = f.equilibrium;

@@ -82,7 +82,8 @@ module _ (passes : Passing) (net : Network) (patterns : ℕ) (s : Standing) wher
   same_slacks : (hs : List Hop) (labels : List ℚ) → hs ≡ hops net → labels ≡ s.labels → slack_list passes hs labels ≡ slack_list passes (hops net) s.labels
   same_slacks hs labels e f = ap (λ (h : List Hop). slack_list passes h labels) e ∙ ap (slack_list passes (hops net)) f
 
-  pub slacks_cause : (hs : List Hop) (labels : List ℚ) → hs ≡ hops net → labels ≡ s.labels → (halt : Halt ℚ) → Stops {A = List ℚ} (λ q. q) halt (at_part Slack (slack_list passes hs labels)) → Unfound (of_halt halt)
+  pub slacks_cause : (hs : List Hop) (labels : List ℚ) → hs ≡ hops net → labels ≡ s.labels → (halt : Halt ℚ)
+      → Stops {A = List ℚ} (λ q. q) halt (at_part Slack (slack_list passes hs labels)) → Unfound (of_halt halt)
   slacks_cause hs labels e f halt h = slack_cause halt (subst (λ (r : Checked (List ℚ)). Stops {A = List ℚ} (λ q. q) halt (at_part Slack r)) (same_slacks hs labels e f) h)
 
   pub slacks_made : (hs : List Hop) (labels slacks : List ℚ) → hs ≡ hops net → labels ≡ s.labels → at_part Slack (slack_list passes hs labels) ≡ Ok slacks
@@ -116,10 +117,12 @@ module _ (passes : Passing) (net : Network) (patterns : ℕ) (s : Standing) wher
     pub lists_below : (horizon : ℚ) → s.time <ℚ horizon → (cause : Cause ℚ) → ListsPass passes net horizon s pattern flows slopes cause → Fails passes net horizon patterns s cause
     lists_below horizon below cause (at_lists p h) = at_lists_below place pattern flows slopes p (seeks_below horizon _ below seeks) h
 
-    pub extend_on : (p : Passed ℚ) → end_list passes net (slacks_of (hops net) s.labels) slopes s.time ≡ Err p → FailsOn passes net patterns s (Cause.Passed (suc s.made) None (placed Extend p))
+    pub extend_on : (p : Passed ℚ) → end_list passes net (slacks_of (hops net) s.labels) slopes s.time ≡ Err p
+        → FailsOn passes net patterns s (Cause.Passed (suc s.made) None (placed Extend p))
     extend_on p h = at_extend_on place pattern flows slopes p seeks h
 
-    pub lists_on : (end : ℚ) → end_list passes net (slacks_of (hops net) s.labels) slopes s.time ≡ Ok (Some end) → (cause : Cause ℚ) → ListsPass passes net end s pattern flows slopes cause
+    pub lists_on : (end : ℚ) → end_list passes net (slacks_of (hops net) s.labels) slopes s.time ≡ Ok (Some end) → (cause : Cause ℚ)
+        → ListsPass passes net end s pattern flows slopes cause
         → FailsOn passes net patterns s cause
     lists_on end ends cause (at_lists p h) = at_lists_on place pattern flows slopes end p seeks ends h
 
@@ -175,16 +178,19 @@ module _ (passes : Passing) (net : Network) (horizon : ℚ) (s : Standing) (patt
       curve_cause (Halt.Passed at) h = stopped_at at (to_curve ∙ then_same (curve end) (Err at) (from_curve end) h)
       curve_cause Halt.Memory h = tt
 
-      pub lists_made : (links : List LinkStep) → curve end ≡ Ok links → phase_lists passes net horizon s pattern flows slopes ≡ Ok (record { length = end.length; labels = end.labels; links = links })
+      pub lists_made : (links : List LinkStep) → curve end ≡ Ok links → phase_lists passes net horizon s pattern flows slopes ≡ Ok
+          (record { length = end.length; labels = end.labels; links = links })
       lists_made links h = to_curve ∙ then_same (curve end) (Ok links) (from_curve end) h
 
 -- ---- the length of the phase
 module _ (passes : Passing) (net : Network) (slacks labels slopes : List ℚ) (time horizon : ℚ) where
-  cut_is : (extension : Option ℚ) (length : ℚ) → MatchOption extension (IsUnending net slacks slopes time) (IsExtension net slacks slopes time) → length ≡ cut_at (horizon -ℚ time) extension
+  cut_is : (extension : Option ℚ) (length : ℚ) → MatchOption extension (IsUnending net slacks slopes time) (IsExtension net slacks slopes time)
+      → length ≡ cut_at (horizon -ℚ time) extension
       → IsPhaseLength net slacks slopes time horizon length
   cut_is None length h e = inr (h, e)
   cut_is (Some extension) length h e = inl (extension, h, e)
 
-  pub phase_length : (extension : Option ℚ) (end : Advanced) → length slopes ≡ length labels → MatchOption extension (IsUnending net slacks slopes time) (IsExtension net slacks slopes time)
+  pub phase_length : (extension : Option ℚ) (end : Advanced) → length slopes ≡ length labels
+      → MatchOption extension (IsUnending net slacks slopes time) (IsExtension net slacks slopes time)
       → at_part Advance (advance_list passes horizon time extension labels slopes) ≡ Ok end → IsPhaseLength net slacks slopes time horizon end.length
   phase_length extension end count h list = cut_is extension end.length h (advanced_exact passes horizon time extension labels slopes end count (part_ok Advance _ end (sym list))).0

@@ -70,14 +70,17 @@ module _ (passes : Passing) (net : Network) (bounds : Bounds) (first : Standing)
         (lt_ℚ_cases s.time bounds.horizon)
 
     -- ---- the next phase is not computed
-    ended : phases < bounds.phases → (fault : StepFault) → IsCause passes net bounds.horizon bounds.patterns s fault → (stop : Option (Cause ℚ)) → stop ≡ cause_of (suc s.made) fault → IsSome stop
+    ended : phases < bounds.phases → (fault : StepFault) → IsCause passes net bounds.horizon bounds.patterns s fault → (stop : Option (Cause ℚ))
+        → stop ≡ cause_of (suc s.made) fault → IsSome stop
         → RunsOn passes net bounds first s stop
     ended may fault h None e some = absurd (cc)
     ended may fault h (Some cause) e some =
         gone.ends s (Some cause) (fails (may_go may) (stands_stop (Fails passes net bounds.horizon bounds.patterns s) (suc s.made) fault h cause (sym e)))
 
-    pub ends_by_fault : phases < bounds.phases → (fault : StepFault) → IsCause passes net bounds.horizon bounds.patterns s fault → (after : Standing) → after ≡ s → (phase : ℕ) → phase ≡ suc after.made
-        → {E : Type 0} (result : Result (Option (Cause ℚ)) E) → IfOk result (λ stop. stop ≡ cause_of phase fault) → IfOk result IsSome → IfOk result (RunsOn passes net bounds first after)
+    pub ends_by_fault : phases < bounds.phases → (fault : StepFault) → IsCause passes net bounds.horizon bounds.patterns s fault → (after : Standing)
+        → after ≡ s → (phase : ℕ) → phase ≡ suc after.made
+        → {E : Type 0} (result : Result (Option (Cause ℚ)) E) → IfOk result (λ stop. stop ≡ cause_of phase fault) → IfOk result IsSome
+            → IfOk result (RunsOn passes net bounds first after)
     ends_by_fault may fault h after same phase next (Ok stop) e some =
         subst (λ (t : Standing). RunsOn passes net bounds first t stop) (sym same)
         (ended may fault h stop (e ∙ ap (λ (n : ℕ). cause_of n fault) (next ∙ ap (λ (t : Standing). suc t.made) same)) some)

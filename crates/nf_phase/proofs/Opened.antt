@@ -88,11 +88,13 @@ module _ (net : Network) (s : Standing) (slacks : List ℚ) (is : slacks ≡ sla
       link_there : (k : ℕ) → slice_get s.last k ≡ Some None → (link : Link) × IsLink net k link
       link_there k none = entry net.links k (subst (λ (m : ℕ). k < m) count (slice_get_within s.last k None none))
 
-  pub open_if : length s.last ≡ length net.links → (starts : Bool) → starts ≡ none_starts net.pieces s.time → starts ≡ true → (apart : Bool) → MatchBool apart (HaveStateOrSlack slacks s.last) (HaveStateOrSlack slacks s.last → ⊥)
+  pub open_if : length s.last ≡ length net.links → (starts : Bool) → starts ≡ none_starts net.pieces s.time → starts ≡ true → (apart : Bool)
+      → MatchBool apart (HaveStateOrSlack slacks s.last) (HaveStateOrSlack slacks s.last → ⊥)
       → MatchBool apart (IsOpen net s) (IsOpen net s → ⊥)
   open_if count starts e t true a = opened starts e t a
   open_if count starts e t false a = not_apart count a
 
-pub continues_by : (net : Network) (s : Standing) (opens : Bool) → s.made ≡ 0 → MatchBool opens (IsOpen net s) (IsOpen net s → ⊥) → MatchBool opens (Continues net s) (Continues net s → ⊥)
+pub continues_by : (net : Network) (s : Standing) (opens : Bool) → s.made ≡ 0 → MatchBool opens (IsOpen net s) (IsOpen net s → ⊥)
+    → MatchBool opens (Continues net s) (Continues net s → ⊥)
 continues_by net s true first o = (first, o)
 continues_by net s false first o = λ c. o c.1

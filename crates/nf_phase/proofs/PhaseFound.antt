@@ -34,7 +34,8 @@ use Rattle.nf_phase.proofs.Reached.{Stands, Stands-reached, active_count}
 use Rattle.nf_phase.proofs.Found.{by_fault, seeks_here, seeks_below, extend_cause, advance_cause, curve_cause, lists_made, phase_length}
 
 -- ---- the search
-pub found_here : (passes : Passing) (net : Network) (patterns : ℕ) (s : Standing) → slack_list passes (hops net) s.labels ≡ Ok (slacks_of (hops net) s.labels) → (horizon : ℚ) (found : PhaseStart)
+pub found_here : (passes : Passing) (net : Network) (patterns : ℕ) (s : Standing)
+    → slack_list passes (hops net) s.labels ≡ Ok (slacks_of (hops net) s.labels) → (horizon : ℚ) (found : PhaseStart)
     → found.slacks.items ≡ slacks_of (hops net) s.labels → found.sets ≡ sets_at net s.labels
     → ((place : ℕ) × IsSearchHere passes net horizon patterns s (Found place found.thin.pattern found.thin.flows.items found.thin.slopes.items)) → IsFound passes net patterns s found
 found_here passes net patterns s list horizon found slacks sets h = record { slacks = slacks; sets = sets; seeks = (h.0, seeks_here passes net patterns s list horizon _ h.1) }
@@ -110,7 +111,8 @@ module _ (passes : Passing) (net : Network) (good : IsNetwork net) (horizon : �
         advance_is : at_part Advance (advance_list passes horizon s.time extension s.labels thin_slopes) ≡ at_part Advance (advance_list passes horizon time extension labels slopes_2)
         advance_is = rw (same_labels, same_slopes_2, same_time) refl
 
-        pub advance_stops : (halt : Halt ℚ) → Stops {A = Advanced} (λ q. q) halt (at_part Advance (advance_list passes horizon time extension labels slopes_2)) → {A : Type 0} (result : Result A StepFault)
+        pub advance_stops : (halt : Halt ℚ) → Stops {A = Advanced} (λ q. q) halt
+            (at_part Advance (advance_list passes horizon time extension labels slopes_2)) → {A : Type 0} (result : Result A StepFault)
             → IsErrAnd result (λ f. f ≡ of_halt halt) → IfErr result Stopped
         advance_stops halt h result e = by_fault result (of_halt halt) Stopped e
             (advance_cause passes net horizon s found.thin.pattern found.thin.flows.items thin_slopes extension extend_ok halt
@@ -125,19 +127,23 @@ module _ (passes : Passing) (net : Network) (good : IsNetwork net) (horizon : �
               ap (λ (l : List ℚ). length l) (advanced_exact passes horizon s.time extension s.labels thin_slopes end slope_count (part_ok Advance _ end (sym advance_ok))).1
               ∙ length-moved s.labels thin_slopes end.length slope_count ∙ label_count_at net good s stands.well
 
-          pub lasts : MatchOption extension (IsUnending net slacks slopes time) (IsExtension net slacks slopes time) → IsPhaseLength net (slacks_of (hops net) s.labels) thin_slopes s.time horizon end.length
+          pub lasts : MatchOption extension (IsUnending net slacks slopes time) (IsExtension net slacks slopes time)
+              → IsPhaseLength net (slacks_of (hops net) s.labels) thin_slopes s.time horizon end.length
           lasts long =
               phase_length passes net (slacks_of (hops net) s.labels) s.labels thin_slopes s.time horizon extension end slope_count
               (rw (sym (same_slacks ∙ is.slacks), sym same_slopes, sym same_time) long) advance_ok
 
           -- ---- the links
           module _ (sets : Sets) (flows slopes_3 new_labels amounts : List ℚ) (curves : List LinkCurves) (same_sets : sets ≡ found.sets) (same_flows : flows ≡ found.thin.flows.items)
-              (same_slopes_3 : slopes_3 ≡ thin_slopes) (same_new : new_labels ≡ end.labels) (same_amounts : amounts ≡ map amount_so_far curves) (same_curves : curves ≡ s.link_curves) where
-            curve_is : at_part Curve (curve_list passes net (sets_at net s.labels) found.thin.pattern end.length found.thin.flows.items thin_slopes end.labels (map amount_so_far s.link_curves))
+              (same_slopes_3 : slopes_3 ≡ thin_slopes) (same_new : new_labels ≡ end.labels) (same_amounts : amounts ≡ map amount_so_far curves)
+                  (same_curves : curves ≡ s.link_curves) where
+            curve_is : at_part Curve (curve_list passes net (sets_at net s.labels) found.thin.pattern end.length found.thin.flows.items thin_slopes
+                end.labels (map amount_so_far s.link_curves))
                 ≡ at_part Curve (curve_list passes net sets found.thin.pattern end.length flows slopes_3 new_labels amounts)
             curve_is = rw (same_sets ∙ is.sets, same_flows, same_slopes_3, same_new, same_amounts ∙ ap (map amount_so_far) same_curves) refl
 
-            pub curve_stops : (halt : Halt ℚ) → Stops {A = List LinkStep} (λ q. q) halt (at_part Curve (curve_list passes net sets found.thin.pattern end.length flows slopes_3 new_labels amounts))
+            pub curve_stops : (halt : Halt ℚ) → Stops {A = List LinkStep} (λ q. q) halt
+                (at_part Curve (curve_list passes net sets found.thin.pattern end.length flows slopes_3 new_labels amounts))
                 → {A : Type 0} (result : Result A StepFault) → IsErrAnd result (λ f. f ≡ of_halt halt) → IfErr result Stopped
             curve_stops halt h result e = by_fault result (of_halt halt) Stopped e
                 (curve_cause passes net horizon s found.thin.pattern found.thin.flows.items thin_slopes extension extend_ok end advance_ok halt

@@ -29,7 +29,8 @@ module _ (passes : Passing) (flow : Flow) (last : Pattern) where
   links_list = of_links passes flow.inflows flow.outflows flow.queues
 
   abbrev stands_with : List GrowingCurve → List LinkCurves → Standing
-  stands_with label_curves link_curves = record { time = flow.reached; labels = map value_at_end flow.labels; label_curves = label_curves; link_curves = link_curves; made = 0; last = last }
+  stands_with label_curves link_curves =
+      record { time = flow.reached; labels = map value_at_end flow.labels; label_curves = label_curves; link_curves = link_curves; made = 0; last = last }
 
   pub labels_pass : (p : PassedAt ℚ) → at_part Curve labels_list ≡ Err p → at_part Curve (restore_list passes flow last) ≡ Err p
   unfolding restore_list
@@ -40,9 +41,11 @@ module _ (passes : Passing) (flow : Flow) (last : Pattern) where
     unfolding restore_list
     links_pass p e =
         after_ok Curve labels_list _ label_curves by_labels
-        ∙ after_err Curve (each (growing passes) flow.queues) _ p (err_before Curve (each (growing passes) flow.queues) (λ (grown : List GrowingCurve). link_curves_of flow.inflows flow.outflows grown) p e)
+        ∙ after_err Curve (each (growing passes) flow.queues) _ p (err_before Curve (each (growing passes) flow.queues)
+            (λ (grown : List GrowingCurve). link_curves_of flow.inflows flow.outflows grown) p e)
 
-    pub list_made : (link_curves : List LinkCurves) → at_part Curve links_list ≡ Ok link_curves → at_part Curve (restore_list passes flow last) ≡ Ok (stands_with label_curves link_curves)
+    pub list_made : (link_curves : List LinkCurves) → at_part Curve links_list ≡ Ok link_curves
+        → at_part Curve (restore_list passes flow last) ≡ Ok (stands_with label_curves link_curves)
     unfolding restore_list
     list_made link_curves e =
         let w = ok_before Curve (each (growing passes) flow.queues) (λ (grown : List GrowingCurve). link_curves_of flow.inflows flow.outflows grown) link_curves e in
@@ -57,7 +60,9 @@ ends_same (g ∷ curves) = ap (λ (l : List ℚ). value_at_end g.points ∷ l) (
 
 pub flow_counts : (net : Network) (f : code.Flow) → Equilibrium net (flow_in f) → (length f.outflows.items ≡ length f.inflows.items) × (length f.queues.items ≡ length f.inflows.items)
 flow_counts net f is =
-    let inflows : length f.inflows.items ≡ length net.links = sym (length-map (map trace_of f.inflows.items) (λ (t : Trace). t.points) ∙ length-map f.inflows.items trace_of) ∙ is.shape.inflows.count in
-    let outflows : length f.outflows.items ≡ length net.links = sym (length-map (map trace_of f.outflows.items) (λ (t : Trace). t.points) ∙ length-map f.outflows.items trace_of) ∙ is.shape.outflows.count in
+    let inflows : length f.inflows.items ≡ length net.links = sym (length-map (map trace_of f.inflows.items) (λ (t : Trace). t.points)
+        ∙ length-map f.inflows.items trace_of) ∙ is.shape.inflows.count in
+    let outflows : length f.outflows.items ≡ length net.links = sym (length-map (map trace_of f.outflows.items) (λ (t : Trace). t.points)
+        ∙ length-map f.outflows.items trace_of) ∙ is.shape.outflows.count in
     let queues : length f.queues.items ≡ length net.links = sym (length-map f.queues.items (λ (g : Grown). g.points)) ∙ is.shape.queues.count in
     (outflows ∙ sym inflows, queues ∙ sym inflows)

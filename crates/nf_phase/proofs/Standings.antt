@@ -12,7 +12,8 @@ pub same_parts : (time : ℚ) (labels other : List ℚ) (label_curves : List Gro
 same_parts time labels other label_curves link_curves last e = λ i. record { time = time; labels = e i; label_curves = label_curves; link_curves = link_curves; made = 0; last = last }
 
 -- A run state with unchanged curves.
-pub same_standing : (now before : Standing) (label_curves : List GrowingCurve) (link_curves : List LinkCurves) → label_curves ≡ now.label_curves → link_curves ≡ now.link_curves → now ≡ before
+pub same_standing : (now before : Standing) (label_curves : List GrowingCurve) (link_curves : List LinkCurves) → label_curves ≡ now.label_curves
+    → link_curves ≡ now.link_curves → now ≡ before
     → record { time = now.time; labels = now.labels; label_curves = label_curves; link_curves = link_curves; made = now.made; last = now.last } ≡ before
 same_standing now before label_curves link_curves labels links same =
     ap (λ (curves : List GrowingCurve). standing curves link_curves) labels ∙ ap (λ (curves : List LinkCurves). standing now.label_curves curves) links ∙ same

@@ -57,7 +57,8 @@ module _ (passes : Passing) (net : Network) (good : IsNetwork net) (s : Standing
   only_step horizon patterns t (begins c g) = only_phase horizon patterns t g
 
 -- A phase that is no remainder of an interrupted phase is a phase of the run.
-pub begin_step : (passes : Passing) (net : Network) (horizon : ℚ) (patterns : ℕ) (s t : Standing) → (Continues net s → ⊥) → Steps passes net horizon patterns s t → Goes passes net horizon patterns s t
+pub begin_step : (passes : Passing) (net : Network) (horizon : ℚ) (patterns : ℕ) (s t : Standing) → (Continues net s → ⊥)
+    → Steps passes net horizon patterns s t → Goes passes net horizon patterns s t
 begin_step passes net horizon patterns s _ apart (continues c g) = absurd (apart c)
 begin_step passes net horizon patterns s t apart (begins c g) = g
 
@@ -111,10 +112,14 @@ module _ (passes : Passing) (net : Network) (good : IsNetwork net) (horizon : �
   slope_count = leads.finds.search.is_search.answers.solution.solves.slope_count
 
   parts : PhaseParts passes net s phase.thin.pattern phase.thin.flows.items phase.thin.slopes.items (step_in phase)
-  parts = phase_parts passes net good horizon patterns s phase.thin.pattern phase.thin.flows.items phase.thin.slopes.items (step_in phase) (slope_count ∙ sym (label_count_at net good s here.well)) leads.lists
+  parts =
+      phase_parts passes net good horizon patterns s phase.thin.pattern phase.thin.flows.items phase.thin.slopes.items (step_in phase)
+      (slope_count ∙ sym (label_count_at net good s here.well)) leads.lists
 
   pub step_count : length phase.steps.items ≡ length net.links
-  step_count = steps-length passes net (sets_at net s.labels) phase.thin.pattern phase.length phase.thin.flows.items phase.thin.slopes.items phase.labels.items _ phase.steps.items parts.links
+  step_count =
+      steps-length passes net (sets_at net s.labels) phase.thin.pattern phase.length phase.thin.flows.items phase.thin.slopes.items phase.labels.items _
+      phase.steps.items parts.links
 
   -- ---- the labels at the end of the phase
   pub source_next : number_at phase.labels.items net.source ≡ s.time +ℚ phase.length
@@ -142,7 +147,8 @@ module _ (passes : Passing) (net : Network) (good : IsNetwork net) (horizon : �
 
   -- ---- the run after the phase
   pub new_standing : (reached : ℚ) (label_curves : List GrowingCurve) (link_curves : List LinkCurves) (made : ℕ) (last : Pattern) → reached ≡ s.time +ℚ phase.length
-      → label_curves ≡ label_curves_after reached phase.labels.items phase.thin.slopes.items s.label_curves → link_curves ≡ link_curves_after phase.labels.items net.links s.link_curves phase.steps.items
+      → label_curves ≡ label_curves_after reached phase.labels.items phase.thin.slopes.items s.label_curves
+          → link_curves ≡ link_curves_after phase.labels.items net.links s.link_curves phase.steps.items
       → made ≡ suc s.made → last ≡ phase.thin.pattern
       → record { time = reached; labels = phase.labels.items; label_curves = label_curves; link_curves = link_curves; made = made; last = last } ≡ next
   new_standing reached label_curves link_curves made last e f g h k =

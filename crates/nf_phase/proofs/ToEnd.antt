@@ -26,7 +26,8 @@ use Rattle.nf_phase.proofs.Found.{part_err, by_fault, stands_as, none_on, extend
 pub found_none_on : (passes : Passing) (net : Network) (patterns : ℕ) (s : Standing) {A : Type 0} (result : Result A StepFault) (fault : StepFault) → IsErrAnd result (λ f. f ≡ fault)
     → IsFaultOf (FindsNone passes net patterns s) (suc s.made) fault → IfErr result (IsCauseOn passes net patterns s)
 found_none_on passes net patterns s result fault e h =
-    by_fault result fault (IsCauseOn passes net patterns s) e (stands_as (FindsNone passes net patterns s) (FailsOn passes net patterns s) (suc s.made) fault (none_on passes net patterns s) h)
+    by_fault result fault (IsCauseOn passes net patterns s) e (stands_as (FindsNone passes net patterns s) (FailsOn passes net patterns s)
+        (suc s.made) fault (none_on passes net patterns s) h)
 
 -- ---- with a thin flow
 module _ (passes : Passing) (net : Network) (patterns : ℕ) (s : Standing) (found : PhaseStart) (is : IsFound passes net patterns s found)
@@ -37,7 +38,8 @@ module _ (passes : Passing) (net : Network) (patterns : ℕ) (s : Standing) (fou
   ends_is : ends found.thin.slopes.items ≡ end_list passes net slacks slopes time
   ends_is = rw (same_slacks ∙ is.slacks, same_slopes, same_time) refl
 
-  pub end_passes : (at : PassedAt ℚ) → Err at ≡ at_part Extend (end_list passes net slacks slopes time) → {A : Type 0} (result : Result A StepFault) → IsErrAnd result (λ f. f ≡ StepFault.Passed at)
+  pub end_passes : (at : PassedAt ℚ) → Err at ≡ at_part Extend (end_list passes net slacks slopes time) → {A : Type 0} (result : Result A StepFault)
+      → IsErrAnd result (λ f. f ≡ StepFault.Passed at)
       → IfErr result (IsCauseOn passes net patterns s)
   end_passes at h result e =
       let p = part_err Extend (end_list passes net slacks slopes time) at (sym h) in

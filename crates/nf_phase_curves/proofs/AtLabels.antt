@@ -15,6 +15,7 @@ number_read numbers v i number same inside is =
     ap (λ (j : ℕ). number_at numbers j) (sym same)
     ∙ ap (λ (o : Option ℚ). unwrap_or o 0ℚ) (slice_get_read numbers (length numbers) i number refl (subst (λ (j : ℕ). j < length numbers) (sym same) inside) is)
 
-pub ends_before : {A : Type 0} (step : Option A) (points : List Point) (time label : ℚ) → time ≡ label → ((x : A) → step ≡ Some x → end_of points <ℚ time) → IsSome step → end_of points <ℚ label
+pub ends_before : {A : Type 0} (step : Option A) (points : List Point) (time label : ℚ) → time ≡ label → ((x : A) → step ≡ Some x → end_of points <ℚ time)
+    → IsSome step → end_of points <ℚ label
 ends_before (Some x) points time label e later some = subst (λ (t : ℚ). end_of points <ℚ t) e (later x refl)
 ends_before None points time label e later some = absurd (false≢true some)

@@ -43,7 +43,8 @@ value_at_last points p h =
 
 -- ---- a new end
 
-pub still_after : (kept : Bool) (corners : List Point) (end : Option End) (time : ℚ) → IsAfter corners end → end_of (points_to corners end) <ℚ time → last_time (corners_by kept corners end) <ℚ time
+pub still_after : (kept : Bool) (corners : List Point) (end : Option End) (time : ℚ) → IsAfter corners end → end_of (points_to corners end) <ℚ time
+    → last_time (corners_by kept corners end) <ℚ time
 still_after true corners None time after later = subst (λ (t : ℚ). t <ℚ time) (sym (last_time-end corners)) later
 still_after true corners (Some e) time after later = <ℚ_trans _ e.time time after (subst (λ (t : ℚ). t <ℚ time) (end-append corners (e.time, e.value)) later)
 still_after false corners end time after later = subst (λ (t : ℚ). t <ℚ time) (sym (last_time-end (points_to corners end))) later
@@ -53,22 +54,27 @@ last_rate : (rates : List ℚ) (last : Option ℚ) → AreBefore rates last → 
 last_rate rates None none = ap (λ (l : List ℚ). last_or None (l ++ [])) none
 last_rate rates (Some rate) some = last-append None rates rate
 
-rates-with : (kept : Bool) (rates : List ℚ) (last : Option ℚ) (rate : ℚ) → kept ≡ keeps_slope last rate → rates_by kept rates last ++ rate ∷ [] ≡ with_rate kept (rates ++ option_to_list last) rate
+rates-with : (kept : Bool) (rates : List ℚ) (last : Option ℚ) (rate : ℚ) → kept ≡ keeps_slope last rate
+    → rates_by kept rates last ++ rate ∷ [] ≡ with_rate kept (rates ++ option_to_list last) rate
 rates-with true rates None rate e = cc
 rates-with true rates (Some before) rate e = ap (λ (r : ℚ). rates ++ r ∷ []) (sym (same_of_test before rate (sym e)))
 rates-with false rates last rate e = refl
 
-pub trace-with : (kept : Bool) (rates new : List ℚ) (curve after : GrowingCurve) (rate : ℚ) (p : Point) → AreBefore rates curve.slope → kept ≡ keeps_slope curve.slope rate → new ≡ rates_by kept rates curve.slope
+pub trace-with : (kept : Bool) (rates new : List ℚ) (curve after : GrowingCurve) (rate : ℚ) (p : Point) → AreBefore rates curve.slope
+    → kept ≡ keeps_slope curve.slope rate → new ≡ rates_by kept rates curve.slope
     → after ≡ curve_with curve p rate
-    → ◌≡◌ {A = Trace} (record { points = after.points; rates = new ++ option_to_list after.slope }) (trace_with (record { points = curve.points; rates = rates ++ option_to_list curve.slope }) p rate)
+    → ◌≡◌ {A = Trace} (record { points = after.points; rates = new ++ option_to_list after.slope })
+        (trace_with (record { points = curve.points; rates = rates ++ option_to_list curve.slope }) p rate)
 trace-with kept rates new curve after rate p before e made is =
     ap (λ (c : GrowingCurve). record { points = c.points; rates = new ++ option_to_list c.slope }) is
     ∙ ap (λ (l : List ℚ). record { points = with_point (keeps_slope curve.slope rate) curve.points p; rates = l })
     (ap (λ (l : List ℚ). l ++ rate ∷ []) made ∙ rates-with kept rates curve.slope rate e ∙ ap (λ (b : Bool). with_rate b (rates ++ option_to_list curve.slope) rate) e)
-    ∙ ap (λ (o : Option ℚ). record { points = with_point (keeps_slope o rate) curve.points p; rates = with_rate (keeps_slope o rate) (rates ++ option_to_list curve.slope) rate }) (sym (last_rate rates curve.slope before))
+    ∙ ap (λ (o : Option ℚ). record { points = with_point (keeps_slope o rate) curve.points p; rates =
+        with_rate (keeps_slope o rate) (rates ++ option_to_list curve.slope) rate }) (sym (last_rate rates curve.slope before))
 
 -- ---- the first point of a curve at a node
-pub after_zero : (points : List Point) (value origin label : ℚ) (before : Bool) → points ≡ (0ℚ, value) ∷ [] → before ≡ lt_ℚ origin label → origin ≡ 0ℚ → before ≡ true → last_time points <ℚ label
+pub after_zero : (points : List Point) (value origin label : ℚ) (before : Bool) → points ≡ (0ℚ, value) ∷ [] → before ≡ lt_ℚ origin label → origin ≡ 0ℚ
+    → before ≡ true → last_time points <ℚ label
 after_zero points value origin label before is test none t = subst (λ (l : List Point). last_time l <ℚ label) (sym is) (below (lt_ℚ_cases 0ℚ label))
   where
     tested : lt_ℚ 0ℚ label ≡ true

@@ -37,7 +37,8 @@ module _ (passes : Passing) where
   abbrev slope_of : Point → Point → Checked (Option ℚ)
   slope_of p q = checked_slope passes p q >>= λ k. Ok (Some k)
 
-  slope_at : (points : List Point) (k : ℕ) (p q : Point) → slice_get points k ≡ Some p → slice_get points (suc k) ≡ Some q → length points ≡ k + 2 → last_slope passes points ≡ slope_of p q
+  slope_at : (points : List Point) (k : ℕ) (p q : Point) → slice_get points k ≡ Some p → slice_get points (suc k) ≡ Some q → length points ≡ k + 2
+      → last_slope passes points ≡ slope_of p q
   slope_at [] k p q h i e = absurd (omega arith)
   slope_at (x ∷ []) k p q h i e = absurd (omega arith)
   slope_at (x ∷ y ∷ []) zero p q h i e = ap (λ (z : Point). slope_of z y) (same_Some x p h) ∙ ap (slope_of p) (same_Some y q i)
@@ -45,7 +46,8 @@ module _ (passes : Passing) where
   slope_at (x ∷ y ∷ z ∷ rest) zero p q h i e = absurd (omega arith)
   slope_at (x ∷ y ∷ z ∷ rest) (suc k) p q h i e = slope_at (y ∷ z ∷ rest) k p q h i (omega arith)
 
-  pub last_slope_there : (points : List Point) (k j : ℕ) (p q : Point) → slice_get points k ≡ Some p → slice_get points j ≡ Some q → j ≡ k + 1 → length points ≡ k + 2 → last_slope passes points ≡ slope_of p q
+  pub last_slope_there : (points : List Point) (k j : ℕ) (p q : Point) → slice_get points k ≡ Some p → slice_get points j ≡ Some q → j ≡ k + 1
+      → length points ≡ k + 2 → last_slope passes points ≡ slope_of p q
   last_slope_there points k j p q h i e count = slope_at points k p q h (next_at points k j q e i) count
 
 -- ---- the last point after the others

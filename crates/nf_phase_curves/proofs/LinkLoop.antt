@@ -29,7 +29,8 @@ module _ (passes : Passing) (sets : Sets) (pattern : Pattern) (duration : ℚ) (
     here : (link : Link) × IsLink net e link
     here = entry net.links e inside
 
-    pub one_step : (next : LinkStep) → ((link : Link) → IsLink net e link → Ok next ≡ at_part Curve (numbered_step (e, link))) → SoFar numbered_step net.links (steps ++ next ∷ []) (e + 1)
+    pub one_step : (next : LinkStep) → ((link : Link) → IsLink net e link → Ok next ≡ at_part Curve (numbered_step (e, link)))
+        → SoFar numbered_step net.links (steps ++ next ∷ []) (e + 1)
     one_step next said = one_more numbered_step net.links steps e here.0 here.1 so Curve next (said here.0 here.1)
 
     pub step_passes : (p : PassedAt ℚ) → ((link : Link) → IsLink net e link → Err p ≡ at_part Curve (numbered_step (e, link)))

@@ -68,7 +68,8 @@ module _ (passes : Passing) (inflows outflows : List Trace) (queues : List (List
   pub no_links : LinksSoFar passes inflows outflows queues [] 0
   no_links = record { entering = refl; leaving = refl; waiting = none_yet (growing passes) queues }
 
-  module _ (front : List LinkCurves) (e : ℕ) (inflow outflow : Trace) (queue : List Point) (i : slice_get inflows e ≡ Some inflow) (o : slice_get outflows e ≡ Some outflow) (q : slice_get queues e ≡ Some queue)
+  module _ (front : List LinkCurves) (e : ℕ) (inflow outflow : Trace) (queue : List Point) (i : slice_get inflows e ≡ Some inflow)
+      (o : slice_get outflows e ≡ Some outflow) (q : slice_get queues e ≡ Some queue)
       (so : LinksSoFar passes inflows outflows queues front e) where
     pub one_link : (next : LinkCurves) → at_part Curve (of_link passes inflow outflow queue) ≡ Ok next → LinksSoFar passes inflows outflows queues (front ++ next ∷ []) (e + 1)
     one_link next said =
@@ -103,14 +104,16 @@ module _ (passes : Passing) (inflows outflows : List Trace) (queues : List (List
       ∙ ap (λ (l : List Trace). link_curves_of (map (λ c. c.inflow) front) l (map (λ c. c.queue) front)) (sym by_outflows) ∙ again front)
 
 -- ---- lists that grow by one value
-pub mapped_pushed : {A B : Type 0} (f : A → B) (xs : List A) (ys pushed : List B) (i : ℕ) (x : A) (y : B) → slice_get xs i ≡ Some x → ys ≡ map f (take i xs) → y ≡ f x → pushed ≡ ys ++ y ∷ []
+pub mapped_pushed : {A B : Type 0} (f : A → B) (xs : List A) (ys pushed : List B) (i : ℕ) (x : A) (y : B) → slice_get xs i ≡ Some x → ys ≡ map f (take i xs)
+    → y ≡ f x → pushed ≡ ys ++ y ∷ []
     → pushed ≡ map f (take (i + 1) xs)
 mapped_pushed {A = A} {B = B} f xs ys pushed i x y at is e more =
     more ∙ ap (λ (l : List B). l ++ y ∷ []) is ∙ ap (λ (z : B). map f (take i xs) ++ z ∷ []) e ∙ sym (map-append f (take i xs) (x ∷ []))
     ∙ ap (map f) (take_pushed xs (take i xs) (take i xs ++ x ∷ []) i x at refl refl)
 
 -- A list that grows.
-pub grown_pushed : {A B : Type 0} (f : A → B) (xs : List (Roomy A)) (ys pushed : List B) (i : ℕ) (x : Roomy A) (y : B) → slice_get xs i ≡ Some x → ys ≡ map f (all_grown (take i xs)) → y ≡ f x.grown → pushed ≡ ys ++ y ∷ []
+pub grown_pushed : {A B : Type 0} (f : A → B) (xs : List (Roomy A)) (ys pushed : List B) (i : ℕ) (x : Roomy A) (y : B) → slice_get xs i ≡ Some x
+    → ys ≡ map f (all_grown (take i xs)) → y ≡ f x.grown → pushed ≡ ys ++ y ∷ []
     → pushed ≡ map f (all_grown (take (i + 1) xs))
 grown_pushed {A = A} {B = B} f xs ys pushed i x y at is e more =
     more ∙ ap (λ (l : List B). l ++ y ∷ []) is ∙ ap (λ (z : B). map f (all_grown (take i xs)) ++ z ∷ []) e ∙ sym (map-append f (all_grown (take i xs)) (x.grown ∷ []))

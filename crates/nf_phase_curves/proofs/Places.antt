@@ -47,7 +47,8 @@ module _ {A : Type 0} where
     pub rest : (k : ℕ) → i ≤ k → slice_get now k ≡ slice_get before k
 
   -- The grown value at the next index.
-  pub grown_before : (whole : List A) (before now : List (Roomy A)) (i : ℕ) (r : Roomy A) → slice_get now i ≡ Some r → GrownBelow whole before now i → slice_get (all_grown before) i ≡ Some r.grown
+  pub grown_before : (whole : List A) (before now : List (Roomy A)) (i : ℕ) (r : Roomy A) → slice_get now i ≡ Some r → GrownBelow whole before now i
+      → slice_get (all_grown before) i ≡ Some r.grown
   grown_before whole before now i r at h = grown_at before i r (sym (h.rest i (omega arith)) ∙ at)
 
   pub none_grown : (whole : List A) (before : List (Roomy A)) → GrownBelow whole before before 0
@@ -88,7 +89,8 @@ module _ {A : Type 0} where
       kept (x ∷ now) zero at = ap (λ (y : A). y ∷ all_grown now) (e ∙ ap (λ (r : Roomy A). r.grown) (sym (same_Some x old at)))
       kept (x ∷ now) (suc i) at = ap (λ (l : List A). x.grown ∷ l) (kept now i at)
 
-  pub one_roomy : (before now : List (Roomy A)) (i : ℕ) (old new : Roomy A) → i < length now → slice_get now i ≡ Some old → new.grown ≡ old.grown → HasReserve new → RoomBelow before now i
+  pub one_roomy : (before now : List (Roomy A)) (i : ℕ) (old new : Roomy A) → i < length now → slice_get now i ≡ Some old → new.grown ≡ old.grown
+      → HasReserve new → RoomBelow before now i
       → RoomBelow before (set now i new) (i + 1)
   one_roomy before now i old new inside is e room h = record {
     same = still_grown before now i old new is e h.same;

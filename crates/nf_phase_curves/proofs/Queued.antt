@@ -49,33 +49,43 @@ module _ (passes : Passing) (length so_far : ℚ) (link seen : LinkPhase) (flowe
       ap (λ (l : LinkPhase). at_part Curve (link_step passes length so_far l)) (sym same)
       ∙ after_ok Curve (checked passes Product length link.flow) _ flowed (ap (at_part Curve) e)
       ∙ after_ok Curve (checked passes Sum so_far flowed) _ amount (ap (at_part Curve) f)
-      ∙ after_err Curve (rate_over passes (is_positive link.tail_slope) link.flow link.tail_slope) _ p (ap (λ (b : Bool). at_part Curve (rate_over passes b link.flow link.tail_slope)) (sym is_tail) ∙ h)
+      ∙ after_err Curve (rate_over passes (is_positive link.tail_slope) link.flow link.tail_slope) _ p
+          (ap (λ (b : Bool). at_part Curve (rate_over passes b link.flow link.tail_slope)) (sym is_tail) ∙ h)
 
-  module _ (inflow : Option ℚ) (inflow_is : at_part Curve (rate_over passes tail link.flow link.tail_slope) ≡ Ok inflow) (head : Bool) (is_head : head ≡ is_positive link.head_slope) where
+  module _ (inflow : Option ℚ) (inflow_is : at_part Curve (rate_over passes tail link.flow link.tail_slope) ≡ Ok inflow) (head : Bool)
+      (is_head : head ≡ is_positive link.head_slope) where
     pub outflow_passes : (p : PassedAt ℚ) → at_part Curve (rate_over passes head link.flow link.head_slope) ≡ Err p → at_part Curve (link_step passes length so_far seen) ≡ Err p
     outflow_passes p h =
         ap (λ (l : LinkPhase). at_part Curve (link_step passes length so_far l)) (sym same)
         ∙ after_ok Curve (checked passes Product length link.flow) _ flowed (ap (at_part Curve) e)
         ∙ after_ok Curve (checked passes Sum so_far flowed) _ amount (ap (at_part Curve) f)
-        ∙ after_ok Curve (rate_over passes (is_positive link.tail_slope) link.flow link.tail_slope) _ inflow (ap (λ (b : Bool). at_part Curve (rate_over passes b link.flow link.tail_slope)) (sym is_tail) ∙ inflow_is)
-        ∙ after_err Curve (rate_over passes (is_positive link.head_slope) link.flow link.head_slope) _ p (ap (λ (b : Bool). at_part Curve (rate_over passes b link.flow link.head_slope)) (sym is_head) ∙ h)
+        ∙ after_ok Curve (rate_over passes (is_positive link.tail_slope) link.flow link.tail_slope) _ inflow
+            (ap (λ (b : Bool). at_part Curve (rate_over passes b link.flow link.tail_slope)) (sym is_tail) ∙ inflow_is)
+        ∙ after_err Curve (rate_over passes (is_positive link.head_slope) link.flow link.head_slope) _ p
+            (ap (λ (b : Bool). at_part Curve (rate_over passes b link.flow link.head_slope)) (sym is_head) ∙ h)
 
-    pub queue_passes : (outflow : Option ℚ) → at_part Curve (rate_over passes head link.flow link.head_slope) ≡ Ok outflow → (p : PassedAt ℚ) → at_part Curve (queue_step passes seen inflow) ≡ Err p
+    pub queue_passes : (outflow : Option ℚ) → at_part Curve (rate_over passes head link.flow link.head_slope) ≡ Ok outflow → (p : PassedAt ℚ)
+        → at_part Curve (queue_step passes seen inflow) ≡ Err p
         → at_part Curve (link_step passes length so_far seen) ≡ Err p
     queue_passes outflow outflow_is p h =
         ap (λ (l : LinkPhase). at_part Curve (link_step passes length so_far l)) (sym same)
         ∙ after_ok Curve (checked passes Product length link.flow) _ flowed (ap (at_part Curve) e)
         ∙ after_ok Curve (checked passes Sum so_far flowed) _ amount (ap (at_part Curve) f)
-        ∙ after_ok Curve (rate_over passes (is_positive link.tail_slope) link.flow link.tail_slope) _ inflow (ap (λ (b : Bool). at_part Curve (rate_over passes b link.flow link.tail_slope)) (sym is_tail) ∙ inflow_is)
-        ∙ after_ok Curve (rate_over passes (is_positive link.head_slope) link.flow link.head_slope) _ outflow (ap (λ (b : Bool). at_part Curve (rate_over passes b link.flow link.head_slope)) (sym is_head) ∙ outflow_is)
+        ∙ after_ok Curve (rate_over passes (is_positive link.tail_slope) link.flow link.tail_slope) _ inflow
+            (ap (λ (b : Bool). at_part Curve (rate_over passes b link.flow link.tail_slope)) (sym is_tail) ∙ inflow_is)
+        ∙ after_ok Curve (rate_over passes (is_positive link.head_slope) link.flow link.head_slope) _ outflow
+            (ap (λ (b : Bool). at_part Curve (rate_over passes b link.flow link.head_slope)) (sym is_head) ∙ outflow_is)
         ∙ after_err Curve (queue_step passes link inflow) _ p (ap (λ (l : LinkPhase). at_part Curve (queue_step passes l inflow)) same ∙ h)
 
-    pub link_step_is : (outflow : Option ℚ) → at_part Curve (rate_over passes head link.flow link.head_slope) ≡ Ok outflow → (queue : Option QueueStep) → at_part Curve (queue_step passes seen inflow) ≡ Ok queue
+    pub link_step_is : (outflow : Option ℚ) → at_part Curve (rate_over passes head link.flow link.head_slope) ≡ Ok outflow → (queue : Option QueueStep)
+        → at_part Curve (queue_step passes seen inflow) ≡ Ok queue
         → at_part Curve (link_step passes length so_far seen) ≡ Ok (record { amount = amount; inflow_rate = inflow; outflow_rate = outflow; queue = queue })
     link_step_is outflow outflow_is queue h =
         ap (λ (l : LinkPhase). at_part Curve (link_step passes length so_far l)) (sym same)
         ∙ after_ok Curve (checked passes Product length link.flow) _ flowed (ap (at_part Curve) e)
         ∙ after_ok Curve (checked passes Sum so_far flowed) _ amount (ap (at_part Curve) f)
-        ∙ after_ok Curve (rate_over passes (is_positive link.tail_slope) link.flow link.tail_slope) _ inflow (ap (λ (b : Bool). at_part Curve (rate_over passes b link.flow link.tail_slope)) (sym is_tail) ∙ inflow_is)
-        ∙ after_ok Curve (rate_over passes (is_positive link.head_slope) link.flow link.head_slope) _ outflow (ap (λ (b : Bool). at_part Curve (rate_over passes b link.flow link.head_slope)) (sym is_head) ∙ outflow_is)
+        ∙ after_ok Curve (rate_over passes (is_positive link.tail_slope) link.flow link.tail_slope) _ inflow
+            (ap (λ (b : Bool). at_part Curve (rate_over passes b link.flow link.tail_slope)) (sym is_tail) ∙ inflow_is)
+        ∙ after_ok Curve (rate_over passes (is_positive link.head_slope) link.flow link.head_slope) _ outflow
+            (ap (λ (b : Bool). at_part Curve (rate_over passes b link.flow link.head_slope)) (sym is_head) ∙ outflow_is)
         ∙ after_ok Curve (queue_step passes link inflow) _ queue (ap (λ (l : LinkPhase). at_part Curve (queue_step passes l inflow)) same ∙ h)

@@ -64,7 +64,8 @@ module _ (net : Network) (flow : Flow) (good : IsNetwork net) (is : Equilibrium 
   ins v departure extra_in extra_out w b =
       ap (λ (s : ℚ). s +ℚ extra_in) (sum_in-same net.links (λ e. x e departure) b.outs v (λ e link p here. x-is e link departure p
       ∙ IsOutflow-unique link.transit link.capacity (F e) (l v departure) (F e (l link.tail departure)) (b.outs e)
-      (subst (λ (k : ℕ). IsOutflow link.transit link.capacity (F e) (l k departure) (F e (l link.tail departure))) here (comes_out-at net flow good is e link departure p w)) (b.outflows e link p here)))
+      (subst (λ (k : ℕ). IsOutflow link.transit link.capacity (F e) (l k departure) (F e (l link.tail departure))) here
+          (comes_out-at net flow good is e link departure p w)) (b.outflows e link p here)))
       ∙ b.sums
       ∙ ap (λ (s : ℚ). s +ℚ extra_out) (sum_out-same net.links (λ e. F e (l v departure)) (λ e. x e departure) v
       (λ e link p here. ap (λ (k : ℕ). F e (l k departure)) (sym here) ∙ sym (x-is e link departure p)))
@@ -80,7 +81,8 @@ module _ (net : Network) (flow : Flow) (good : IsNetwork net) (is : Equilibrium 
       → IsQueue link.capacity (F e) (l link.tail departure) (rate *ℚ max_ℚ 0ℚ (link_slack l link departure))
   queue-bounded e link departure rate p some w =
       let u : (exit : ℚ) × IsExit link.transit link.capacity (F e) (l link.tail departure) exit × (l link.head departure ≤ℚ exit) = not_undercut net flow good is e link departure p w in
-      let sum : u.0 ≡ l link.tail departure +ℚ link.transit +ℚ u.1.queue /ℚ rate = u.1.is_sum ∙ ap (λ (c : Option ℚ). l link.tail departure +ℚ link.transit +ℚ waiting c u.1.queue) some in
+      let sum : u.0 ≡ l link.tail departure +ℚ link.transit +ℚ u.1.queue /ℚ rate = u.1.is_sum
+          ∙ ap (λ (c : Option ℚ). l link.tail departure +ℚ link.transit +ℚ waiting c u.1.queue) some in
       let served : u.1.queue /ℚ rate *ℚ rate ≡ u.1.queue = quotient-times u.1.queue rate (positive e link p rate some) in
       subst (λ (y : ℚ). IsQueue link.capacity (F e) (l link.tail departure) y)
       (⊎_elim
@@ -112,8 +114,10 @@ module _ (net : Network) (flow : Flow) (good : IsNetwork net) (is : Equilibrium 
   queue-is e link departure p w = by link.capacity refl
     where
       by : (c : Option ℚ) → link.capacity ≡ c → IsQueue link.capacity (F e) (l link.tail departure) (queue_by_slack link.capacity (link_slack l link departure))
-      by None none = subst (λ (c : Option ℚ). IsQueue c (F e) (l link.tail departure) (queue_by_slack c (link_slack l link departure))) (sym none) (IsQueue-none (F e) (l link.tail departure))
-      by (Some rate) some = subst (λ (c : Option ℚ). IsQueue link.capacity (F e) (l link.tail departure) (queue_by_slack c (link_slack l link departure))) (sym some) (queue-bounded e link departure rate p some w)
+      by None none = subst (λ (c : Option ℚ). IsQueue c (F e) (l link.tail departure) (queue_by_slack c (link_slack l link departure))) (sym none)
+          (IsQueue-none (F e) (l link.tail departure))
+      by (Some rate) some = subst (λ (c : Option ℚ). IsQueue link.capacity (F e) (l link.tail departure) (queue_by_slack c (link_slack l link departure)))
+          (sym some) (queue-bounded e link departure rate p some w)
 
   -- ---- the slack is at most 0
   idle-is : (e : ℕ) (link : Link) (departure time : ℚ) → IsLink net e link → Within 0ℚ flow.reached departure → link_slack l link departure ≤ℚ 0ℚ
@@ -122,7 +126,8 @@ module _ (net : Network) (flow : Flow) (good : IsNetwork net) (is : Equilibrium 
       (λ (k : l link.head departure <ℚ link.transit). subst (λ (z : ℚ). z ≤ℚ F e time) (sym ((comes_out-at net flow good is e link departure p w).early k))
       (subst (λ (z : ℚ). z ≤ℚ F e time) (starts-link net flow good is e link p) (rises-link net flow good is e link p 0ℚ time (≤ℚ_refl 0ℚ) h)))
       (λ (k : link.transit ≤ℚ l link.head departure). ≤ℚ_trans _ _ _
-      (outflow-entered link.transit link.capacity (F e) (positive e link p) (rises-link net flow good is e link p) (starts-link net flow good is e link p) (l link.head departure) _ k (comes_out-at net flow good is e link departure p w))
+      (outflow-entered link.transit link.capacity (F e) (positive e link p) (rises-link net flow good is e link p) (starts-link net flow good is e link p)
+          (l link.head departure) _ k (comes_out-at net flow good is e link departure p w))
       (rises-link net flow good is e link p (l link.head departure -ℚ link.transit) time (less_nn link.transit (l link.head departure) k) i))
       (lt_or_le_ℚ (l link.head departure) link.transit))
 
@@ -136,8 +141,11 @@ module _ (net : Network) (flow : Flow) (good : IsNetwork net) (is : Equilibrium 
       (back_again (l link.head departure) link.transit) h (comes_out-at net flow good is e link departure p w))
 
   -- ---- the exit at the label of the head implies that the slack is at least 0
-  active : (e : ℕ) (link : Link) (departure : ℚ) → IsLink net e link → IsExit link.transit link.capacity (F e) (l link.tail departure) (l link.head departure) → 0ℚ ≤ℚ link_slack l link departure
-  active e link departure p exit = slack_nn (l link.tail departure) (l link.head departure) link.transit (IsExit-after link.transit link.capacity (F e) (l link.tail departure) (l link.head departure) (positive e link p) exit)
+  active : (e : ℕ) (link : Link) (departure : ℚ) → IsLink net e link → IsExit link.transit link.capacity (F e) (l link.tail departure)
+      (l link.head departure) → 0ℚ ≤ℚ link_slack l link departure
+  active e link departure p exit =
+      slack_nn (l link.tail departure) (l link.head departure) link.transit
+      (IsExit-after link.transit link.capacity (F e) (l link.tail departure) (l link.head departure) (positive e link p) exit)
 
   -- ---- the theorem
   pub HoldsUpTo-equilibrium : HoldsUpTo net F l flow.reached
@@ -157,7 +165,9 @@ module _ (net : Network) (flow : Flow) (good : IsNetwork net) (is : Equilibrium 
     queue = queue-is;
     unbounded = slack-unbounded;
     entered = λ v departure h other w.
-        let n : (e : ℕ) × (link : Link) × IsLink net e link × (link.head ≡ v) × IsExit link.transit link.capacity (F e) (l link.tail departure) (l link.head departure) = (labels-at net flow good is departure w).entered v h other in
+        let n : (e : ℕ) × (link : Link) × IsLink net e link × (link.head ≡ v)
+            × IsExit link.transit link.capacity (F e) (l link.tail departure) (l link.head departure) =
+            (labels-at net flow good is departure w).entered v h other in
         (n.0, n.1, n.2, n.3, active n.0 n.1 departure n.2 n.4);
     idle = λ e link departure time p w low h i j. idle-is e link departure time p w low h i j ∙ sym (x-is e link departure p);
     idle_queue = idle_queue-is;
@@ -172,7 +182,8 @@ module _ (net : Network) (flow : Flow) (good : IsNetwork net) (is : Equilibrium 
   pub DescribesLinks-equilibrium : DescribesLinks net F l (outflow flow) (queue flow) flow.reached
   DescribesLinks-equilibrium = record {
     outflows = λ e link departure p w. IsOutflow-unique link.transit link.capacity (F e) (l link.head departure) _ _
-        (is.outflows e link (l link.head departure) p (up_to_now net flow good is link.head departure (good.heads e link p) w)) (comes_out-at net flow good is e link departure p w) ∙ sym (x-is e link departure p);
+        (is.outflows e link (l link.head departure) p (up_to_now net flow good is link.head departure (good.heads e link p) w))
+            (comes_out-at net flow good is e link departure p w) ∙ sym (x-is e link departure p);
     outflows_early = λ e link time p w. IsOutflow-unique link.transit link.capacity (F e) time _ _
         (is.outflows e link time p (w.0, ≤ℚ_trans _ _ _ w.1 (up_to_now net flow good is link.head 0ℚ (good.heads e link p) (first net flow good is)).1))
         (outflow_early net F l flow.reached good HoldsUpTo-equilibrium e link time p w.0 w.1);

@@ -69,14 +69,17 @@ module _ (net : Network) (flow : Flow) (good : IsNetwork net) (is : Equilibrium 
   exit-at e link time p h = HasExit-curve link.transit link.capacity _ time (is.shape.inflows.each e (slice_get_within net.links e link p)) h
 
   exit-forward : (e : ℕ) (link : Link) (time exit : ℚ) → IsLink net e link → IsExit link.transit link.capacity (F e) time exit → time ≤ℚ exit
-  exit-forward e link time exit p x = first_of_sum time link.transit exit (good.transits e link p) (IsExit-after link.transit link.capacity (F e) time exit (IsPositive-link net e link good p) x)
+  exit-forward e link time exit p x =
+      first_of_sum time link.transit exit (good.transits e link p) (IsExit-after link.transit link.capacity (F e) time exit
+      (IsPositive-link net e link good p) x)
 
   -- No label is later than the exit of the inflow at the tail's label; this includes the source's label.
   pub not_undercut : (e : ℕ) (link : Link) (departure : ℚ) → IsLink net e link → Within 0ℚ flow.reached departure
       → (exit : ℚ) × IsExit link.transit link.capacity (F e) (l link.tail departure) exit × (l link.head departure ≤ℚ exit)
   not_undercut e link departure p w = ⊎_elim
       (λ (s : (eqb link.head net.source ≡ true) × (link.head ≡ net.source)).
-      let x : (exit : ℚ) × IsExit link.transit link.capacity (F e) (l link.tail departure) exit = exit-at e link (l link.tail departure) p (label-nn link.tail departure (good.tails e link p) w) in (
+      let x : (exit : ℚ) × IsExit link.transit link.capacity (F e) (l link.tail departure) exit =
+          exit-at e link (l link.tail departure) p (label-nn link.tail departure (good.tails e link p) w) in (
         x.0,
         x.1,
         subst (λ (k : ℕ). l k departure ≤ℚ x.0) (sym s.1) (subst (λ (z : ℚ). z ≤ℚ x.0) (sym (source-at departure w))
@@ -175,7 +178,8 @@ module _ (net : Network) (flow : Flow) (good : IsNetwork net) (is : Equilibrium 
       out_is = λ e link p. printed-out (soon time) e link p (soon-in link.head (good.heads e link p));
       not_before = not_before-soon;
       balances = by_node (λ v a b. Balances net F v (soon time v) a b) 0ℚ
-          (subst (λ (z : ℚ). Balances net F net.source z 0ℚ 0ℚ) (sym source-soon) (subst (λ (u : ℚ). Balances net F net.source 0ℚ u 0ℚ) none_supplied (is.nash.conserves.source 0ℚ first)))
+          (subst (λ (z : ℚ). Balances net F net.source z 0ℚ 0ℚ) (sym source-soon)
+              (subst (λ (u : ℚ). Balances net F net.source 0ℚ u 0ℚ) none_supplied (is.nash.conserves.source 0ℚ first)))
           (is.nash.conserves.sink_early (soon time net.sink) (soon-nn net.sink good.sink, min_right time (l net.sink 0ℚ)))
           (λ v h a b. is.nash.conserves.inner v (soon time v) h a b (soon-in v h));
     }
@@ -192,7 +196,8 @@ module _ (net : Network) (flow : Flow) (good : IsNetwork net) (is : Equilibrium 
       (λ (k : soon time link.head <ℚ link.transit). inl (out.early k))
       (λ (k : link.transit ≤ℚ soon time link.head). inr (
         ≤ℚ_trans _ _ _ k (min_left time (l link.head 0ℚ)),
-        ≤ℚ_trans _ _ _ (outflow-entered link.transit link.capacity (F e) (IsPositive-link net e link good p) (rises-link e link p) (starts-link e link p) (soon time link.head) (F e time) k out)
+        ≤ℚ_trans _ _ _ (outflow-entered link.transit link.capacity (F e) (IsPositive-link net e link good p) (rises-link e link p) (starts-link e link p)
+            (soon time link.head) (F e time) k out)
             (rises-link e link p (soon time link.head -ℚ link.transit) (time -ℚ link.transit) (linear_le (soon time link.head ∷ link.transit ∷ []) (le k ∷ []) (search reading_of) tt)
             (linear_le (soon time link.head ∷ time ∷ link.transit ∷ []) (le (min_left time (l link.head 0ℚ)) ∷ []) (search reading_of) tt)),
       ))
@@ -220,7 +225,8 @@ module _ (net : Network) (flow : Flow) (good : IsNetwork net) (is : Equilibrium 
       where
         by : (o : Option Link) → slice_get net.links e ≡ o → 0ℚ ≤ℚ x_of o e
         by None p = ≤ℚ_refl 0ℚ
-        by (Some link) p = amount-nn link.transit link.capacity (F e) (IsPositive-link net e link good p) (rises-link e link p) (starts-link e link p) (soon time link.tail) (soon-nn time from_0 link.tail (good.tails e link p))
+        by (Some link) p = amount-nn link.transit link.capacity (F e) (IsPositive-link net e link good p) (rises-link e link p) (starts-link e link p)
+            (soon time link.tail) (soon-nn time from_0 link.tail (good.tails e link p))
 
     abbrev Sends : ℕ → Type 0
     Sends v = (e : ℕ) × (link : Link) × IsLink net e link × (link.tail ≡ v) × (0ℚ <ℚ F e (soon time link.tail))
@@ -231,7 +237,8 @@ module _ (net : Network) (flow : Flow) (good : IsNetwork net) (is : Equilibrium 
     -- A link with inflow has no transit time.
     prompt : (e : ℕ) (link : Link) → IsLink net e link → 0ℚ <ℚ F e (soon time link.tail) → link.transit ≤ℚ 0ℚ
     prompt e link p some = ⊎_elim
-        (λ (k : 0ℚ <ℚ link.transit). absurd (not_both_ℚ _ _ some (≤ℚ_of_same _ _ (none-slow e link (soon time link.tail) p k (soon-nn time from_0 link.tail (good.tails e link p), min_right time (l link.tail 0ℚ))))))
+        (λ (k : 0ℚ <ℚ link.transit). absurd (not_both_ℚ _ _ some (≤ℚ_of_same _ _
+            (none-slow e link (soon time link.tail) p k (soon-nn time from_0 link.tail (good.tails e link p), min_right time (l link.tail 0ℚ))))))
         (λ (k : link.transit ≤ℚ 0ℚ). k)
         (lt_or_le_ℚ 0ℚ link.transit)
 
@@ -259,7 +266,8 @@ module _ (net : Network) (flow : Flow) (good : IsNetwork net) (is : Equilibrium 
     comes_in : (v : ℕ) → v < net.nodes → Sends v → 0ℚ <ℚ sum_in net.links (out_by (soon time)) v
     comes_in v h (e, link, p, at, some) = enough _ _ _ _ _ _
         (out-balances net F (soon time) (out_by (soon time)) 0ℚ good (balanced-soon time from_0) v h) (only_at-none net.source v) (only_at-none net.sink v)
-        (sum_out-same net.links (into net F (soon time) (out_by (soon time)) 0ℚ good (balanced-soon time from_0)) x v (λ e link p here. into-is net F (soon time) (out_by (soon time)) 0ℚ good (balanced-soon time from_0) e link p ∙ sym (x-is e link p)))
+        (sum_out-same net.links (into net F (soon time) (out_by (soon time)) 0ℚ good (balanced-soon time from_0)) x v
+            (λ e link p here. into-is net F (soon time) (out_by (soon time)) 0ℚ good (balanced-soon time from_0) e link p ∙ sym (x-is e link p)))
         (sum_out-each net.links x v x-nn e link p at) (subst (λ (z : ℚ). 0ℚ <ℚ z) (sym (x-is e link p)) some)
       where
         enough : (i o a b y z : ℚ) → i +ℚ a ≡ o +ℚ b → a ≡ 0ℚ → b ≡ 0ℚ → o ≡ y → z ≤ℚ y → 0ℚ <ℚ z → 0ℚ <ℚ i

@@ -67,7 +67,8 @@ links-queue (x ∷ i) [] q h k = absurd (omega arith)
 links-queue (x ∷ i) (y ∷ o) [] h k = absurd (omega arith)
 links-queue (x ∷ i) (y ∷ o) (z ∷ q) h k = ap (λ (l : List GrowingCurve). z ∷ l) (links-queue i o q (omega arith) (omega arith))
 
-links-points : (i o : List Trace) (q : List GrowingCurve) → length o ≡ length i → length q ≡ length i → map (λ (c : LinkCurves). c.queue.points) (link_curves_of i o q) ≡ map (λ (c : GrowingCurve). c.points) q
+links-points : (i o : List Trace) (q : List GrowingCurve) → length o ≡ length i → length q ≡ length i
+    → map (λ (c : LinkCurves). c.queue.points) (link_curves_of i o q) ≡ map (λ (c : GrowingCurve). c.points) q
 links-points [] o [] h k = refl
 links-points [] o (z ∷ q) h k = absurd (omega arith)
 links-points (x ∷ i) [] q h k = absurd (omega arith)
@@ -125,11 +126,13 @@ module _ (net : Network) (flow : Flow) (good : IsNetwork net) (is : Equilibrium 
     stands = record { holds = HoldsUpTo-equilibrium net flow good is; same = labels_are; count = length-map flow.labels value_at_end ∙ is.shape.labels.count };
     curves_stand = record {
       labels_end = label_ends;
-      inflows_end = λ e link p. LastPoint-end (points_at (points_of flow.inflows) e) (label flow link.tail flow.reached) (is.shape.inflows.each e (within e link p)) (ends.inflows e link p);
+      inflows_end = λ e link p. LastPoint-end (points_at (points_of flow.inflows) e) (label flow link.tail flow.reached)
+          (is.shape.inflows.each e (within e link p)) (ends.inflows e link p);
     };
     describes = DescribesLinks-equilibrium net flow good is;
     description_stands = record {
-      outflows_end = λ e link p. LastPoint-end (points_at (points_of flow.outflows) e) (label flow link.head flow.reached) (is.shape.outflows.each e (within e link p)) (ends.outflows e link p);
+      outflows_end = λ e link p. LastPoint-end (points_at (points_of flow.outflows) e) (label flow link.head flow.reached)
+          (is.shape.outflows.each e (within e link p)) (ends.outflows e link p);
       queues_end = λ e link p. LastPoint-end (points_at flow.queues e) (label flow link.tail flow.reached) (is.shape.queues.each e (within e link p)) (ends.queues e link p);
     };
   }
@@ -200,6 +203,7 @@ module _ (passes : Passing) where
       link_count = links-length flow.inflows flow.outflows queues outflows_match queues_match ∙ inflow_count net flow good is ends;
       label_slopes = λ v c h. (let x = each_back (growing passes) flow.labels label_curves v c by_labels h in growing-slope x.0 c x.1);
       inflow_rates = λ e c h. is.inflow_rates e c.inflow (ap (λ (l : List Trace). slice_get l e) (sym same_inflows) ∙ slice_get-image (λ (c : LinkCurves). c.inflow) s.link_curves e c h);
-      outflow_rates = λ e c h. is.outflow_rates e c.outflow (ap (λ (l : List Trace). slice_get l e) (sym same_outflows) ∙ slice_get-image (λ (c : LinkCurves). c.outflow) s.link_curves e c h);
+      outflow_rates = λ e c h. is.outflow_rates e c.outflow (ap (λ (l : List Trace). slice_get l e) (sym same_outflows)
+          ∙ slice_get-image (λ (c : LinkCurves). c.outflow) s.link_curves e c h);
       queue_slopes = λ e c h. (let x = queue_of e c h in growing-slope x.0 c.queue x.1);
     }

@@ -61,11 +61,13 @@ module _ (transit : ℚ) (capacity : Option ℚ) (amount : ℚ → ℚ) (positiv
           ⊎_elim
           (λ (k : earlier -ℚ transit <ℚ g.taken.0). at_once (amount (earlier -ℚ transit)) (amount g.taken.0) rate earlier later transit g.taken.0 x y (positive rate e) g.taken.1.1
           (rises _ _ (less_nn transit earlier l) (≤ℚ_of_lt _ _ k)) (f.bound (earlier -ℚ transit) (less_nn transit earlier l, ≤ℚ_refl _)) g.taken.2)
-          (λ (k : g.taken.0 ≤ℚ earlier -ℚ transit). later_more (amount g.taken.0) rate earlier later transit g.taken.0 x y (positive rate e) h (f.bound g.taken.0 (g.taken.1.0, k)) g.taken.2)
+          (λ (k : g.taken.0 ≤ℚ earlier -ℚ transit). later_more (amount g.taken.0) rate earlier later transit g.taken.0 x y (positive rate e) h
+              (f.bound g.taken.0 (g.taken.1.0, k)) g.taken.2)
           (lt_or_le_ℚ (earlier -ℚ transit) g.taken.0)
 
   -- By a time that isn't later than the exit of an entry, at most the amount that had entered by then has left.
-  pub outflow-by_exit : (entry exit time out : ℚ) → 0ℚ ≤ℚ entry → IsExit transit capacity amount entry exit → time ≤ℚ exit → IsOutflow transit capacity amount time out → out ≤ℚ amount entry
+  pub outflow-by_exit : (entry exit time out : ℚ) → 0ℚ ≤ℚ entry → IsExit transit capacity amount entry exit → time ≤ℚ exit
+      → IsOutflow transit capacity amount time out → out ≤ℚ amount entry
   outflow-by_exit entry exit time out h e l p = outflow-rises time exit out (amount entry) l p (IsOutflow-at_exit transit capacity amount entry exit positive rises h e)
 
   -- ---- less, if the exit is later and something waits at the entry: a entered by the entry, b by the time u of the
@@ -76,19 +78,22 @@ module _ (transit : ℚ) (capacity : Option ℚ) (amount : ℚ → ℚ) (positiv
   before_that : (a b c u n q d o : ℚ) → a -ℚ b -ℚ c *ℚ (n -ℚ u) ≡ q → 0ℚ <ℚ q → 0ℚ <ℚ c → u ≤ℚ n → d ≤ℚ b → o ≤ℚ d → o <ℚ a
   before_that a b c u n q d o e h k l i j = linear_lt (a ∷ b ∷ c ∷ u ∷ n ∷ q ∷ d ∷ o ∷ []) (eq e ∷ lt h ∷ le_times (≤ℚ_of_lt _ _ k) l ∷ le i ∷ le j ∷ []) (search reading_of) tt
 
-  pub outflow-waits : (rate entry queue exit time out : ℚ) → capacity ≡ Some rate → 0ℚ ≤ℚ entry → IsQueue capacity amount entry queue → 0ℚ <ℚ queue → exit ≡ entry +ℚ transit +ℚ queue /ℚ rate
+  pub outflow-waits : (rate entry queue exit time out : ℚ) → capacity ≡ Some rate → 0ℚ ≤ℚ entry → IsQueue capacity amount entry queue → 0ℚ <ℚ queue
+      → exit ≡ entry +ℚ transit +ℚ queue /ℚ rate
       → time <ℚ exit → IsOutflow transit capacity amount time out → out <ℚ amount entry
   outflow-waits rate entry queue exit time out e h q some x l p =
       let g : IsGreatest (λ since. amount entry -ℚ amount since -ℚ rate *ℚ (entry -ℚ since)) 0ℚ entry queue = q.bounded rate e in
       let c : 0ℚ <ℚ rate = positive rate e in
       ⊎_elim
-      (λ (k : time <ℚ transit). before_that (amount entry) (amount g.taken.0) rate g.taken.0 entry queue 0ℚ out g.taken.2 some c g.taken.1.1 (amount-nn g.taken.0 g.taken.1.0) (≤ℚ_of_same _ _ (p.early k)))
+      (λ (k : time <ℚ transit). before_that (amount entry) (amount g.taken.0) rate g.taken.0 entry queue 0ℚ out g.taken.2 some c g.taken.1.1
+          (amount-nn g.taken.0 g.taken.1.0) (≤ℚ_of_same _ _ (p.early k)))
       (λ (k : transit ≤ℚ time).
       let f : IsLeast (λ since. amount since +ℚ rate *ℚ (time -ℚ transit -ℚ since)) 0ℚ (time -ℚ transit) out = p.bounded rate k e in
       ⊎_elim
       (λ (j : time -ℚ transit <ℚ g.taken.0). before_that (amount entry) (amount g.taken.0) rate g.taken.0 entry queue (amount (time -ℚ transit)) out g.taken.2 some c g.taken.1.1
       (rises _ _ (less_nn transit time k) (≤ℚ_of_lt _ _ j)) (outflow-entered time out k p))
-      (λ (j : g.taken.0 ≤ℚ time -ℚ transit). not_yet (amount entry) (amount g.taken.0) rate g.taken.0 entry queue (queue /ℚ rate) time transit exit out g.taken.2 (quotient-times queue rate c) x
+      (λ (j : g.taken.0 ≤ℚ time -ℚ transit). not_yet (amount entry) (amount g.taken.0) rate g.taken.0 entry queue
+          (queue /ℚ rate) time transit exit out g.taken.2 (quotient-times queue rate c) x
       (ps-times_gap rate time exit c l) (f.bound g.taken.0 (g.taken.1.0, j)))
       (lt_or_le_ℚ (time -ℚ transit) g.taken.0))
       (lt_or_le_ℚ time transit)

@@ -36,7 +36,8 @@ first_value l t = ⊎_elim
 first_last : (l : ℚ) → 0ℚ ≤ℚ l → LastPoint (first_points l) (l, 0ℚ)
 first_last l h = ⊎_elim
     (λ (w : (lt_ℚ 0ℚ l ≡ true) × (0ℚ <ℚ l)). subst (λ (b : Bool). LastPoint (points_if l b) (l, 0ℚ)) (sym w.0) (two w.1))
-    (λ (w : (lt_ℚ 0ℚ l ≡ false) × (l ≤ℚ 0ℚ)). subst (λ (b : Bool). LastPoint (points_if l b) (l, 0ℚ)) (sym w.0) (subst (λ (z : ℚ). LastPoint ((0ℚ, 0ℚ) ∷ []) (z, 0ℚ)) (≤ℚ_antisymm _ _ h w.1) one))
+    (λ (w : (lt_ℚ 0ℚ l ≡ false) × (l ≤ℚ 0ℚ)). subst (λ (b : Bool). LastPoint (points_if l b) (l, 0ℚ)) (sym w.0)
+        (subst (λ (z : ℚ). LastPoint ((0ℚ, 0ℚ) ∷ []) (z, 0ℚ)) (≤ℚ_antisymm _ _ h w.1) one))
     (lt_ℚ_cases 0ℚ l)
   where
     two : 0ℚ <ℚ l → LastPoint ((0ℚ, 0ℚ) ∷ (l, 0ℚ) ∷ []) (l, 0ℚ)
@@ -84,7 +85,8 @@ module _ (net : Network) (good : IsNetwork net) (labels : List ℚ) (curves : Cu
         (λ e link time p _. ap (λ (ps : List Point). value ps time) (first.outflows e link p) ∙ first_value _ time)
         (λ e link time p _. ap (λ (ps : List Point). value ps time) (first.queues e link p) ∙ first_value _ time);
     description_stands = record {
-      outflows_end = λ e link p. first_stands (curves.outflows e) _ _ (first.outflows e link p) (first_label link.head (good.heads e link p)) (not_negative link.head (good.heads e link p));
+      outflows_end = λ e link p. first_stands (curves.outflows e) _ _ (first.outflows e link p) (first_label link.head (good.heads e link p))
+          (not_negative link.head (good.heads e link p));
       queues_end = λ e link p. first_stands (curves.queues e) _ _ (first.queues e link p) (first_label link.tail (good.tails e link p)) (not_negative link.tail (good.tails e link p));
     };
   }
@@ -92,7 +94,8 @@ module _ (net : Network) (good : IsNetwork net) (labels : List ℚ) (curves : Cu
 module _ (net : Network) (good : IsNetwork net) (horizon time time' : ℚ) (labels labels' : List ℚ) (curves curves' : Curves) (phase : IsPhase net horizon (time, labels) (time', labels'))
     (grown : Grown net time labels curves)
     (go : CurvesGoOn net curves.inflows curves.labels time phase.length (number_at phase.flows) (number_at phase.slopes) curves'.inflows curves'.labels)
-    (describe : DescriptionCurvesGoOn net (at curves.labels) (at curves'.labels) curves.outflows curves.queues time phase.length (number_at phase.flows) (number_at phase.slopes) curves'.outflows curves'.queues) where
+    (describe : DescriptionCurvesGoOn net (at curves.labels) (at curves'.labels) curves.outflows curves.queues time phase.length (number_at phase.flows)
+        (number_at phase.slopes) curves'.outflows curves'.queues) where
   some : 0ℚ <ℚ phase.length
   some = IsPhaseLength-some net (slacks_of (hops net) labels) phase.slopes time horizon phase.length phase.before phase.is_length
 
@@ -109,7 +112,9 @@ module _ (net : Network) (good : IsNetwork net) (horizon time time' : ℚ) (labe
   into = comes_none net labels (rate_at net time) phase.flows phase.slopes good rate_nn phase.thin
 
   goes : GoesOn net (at curves.inflows) (at curves.labels) time phase.length (number_at phase.flows) (number_at phase.slopes) (at curves'.inflows) (at curves'.labels)
-  goes = GoesOn-curves net curves.inflows curves.labels time phase.length (number_at phase.flows) (number_at phase.slopes) curves'.inflows curves'.labels good some phase.thin.no_negative_slope out_of grown.curves_stand go
+  goes =
+      GoesOn-curves net curves.inflows curves.labels time phase.length (number_at phase.flows)
+      (number_at phase.slopes) curves'.inflows curves'.labels good some phase.thin.no_negative_slope out_of grown.curves_stand go
 
   stands : Stands net time' labels' (at curves'.inflows) (at curves'.labels)
   stands = stands_after net horizon time time' labels labels' (at curves.inflows) (at curves.labels) (at curves'.inflows) (at curves'.labels) phase good grown.stands goes
@@ -117,21 +122,27 @@ module _ (net : Network) (good : IsNetwork net) (horizon time time' : ℚ) (labe
   holds_after : HoldsUpTo net (at curves'.inflows) (at curves'.labels) (time +ℚ phase.length)
   holds_after = subst (λ (z : ℚ). HoldsUpTo net (at curves'.inflows) (at curves'.labels) z) phase.time stands.holds
 
-  describes_on : DescriptionGoesOn net (at curves.labels) time phase.length (number_at phase.flows) (number_at phase.slopes) (at curves'.labels) (at curves.outflows) (at curves.queues) (at curves'.outflows) (at curves'.queues)
-  describes_on = DescriptionGoesOn-curves net (at curves.inflows) (at curves.labels) (at curves'.inflows) (at curves'.labels) time phase.length (number_at phase.flows) (number_at phase.slopes)
-      curves.outflows curves.queues curves'.outflows curves'.queues good some phase.thin.no_negative_slope into grown.stands.holds holds_after goes grown.describes grown.description_stands describe
+  describes_on : DescriptionGoesOn net (at curves.labels) time phase.length (number_at phase.flows) (number_at phase.slopes) (at curves'.labels)
+      (at curves.outflows) (at curves.queues) (at curves'.outflows) (at curves'.queues)
+  describes_on =
+      DescriptionGoesOn-curves net (at curves.inflows) (at curves.labels) (at curves'.inflows) (at curves'.labels) time phase.length (number_at phase.flows)
+      (number_at phase.slopes)
+      curves.outflows curves.queues curves'.outflows curves'.queues good some phase.thin.no_negative_slope into grown.stands.holds holds_after goes
+          grown.describes grown.description_stands describe
 
   pub Grown-after : Grown net time' labels' curves'
   Grown-after = record {
     stands = stands;
     curves_stand = subst (λ (z : ℚ). CurvesStand net curves'.inflows curves'.labels z) (sym phase.time)
-        (CurvesStand-after net curves.inflows curves.labels time phase.length (number_at phase.flows) (number_at phase.slopes) curves'.inflows curves'.labels good some phase.thin.no_negative_slope out_of grown.curves_stand go);
+        (CurvesStand-after net curves.inflows curves.labels time phase.length (number_at phase.flows)
+            (number_at phase.slopes) curves'.inflows curves'.labels good some phase.thin.no_negative_slope out_of grown.curves_stand go);
     describes = subst (λ (z : ℚ). DescribesLinks net (at curves'.inflows) (at curves'.labels) (at curves'.outflows) (at curves'.queues) z) (sym phase.time)
         (DescribesLinks-lasts net (at curves.inflows) (at curves.labels) (at curves'.inflows) (at curves'.labels) time phase.length labels phase.flows phase.slopes
         (at curves.outflows) (at curves.queues) (at curves'.outflows) (at curves'.queues) good grown.stands.holds grown.stands.same phase.thin lasts goes grown.describes describes_on);
     description_stands = subst (λ (z : ℚ). DescriptionStands net (at curves'.labels) curves'.outflows curves'.queues z) (sym phase.time)
         (DescriptionStands-after net (at curves.inflows) (at curves.labels) (at curves'.inflows) (at curves'.labels) time phase.length (number_at phase.flows) (number_at phase.slopes)
-        curves.outflows curves.queues curves'.outflows curves'.queues good some phase.thin.no_negative_slope into grown.stands.holds holds_after goes grown.describes grown.description_stands describe);
+        curves.outflows curves.queues curves'.outflows curves'.queues good some phase.thin.no_negative_slope into grown.stands.holds holds_after goes
+            grown.describes grown.description_stands describe);
   }
 
 pub grown_by : (net : Network) (until : ℚ) (labels : List ℚ) (curves : Curves) → IsNetwork net → GrowByPhases net until labels curves → Grown net until labels curves

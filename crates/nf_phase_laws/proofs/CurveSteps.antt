@@ -14,7 +14,9 @@ last_point points p e = record { front = e.front; same = e.same; curve = e.curve
 
 -- The last point of a curve gives its value at that time.
 pub LastPoint-at : (points : List Point) (q : Point) (z : ℚ) → LastPoint points q → q.0 ≡ z → LastPoint points (z, value points z)
-LastPoint-at points q z l d = subst (λ (r : Point). LastPoint points r) (same_point q.0 q.1 z (value points z) d (sym (EndsAt-value points q z (ends_at points q l) (≤ℚ_of_same _ _ d)))) l
+LastPoint-at points q z l d =
+    subst (λ (r : Point). LastPoint points r) (same_point q.0 q.1 z (value points z) d
+    (sym (EndsAt-value points q z (ends_at points q l) (≤ℚ_of_same _ _ d)))) l
   where
     same_point : (a y b z : ℚ) → a ≡ b → y ≡ z → ◌≡◌ {A = ℚ × ℚ} (a, y) (b, z)
     same_point a y b z e f = cc
@@ -55,14 +57,16 @@ GoesOnTo-replaced front o p q l h e = record {
     same t i = value-push_or_merge front o p q t appended.ends.curve e i
 
 -- ---- the facts that an extension gives: from (a, y) on for the length d, by l in time and by x in value
-pub GoesOnTo-slope : (points points' : List Point) (a y l x d : ℚ) → 0ℚ <ℚ d → GoesOnTo points points' (a, y) (a +ℚ l *ℚ d, y +ℚ x *ℚ d) → slope (a, y) (a +ℚ l *ℚ d, y +ℚ x *ℚ d) *ℚ l ≡ x
+pub GoesOnTo-slope : (points points' : List Point) (a y l x d : ℚ) → 0ℚ <ℚ d → GoesOnTo points points' (a, y) (a +ℚ l *ℚ d, y +ℚ x *ℚ d)
+    → slope (a, y) (a +ℚ l *ℚ d, y +ℚ x *ℚ d) *ℚ l ≡ x
 GoesOnTo-slope points points' a y l x d h g = same_from_times d _ x h (by_length (slope (a, y) (a +ℚ l *ℚ d, y +ℚ x *ℚ d)) (slope-times (a, y) (a +ℚ l *ℚ d, y +ℚ x *ℚ d) g.later))
   where
     by_length : (n : ℚ) → n *ℚ ((a +ℚ l *ℚ d) -ℚ a) ≡ (y +ℚ x *ℚ d) -ℚ y → d *ℚ (n *ℚ l) ≡ d *ℚ x
     by_length n e = linear_eq (n ∷ a ∷ l ∷ d ∷ y ∷ x ∷ []) (eq e ∷ []) (search reading_of) tt tt
 
 module _ (net : Network) (inflows labels : ℕ → List Point) (until length : ℚ) (flow slope : ℕ → ℚ) (inflows' labels' : ℕ → List Point) (good : IsNetwork net)
-    (some : 0ℚ <ℚ length) (rises : (v : ℕ) → 0ℚ ≤ℚ slope v) (no_flow : (e : ℕ) (link : Link) → IsLink net e link → slope link.tail ≡ 0ℚ → flow e ≡ 0ℚ) (stand : CurvesStand net inflows labels until) (go : CurvesGoOn net inflows labels until length flow slope inflows' labels') where
+    (some : 0ℚ <ℚ length) (rises : (v : ℕ) → 0ℚ ≤ℚ slope v) (no_flow : (e : ℕ) (link : Link) → IsLink net e link → slope link.tail ≡ 0ℚ → flow e ≡ 0ℚ)
+        (stand : CurvesStand net inflows labels until) (go : CurvesGoOn net inflows labels until length flow slope inflows' labels') where
   -- ---- labels
   label_before : (v : ℕ) (time : ℚ) → v < net.nodes → Within 0ℚ until time → at labels' v time ≡ at labels v time
   label_before v time h w = (go.labels_go v h).before time w
@@ -142,7 +146,8 @@ module _ (net : Network) (inflows labels : ℕ → List Point) (until length : �
   pub CurvesStand-after : CurvesStand net inflows' labels' (until +ℚ length)
   CurvesStand-after = record {
     labels_end = λ v h. LastPoint-at (labels' v) _ (until +ℚ length) (go.labels_go v h).ends refl;
-    inflows_end = λ e link p. subst (λ (z : ℚ). LastPoint (inflows' e) (z, at inflows' e z)) (sym (label_after link.tail length (good.tails e link p) (≤ℚ_of_lt _ _ some, ≤ℚ_refl length)))
+    inflows_end = λ e link p. subst (λ (z : ℚ). LastPoint (inflows' e) (z, at inflows' e z))
+        (sym (label_after link.tail length (good.tails e link p) (≤ℚ_of_lt _ _ some, ≤ℚ_refl length)))
         (by_tail e link (λ points. LastPoint points (end link, value points (end link))) p
         (λ h. LastPoint-at (inflows' e) _ (end link) (go.inflows_go e link p h).ends refl)
         (λ z. LastPoint-at (inflows e) _ (end link) (stand.inflows_end e link p) (stays_there (start link) (slope link.tail) z)));

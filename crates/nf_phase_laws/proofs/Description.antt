@@ -10,15 +10,18 @@ use Rattle.nf_phase_laws.proofs.Start.{at_first, label_not_negative, nothing_sen
 use Rattle.nf_phase_laws.proofs.Lasting.{step_of}
 use Rattle.nf_phase_laws.proofs.Phase.{PhaseStep, by_time, sent_before, sent_after, slack_before, slack_after, rises_on, line_order, still_nn}
 
-module _ (net : Network) (amount label outflow queue : ℕ → ℚ → ℚ) (until : ℚ) (good : IsNetwork net) (holds : HoldsUpTo net amount label until) (describes : DescribesLinks net amount label outflow queue until) where
-  pub IsOutflow-described : (e : ℕ) (link : Link) (time : ℚ) → IsLink net e link → Within 0ℚ (label link.head until) time → IsOutflow link.transit link.capacity (amount e) time (outflow e time)
+module _ (net : Network) (amount label outflow queue : ℕ → ℚ → ℚ) (until : ℚ) (good : IsNetwork net) (holds : HoldsUpTo net amount label until)
+    (describes : DescribesLinks net amount label outflow queue until) where
+  pub IsOutflow-described : (e : ℕ) (link : Link) (time : ℚ) → IsLink net e link → Within 0ℚ (label link.head until) time
+      → IsOutflow link.transit link.capacity (amount e) time (outflow e time)
   IsOutflow-described e link time p w = ⊎_elim
       (λ (l : time <ℚ label link.head 0ℚ). subst (λ (y : ℚ). IsOutflow link.transit link.capacity (amount e) time y) (sym (describes.outflows_early e link time p (w.0, ≤ℚ_of_lt _ _ l)))
       (held.outflow_early net amount label until good holds e link time p w.0 (≤ℚ_of_lt _ _ l)))
       (λ (l : label link.head 0ℚ ≤ℚ time).
       let t : (s : ℚ) × Within 0ℚ until s × (label link.head s ≡ time) = holds.label_takes link.head time (good.heads e link p) l w.1 in
       subst (λ (z : ℚ). IsOutflow link.transit link.capacity (amount e) z (outflow e z)) t.2
-      (subst (λ (y : ℚ). IsOutflow link.transit link.capacity (amount e) (label link.head t.0) y) (sym (describes.outflows e link t.0 p t.1)) (held.outflow_at net amount label until good holds e link t.0 p t.1)))
+      (subst (λ (y : ℚ). IsOutflow link.transit link.capacity (amount e) (label link.head t.0) y) (sym (describes.outflows e link t.0 p t.1))
+          (held.outflow_at net amount label until good holds e link t.0 p t.1)))
       (lt_or_le_ℚ time (label link.head 0ℚ))
 
   pub IsQueue-described : (e : ℕ) (link : Link) (time : ℚ) → IsLink net e link → Within 0ℚ (label link.tail until) time → IsQueue link.capacity (amount e) time (queue e time)
@@ -113,7 +116,8 @@ module _ (net : Network) (amount label : ℕ → ℚ → ℚ) (until length rate
 
   out_after : (e : ℕ) (link : Link) (t : ℚ) → IsLink net e link → Within 0ℚ length t → outflow' e (label' link.head (until +ℚ t)) ≡ sent net amount' label' e (until +ℚ t)
   out_after e link t p w =
-      let r : (r : ℚ) × (r *ℚ slope link.head ≡ x e) × IsAffine (outflow' e) (label link.head until) (label link.head until +ℚ slope link.head *ℚ length) r = goes.outflow_after e link p in
+      let r : (r : ℚ) × (r *ℚ slope link.head ≡ x e) × IsAffine (outflow' e) (label link.head until)
+          (label link.head until +ℚ slope link.head *ℚ length) r = goes.outflow_after e link p in
       let n : 0ℚ ≤ℚ slope link.head = step.thin.slope_nn link.head in
       ap (outflow' e) (step.goes.label_after link.head t (step.good.heads e link p) w)
       ∙ on_rate (outflow' e (label link.head until)) (sent net amount label e until) (label link.head until) (slope link.head) t r.0 (x e) _
@@ -124,7 +128,8 @@ module _ (net : Network) (amount label : ℕ → ℚ → ℚ) (until length rate
   abbrev QueueIs : ℕ → Link → ℚ → Type 0
   QueueIs e link time = queue' e (label' link.tail time) ≡ queue_by_slack link.capacity (link_slack label' link time)
 
-  queue_at_start : (e : ℕ) (link : Link) (time : ℚ) → IsLink net e link → Within 0ℚ until time → queue' e (label link.tail time) ≡ queue_by_slack link.capacity (link_slack label link time)
+  queue_at_start : (e : ℕ) (link : Link) (time : ℚ) → IsLink net e link → Within 0ℚ until time
+      → queue' e (label link.tail time) ≡ queue_by_slack link.capacity (link_slack label link time)
   queue_at_start e link time p w = goes.queue_before e link (label link.tail time) p (so_far link.tail time (step.good.tails e link p) w) ∙ describes.queues e link time p w
 
   wait_before : (e : ℕ) (link : Link) (time : ℚ) → IsLink net e link → Within 0ℚ until time → QueueIs e link time
@@ -142,7 +147,8 @@ module _ (net : Network) (amount label : ℕ → ℚ → ℚ) (until length rate
       λ t w. ap (queue_by_slack link.capacity) (slack_after net amount label until length rate x slope amount' label' step e link t p w) ∙ k.1 t w in
       let whole : Within 0ℚ length length = (step.some, ≤ℚ_refl length) in
       ap (queue' e) (step.goes.label_after link.tail t (step.good.tails e link p) w)
-      ∙ agree _ _ _ (queue' e (label link.tail until)) (queue_by_slack link.capacity s) (label link.tail until) (slope link.tail) t length r.0 k.0 w.0 w.1 (queue_at_start e link until p now)
+      ∙ agree _ _ _ (queue' e (label link.tail until)) (queue_by_slack link.capacity s) (label link.tail until) (slope link.tail) t length r.0 k.0 w.0 w.1
+          (queue_at_start e link until p now)
       (r.1.line (label link.tail until +ℚ slope link.tail *ℚ t) (past _ (slope link.tail) t n w.0) (line_order _ (slope link.tail) t length n w.1))
       (r.1.line (label link.tail until +ℚ slope link.tail *ℚ length) (past _ (slope link.tail) length n step.some) (≤ℚ_refl _))
       (goes.queue_end e link p ∙ moves length whole) (moves t w)
@@ -155,7 +161,8 @@ module _ (net : Network) (amount label : ℕ → ℚ → ℚ) (until length rate
 
   pub DescribesLinks-phase : DescribesLinks net amount' label' outflow' queue' (until +ℚ length)
   DescribesLinks-phase = record {
-    outflows = λ e link time p w. by_time until length (λ time. outflow' e (label' link.head time) ≡ sent net amount' label' e time) (λ time w. out_before e link time p w) (λ t w. out_after e link t p w) time w;
+    outflows = λ e link time p w. by_time until length (λ time. outflow' e (label' link.head time) ≡ sent net amount' label' e time)
+        (λ time w. out_before e link time p w) (λ t w. out_after e link t p w) time w;
     outflows_early = λ e link time p w.
         let n : Within 0ℚ (label link.head 0ℚ) time = early link.head time (step.good.heads e link p) w in
         goes.outflow_before e link time p (sooner link.head time (step.good.heads e link p) n) ∙ describes.outflows_early e link time p n;
@@ -171,9 +178,12 @@ pub DescribesLinks-start : (net : Network) (labels : List ℚ) (amount label out
     → DescribesLinks net amount label outflow queue 0ℚ
 DescribesLinks-start net labels amount label outflow queue good least begun out wait = record {
   outflows = λ e link departure p w. at_first net labels amount label good least begun (λ departure. outflow e (label link.head departure) ≡ sent net amount label e departure)
-      (out e link (label link.head 0ℚ) p (label_not_negative net labels amount label good least begun link.head (good.heads e link p)) ∙ sym (nothing_sent net labels amount label good least begun e link p)) departure w;
+      (out e link (label link.head 0ℚ) p (label_not_negative net labels amount label good least begun link.head (good.heads e link p))
+          ∙ sym (nothing_sent net labels amount label good least begun e link p)) departure w;
   outflows_early = λ e link time p w. out e link time p w.0;
-  queues = λ e link departure p w. at_first net labels amount label good least begun (λ departure. queue e (label link.tail departure) ≡ queue_by_slack link.capacity (link_slack label link departure))
+  queues =
+      λ e link departure p w. at_first net labels amount label good least begun
+      (λ departure. queue e (label link.tail departure) ≡ queue_by_slack link.capacity (link_slack label link departure))
       (wait e link (label link.tail 0ℚ) p (label_not_negative net labels amount label good least begun link.tail (good.tails e link p))
       ∙ sym (queue_by_slack-low link.capacity _ (slack_none net labels amount label good least begun e link p))) departure w;
   queues_early = λ e link time p w. wait e link time p w.0;

@@ -19,9 +19,11 @@ module _ (P : ℚ → Type 0) where
   to_zero_limits false least next s c e p h = subst (IsLimit (Both P (KeepsSide s c))) (same_Ok least next h) (IsLimit-with P _ least p (keeps_away s c e))
   to_zero_limits true least next s c e p h = subst (IsLimit (Both P (KeepsSide s c))) (same_Ok _ next h) (IsLimit-lesser P _ least _ p (keeps_until s c e))
 
-  after_limits : (b : Bool) (least next : Option ℚ) (s tail head : ℚ) → is_zero s ≡ b → IsLimit P least → after_link never b least s tail head ≡ Ok next → IsLimit (Both P (KeepsSide s (head -ℚ tail))) next
+  after_limits : (b : Bool) (least next : Option ℚ) (s tail head : ℚ) → is_zero s ≡ b → IsLimit P least → after_link never b least s tail head ≡ Ok next
+      → IsLimit (Both P (KeepsSide s (head -ℚ tail))) next
   unfolding checked
-  after_limits true least next s tail head e p h = subst (IsLimit (Both P (KeepsSide s (head -ℚ tail)))) (same_Ok least next h) (IsLimit-with P _ least p (keeps_at_zero s (head -ℚ tail) e))
+  after_limits true least next s tail head e p h =
+      subst (IsLimit (Both P (KeepsSide s (head -ℚ tail)))) (same_Ok least next h) (IsLimit-with P _ least p (keeps_at_zero s (head -ℚ tail) e))
   after_limits false least next s tail head e p h = to_zero_limits (are_opposite s (head -ℚ tail)) least next s (head -ℚ tail) refl p h
 
 -- ---- link by link
@@ -36,7 +38,8 @@ module _ (slacks slopes : List ℚ) where
   none_keeps k length i link e = absurd (none-some link e)
 
   one_more : (k : ℕ) (link : Link) (links : List Link) (length : ℚ) → LinkKeeps k link length → AllKeep (k + 1) links length → AllKeep k (link ∷ links) length
-  one_more k link links length first rest zero l e = subst (λ (m : Link). LinkKeeps (k + 0) m length) (same_Some link l e) (subst (λ (j : ℕ). LinkKeeps j link length) (omega arith) first)
+  one_more k link links length first rest zero l e =
+      subst (λ (m : Link). LinkKeeps (k + 0) m length) (same_Some link l e) (subst (λ (j : ℕ). LinkKeeps j link length) (omega arith) first)
   one_more k link links length first rest (suc i) l e = subst (λ (j : ℕ). LinkKeeps j l length) (omega arith) (rest i l e)
 
   first_of : (k : ℕ) (link : Link) (links : List Link) (length : ℚ) → AllKeep k (link ∷ links) length → LinkKeeps k link length
@@ -45,7 +48,8 @@ module _ (slacks slopes : List ℚ) where
   rest_of : (k : ℕ) (link : Link) (links : List Link) (length : ℚ) → AllKeep k (link ∷ links) length → AllKeep (k + 1) links length
   rest_of k link links length all i l e = subst (λ (j : ℕ). LinkKeeps j l length) (omega arith) (all (suc i) l e)
 
-  fold_limits : (P : ℚ → Type 0) (links : List Link) (k : ℕ) (least next : Option ℚ) → IsLimit P least → fold_checked (least_after never slacks slopes) least (enumerate_from k links) ≡ Ok next
+  fold_limits : (P : ℚ → Type 0) (links : List Link) (k : ℕ) (least next : Option ℚ) → IsLimit P least
+      → fold_checked (least_after never slacks slopes) least (enumerate_from k links) ≡ Ok next
       → IsLimit (Both P (AllKeep k links)) next
   fold_limits P [] k least next p h = subst (IsLimit (Both P (AllKeep k []))) (same_Ok least next h) (IsLimit-with P _ least p (λ length l. none_keeps k length))
   fold_limits P (link ∷ links) k least next p h =
@@ -83,7 +87,8 @@ module _ (time : ℚ) where
   NoneStarts pieces length = (i : ℕ) (piece : Piece) → IsPiece pieces i piece → time <ℚ piece.start → (time +ℚ length) ≤ℚ piece.start
 
   started : (piece : Piece) (later : List Piece) (length : ℚ) → lt_ℚ time piece.start ≡ false → NoneStarts later length → NoneStarts (piece ∷ later) length
-  started piece later length test none zero p e h = absurd (not_before time piece.start (not_less_of_test time piece.start test) (subst (λ (q : Piece). time <ℚ q.start) (sym (same_Some piece p e)) h))
+  started piece later length test none zero p e h =
+      absurd (not_before time piece.start (not_less_of_test time piece.start test) (subst (λ (q : Piece). time <ℚ q.start) (sym (same_Some piece p e)) h))
   started piece later length test none (suc i) p e h = none i p e h
 
   -- The limit by the next change.
@@ -105,7 +110,8 @@ module _ (time : ℚ) where
   change_limits [] rise = λ length h i p e k. absurd (none-some p e)
   change_limits (piece ∷ later) rise = first_limits (lt_ℚ time piece.start) piece later rise refl (change_limits later (StartsRise-rest piece later rise))
 
-  until_limits : (P Q : ℚ → Type 0) (change least next : Option ℚ) → IsLimit P least → IsLimit Q (limit_of change) → until_change never least time change ≡ Ok next → IsLimit (Both P Q) next
+  until_limits : (P Q : ℚ → Type 0) (change least next : Option ℚ) → IsLimit P least → IsLimit Q (limit_of change)
+      → until_change never least time change ≡ Ok next → IsLimit (Both P Q) next
   unfolding checked
   until_limits P Q None least next p q h = subst (IsLimit (Both P Q)) (same_Ok least next h) (IsLimit-with P Q least p q)
   until_limits P Q (Some change) least next p q h = subst (IsLimit (Both P Q)) (same_Ok _ next h) (IsLimit-lesser P Q least (change -ℚ time) p q)
@@ -138,7 +144,8 @@ module _ (net : Network) (slacks slopes : List ℚ) (time : ℚ) where
   whole : (rise : StartsRise net.pieces) (extension : Option ℚ) → extend_list never net slacks slopes time ≡ Ok extension → IsLimit Held extension
   unfolding extend_list
   whole rise extension h =
-      let links = bind_ok (fold_checked (least_after never slacks slopes) None (enumerate_from 0 net.links)) (λ (m : Option ℚ). until_change never m time (next_change net time)) extension h in
+      let links = bind_ok (fold_checked (least_after never slacks slopes) None (enumerate_from 0 net.links))
+          (λ (m : Option ℚ). until_change never m time (next_change net time)) extension h in
       until_limits time (Both Anything (AllKeep slacks slopes 0 net.links)) (NoneStarts time net.pieces) (next_change net time) links.0 extension
       (fold_limits slacks slopes Anything net.links 0 None links.0 (λ length l. tt) links.1) (change_limits time net.pieces rise) links.2
 

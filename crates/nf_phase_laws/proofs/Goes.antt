@@ -25,7 +25,9 @@ use Rattle.nf_phase_laws.proofs.WellRun.{number_is, label_points, inflow_points,
 
 -- ---- the amount that has entered a link so far
 end_amount : (c : LinkCurves) (last : Point) → LastPoint c.inflow.points last → amount_so_far c ≡ last.1
-end_amount c last l = ap (λ (ps : List Point). option_map_or (λ (p : Point). p.1) (last_or None ps) 0ℚ) l.same ∙ ap (λ (o : Option Point). option_map_or (λ (p : Point). p.1) o 0ℚ) (last-append None l.front last)
+end_amount c last l =
+    ap (λ (ps : List Point). option_map_or (λ (p : Point). p.1) (last_or None ps) 0ℚ) l.same
+    ∙ ap (λ (o : Option Point). option_map_or (λ (p : Point). p.1) o 0ℚ) (last-append None l.front last)
 
 turn_label : (a b t l : ℚ) → b ≡ a → a +ℚ t *ℚ l ≡ b +ℚ l *ℚ t
 turn_label a b t l e = linear_eq (a ∷ b ∷ t ∷ l ∷ []) (eq e ∷ []) (search reading_of) tt tt
@@ -135,16 +137,19 @@ module _ (passes : Passing) (net : Network) (good : IsNetwork net) (horizon : �
 
     so_far : amount_before e ≡ sent_now
     so_far = ap (λ (o : Option ℚ). unwrap_or o 0ℚ) (slice_get-image amount_so_far s.link_curves e c here)
-        ∙ end_amount c (label_now link.tail, sent_now) (subst (λ (ps : List Point). LastPoint ps (label_now link.tail, sent_now)) (inflow_points s e c here) (grown.curves_stand.inflows_end e link p))
+        ∙ end_amount c (label_now link.tail, sent_now) (subst (λ (ps : List Point). LastPoint ps (label_now link.tail, sent_now)) (inflow_points s e c here)
+            (grown.curves_stand.inflows_end e link p))
 
     amount_is : (y : ℚ) → y ≡ sent_now → amount_before e +ℚ step.length *ℚ number_at flows e ≡ y +ℚ number_at flows e *ℚ step.length
     amount_is y k = turn_label (amount_before e) y step.length (number_at flows e) (k ∙ sym so_far)
 
     -- a trace at an end of the link: the inflow at the tail, or the outflow at the head
-    trace_step : (trace : Trace) (v : ℕ) (points : List Point) (y : ℚ) → v < net.nodes → points ≡ trace.points → AreSlopes trace.points trace.rates → LastPoint points (label_now v, y) → y ≡ sent_now
+    trace_step : (trace : Trace) (v : ℕ) (points : List Point) (y : ℚ) → v < net.nodes → points ≡ trace.points → AreSlopes trace.points trace.rates
+        → LastPoint points (label_now v, y) → y ≡ sent_now
         → TraceStep points (trace_after trace (number_at step.labels v) (one e link).amount (rate_value (is_positive (number_at slopes v)) (number_at flows e) (number_at slopes v)))
         (label_now v) y step.length (number_at flows e) (number_at slopes v)
-    trace_step trace v points y below same rates last is = TraceStep-after trace (number_at flows e) (number_at slopes v) points (label_now v) y step.length (number_at step.labels v) (one e link).amount
+    trace_step trace v points y below same rates last is = TraceStep-after trace (number_at flows e) (number_at slopes v) points (label_now v) y step.length
+        (number_at step.labels v) (one e link).amount
         same rates last some (moved_is v below) (amount_is y is) (LastSlope-rates trace.points trace.rates rates)
 
     inflow_step : TraceStep (curves.inflows e) (link_new e link c).inflow (label_now link.tail) sent_now step.length (number_at flows e) (number_at slopes link.tail)
@@ -157,7 +162,8 @@ module _ (passes : Passing) (net : Network) (good : IsNetwork net) (horizon : �
     out_is = grown.describes.outflows e link s.time p now ∙ sent-is net (at curves.inflows) (at curves.labels) e link s.time p
 
     outflow_step : TraceStep (curves.outflows e) (link_new e link c).outflow (label_now link.head) out_now step.length (number_at flows e) (number_at slopes link.head)
-    outflow_step = trace_step c.outflow link.head (curves.outflows e) out_now head_in (outflow_points s e c here) (well.outflow_rates e c here) (grown.description_stands.outflows_end e link p) out_is
+    outflow_step = trace_step c.outflow link.head (curves.outflows e) out_now head_in (outflow_points s e c here) (well.outflow_rates e c here)
+        (grown.description_stands.outflows_end e link p) out_is
 
     -- the queue
     abbrev queue_now : ℚ
@@ -170,7 +176,8 @@ module _ (passes : Passing) (net : Network) (good : IsNetwork net) (horizon : �
     after = slack_after (slacks_of (hops net) s.labels) slopes e link step.length
 
     queue_before : queue_by_slack link.capacity before ≡ queue_now
-    queue_before = ap (queue_by_slack link.capacity) (slack_at net s.labels e link p ∙ slack-is net (at curves.inflows) (at curves.labels) s.time s.labels good grown.stands.holds grown.stands.same e link p)
+    queue_before = ap (queue_by_slack link.capacity) (slack_at net s.labels e link p
+        ∙ slack-is net (at curves.inflows) (at curves.labels) s.time s.labels good grown.stands.holds grown.stands.same e link p)
         ∙ sym (grown.describes.queues e link s.time p now)
 
     abbrev read_slack : ℚ
@@ -192,7 +199,8 @@ module _ (passes : Passing) (net : Network) (good : IsNetwork net) (horizon : �
         ∙ ap (λ (y : ℚ). next_size e link -ℚ y) queue_before
 
     queue_step : QueueStepped (curves.queues e) (link_new e link c).queue (label_now link.tail) queue_now step.length (number_at slopes link.tail) (next_size e link)
-    queue_step = QueueStepped-after c.queue (read e link) (number_at flows e) (number_at slopes link.tail) (curves.queues e) (label_now link.tail) queue_now step.length (number_at step.labels link.tail) (next_size e link)
+    queue_step = QueueStepped-after c.queue (read e link) (number_at flows e) (number_at slopes link.tail) (curves.queues e)
+        (label_now link.tail) queue_now step.length (number_at step.labels link.tail) (next_size e link)
         (queue_points s e c here) (well.queue_slopes e c here) (grown.description_stands.queues_end e link p) some (moved_is link.tail tail_in) size_read queue_times
 
     inflow_new : curves'.inflows e ≡ (link_new e link c).inflow.points
@@ -217,7 +225,8 @@ module _ (passes : Passing) (net : Network) (good : IsNetwork net) (horizon : �
     inflows_stay = λ e link p still. (let f = link_found e link p in inflow_new e link p f.0 f.1 ∙ (inflow_step e link p f.0 f.1).stays still);
   }
 
-  pub description_goes : DescriptionCurvesGoOn net (at curves.labels) (at curves'.labels) curves.outflows curves.queues s.time step.length (number_at flows) (number_at slopes) curves'.outflows curves'.queues
+  pub description_goes : DescriptionCurvesGoOn net (at curves.labels) (at curves'.labels) curves.outflows curves.queues s.time step.length (number_at flows)
+      (number_at slopes) curves'.outflows curves'.queues
   description_goes = record {
     outflows_go = λ e link p moves. (let f = link_found e link p in
         subst (λ (ps : List Point). GoesOnTo (curves.outflows e) ps (label_now link.head, at curves.outflows e (label_now link.head))

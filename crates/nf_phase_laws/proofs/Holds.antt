@@ -10,7 +10,8 @@ use Rattle.nf_model_laws.proofs.Exits.{IsOutflow-at_exit}
 use Rattle.nf_phase_laws.proofs.Idle.{max0_cases, waiting-by_slack, IsQueue-before_any}
 
 -- The amount sent into a link, by its tail.
-pub sent-is : (net : Network) (amount label : ℕ → ℚ → ℚ) (e : ℕ) (link : Link) (departure : ℚ) → IsLink net e link → sent net amount label e departure ≡ amount e (label link.tail departure)
+pub sent-is : (net : Network) (amount label : ℕ → ℚ → ℚ) (e : ℕ) (link : Link) (departure : ℚ) → IsLink net e link
+    → sent net amount label e departure ≡ amount e (label link.tail departure)
 sent-is net amount label e link departure p = ap (λ (o : Option Link). amount e (label (tail_or o) departure)) p
 
 -- each number below the count of the links has its link
@@ -112,8 +113,10 @@ module _ (net : Network) (amount label : ℕ → ℚ → ℚ) (until : ℚ) (goo
       (sym (amount_starts e link p) ∙ holds.idle e link departure 0ℚ p w l (≤ℚ_refl 0ℚ) (≤ℚ_of_lt _ _ k) (label_not_negative link.tail departure (good.tails e link p) w))
       (IsOutflow-early link.transit link.capacity (amount e) (label link.head departure) (too_early _ _ k)))
       (λ (k : 0ℚ ≤ℚ label link.head departure -ℚ link.transit). subst (λ (x : ℚ). IsOutflow link.transit link.capacity (amount e) (label link.head departure) x)
-      (less_none _ _ (holds.idle e link departure (label link.head departure -ℚ link.transit) p w l k (≤ℚ_refl _) (in_time (label link.tail departure) (label link.head departure) link.transit l)))
-      (IsOutflow-from_IsQueue link.transit link.capacity (amount e) (label link.head departure -ℚ link.transit) (label link.head departure) 0ℚ (back_again (label link.head departure) link.transit) k
+      (less_none _ _ (holds.idle e link departure (label link.head departure -ℚ link.transit) p w l k (≤ℚ_refl _)
+          (in_time (label link.tail departure) (label link.head departure) link.transit l)))
+      (IsOutflow-from_IsQueue link.transit link.capacity (amount e) (label link.head departure -ℚ link.transit) (label link.head departure) 0ℚ
+          (back_again (label link.head departure) link.transit) k
       (holds.idle_queue e link departure p w l k)))
       (lt_or_le_ℚ (label link.head departure -ℚ link.transit) 0ℚ)
 
@@ -146,7 +149,8 @@ module _ (net : Network) (amount label : ℕ → ℚ → ℚ) (until : ℚ) (goo
       (λ (l : link.transit ≤ℚ time).
       let before : time -ℚ link.transit ≤ℚ label link.tail 0ℚ = soon (label link.tail 0ℚ) (label link.head 0ℚ) link.transit time k (slack_start e link p) in
       subst (λ (x : ℚ). IsOutflow link.transit link.capacity (amount e) time x) (less_none _ _ (none_yet e link (time -ℚ link.transit) p (less_nn _ _ l) before))
-      (IsOutflow-from_IsQueue link.transit link.capacity (amount e) (time -ℚ link.transit) time 0ℚ (back_again time link.transit) (less_nn _ _ l) (queue_early e link (time -ℚ link.transit) p (less_nn _ _ l) before)))
+      (IsOutflow-from_IsQueue link.transit link.capacity (amount e) (time -ℚ link.transit) time 0ℚ (back_again time link.transit) (less_nn _ _ l)
+          (queue_early e link (time -ℚ link.transit) p (less_nn _ _ l) before)))
       (lt_or_le_ℚ time link.transit)
 
   -- ---- conservation
@@ -155,7 +159,8 @@ module _ (net : Network) (amount label : ℕ → ℚ → ℚ) (until : ℚ) (goo
       → Balances net amount v (label v departure) extra_in extra_out
   balance_at v departure extra_in extra_out w sums = record {
     outs = λ e. sent net amount label e departure;
-    outflows = λ e link p h. subst (λ (k : ℕ). IsOutflow link.transit link.capacity (amount e) (label k departure) (sent net amount label e departure)) h (outflow_at e link departure p w);
+    outflows = λ e link p h. subst (λ (k : ℕ). IsOutflow link.transit link.capacity (amount e) (label k departure) (sent net amount label e departure)) h
+        (outflow_at e link departure p w);
     sums = sums ∙ ap (λ (s : ℚ). s +ℚ extra_out) (sum_out-same net.links (λ e. sent net amount label e departure) (λ e. amount e (label v departure)) v
         (λ e link p h. sent-is net amount label e link departure p ∙ ap (λ (k : ℕ). amount e (label k departure)) h));
   }

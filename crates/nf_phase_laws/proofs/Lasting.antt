@@ -32,8 +32,10 @@ module _ (net : Network) (amount label amount' label' : ℕ → ℚ → ℚ) (un
     holds = holds;
     thin = IsThinBy-of net amount label until labels good holds same (rate_at net until) flows slopes thin;
     some = lasts.not_negative;
-    below = λ e link t p h w. subst (λ (s : ℚ). s ≤ℚ 0ℚ) (after_while _ _ _ _ t (slack_entry e link p)) (lasts.inactive e link t p (subst (λ (s : ℚ). s <ℚ 0ℚ) (sym (slack_entry e link p)) h) w);
-    above = λ e link t p h w. subst (λ (s : ℚ). 0ℚ ≤ℚ s) (after_while _ _ _ _ t (slack_entry e link p)) (lasts.resetting e link t p (subst (λ (s : ℚ). 0ℚ <ℚ s) (sym (slack_entry e link p)) h) w);
+    below = λ e link t p h w. subst (λ (s : ℚ). s ≤ℚ 0ℚ) (after_while _ _ _ _ t (slack_entry e link p))
+        (lasts.inactive e link t p (subst (λ (s : ℚ). s <ℚ 0ℚ) (sym (slack_entry e link p)) h) w);
+    above = λ e link t p h w. subst (λ (s : ℚ). 0ℚ ≤ℚ s) (after_while _ _ _ _ t (slack_entry e link p))
+        (lasts.resetting e link t p (subst (λ (s : ℚ). 0ℚ <ℚ s) (sym (slack_entry e link p)) h) w);
     goes = goes;
     supply_after = supply-lasts net (slacks_of (hops net) labels) slopes until length good lasts;
   }

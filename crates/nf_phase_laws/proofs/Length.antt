@@ -26,7 +26,8 @@ fits_all {A} (x ∷ xs) Fits shorter each =
     let both : (0ℚ <ℚ min_ℚ first.0 rest.time) × ((min_ℚ first.0 rest.time ≤ℚ first.0) × (min_ℚ first.0 rest.time ≤ℚ rest.time)) = lesser first.0 rest.time first.1 rest.some in
     record { time = min_ℚ first.0 rest.time; some = both.0; fits = by_place x first.0 rest.time (min_ℚ first.0 rest.time) first.2 rest.fits both.1.0 both.1.1 }
   where
-    by_place : (y : A) (a b c : ℚ) → Fits 0 x a → ((i : ℕ) (z : A) → slice_get xs i ≡ Some z → Fits (suc i) z b) → c ≤ℚ a → c ≤ℚ b → (i : ℕ) (z : A) → slice_get (x ∷ xs) i ≡ Some z → Fits i z c
+    by_place : (y : A) (a b c : ℚ) → Fits 0 x a → ((i : ℕ) (z : A) → slice_get xs i ≡ Some z → Fits (suc i) z b) → c ≤ℚ a → c ≤ℚ b → (i : ℕ) (z : A)
+        → slice_get (x ∷ xs) i ≡ Some z → Fits i z c
     by_place y a b c f g h k zero z p = subst (λ (u : A). Fits 0 u c) (same x z p) (shorter 0 x a c f h)
       where
         same : (u v : A) → Some u ≡ Some v → u ≡ v

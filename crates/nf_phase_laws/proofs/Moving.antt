@@ -30,7 +30,8 @@ module _ (passes : Passing) (net : Network) (s : Standing) (pattern : Pattern) (
     phase = link_phase (sets_at net s.labels) pattern flows slopes step.labels (e, link)
 
     value_is : one ≡ step_value step.length (number_at (map amount_so_far s.link_curves) e) phase
-    value_is = same_Some one _ (sym here ∙ step_value_at passes net (sets_at net s.labels) pattern step.length flows slopes step.labels (map amount_so_far s.link_curves) step.links parts.links e link p)
+    value_is = same_Some one _ (sym here ∙ step_value_at passes net (sets_at net s.labels) pattern step.length flows slopes step.labels
+        (map amount_so_far s.link_curves) step.links parts.links e link p)
 
     pub inflow_moves : (rate : ℚ) → one.inflow_rate ≡ Some rate → number_at s.labels link.tail <ℚ number_at step.labels link.tail
     inflow_moves rate h = label_moves link.tail (rate_moves _ phase.flow phase.tail_slope rate (sym (ap (λ (t : LinkStep). t.inflow_rate) value_is) ∙ h))

@@ -18,8 +18,10 @@ pub record PhaseStep (net : Network) (amount label : ℕ → ℚ → ℚ) (until
   pub holds : HoldsUpTo net amount label until
   pub thin : IsThinBy net (λ link. link_slack label link until) rate x slope
   pub some : 0ℚ ≤ℚ length
-  pub below : (e : ℕ) (link : Link) (t : ℚ) → IsLink net e link → link_slack label link until <ℚ 0ℚ → Within 0ℚ length t → link_slack label link until +ℚ (slope link.head -ℚ slope link.tail) *ℚ t ≤ℚ 0ℚ
-  pub above : (e : ℕ) (link : Link) (t : ℚ) → IsLink net e link → 0ℚ <ℚ link_slack label link until → Within 0ℚ length t → 0ℚ ≤ℚ link_slack label link until +ℚ (slope link.head -ℚ slope link.tail) *ℚ t
+  pub below : (e : ℕ) (link : Link) (t : ℚ) → IsLink net e link → link_slack label link until <ℚ 0ℚ → Within 0ℚ length t
+      → link_slack label link until +ℚ (slope link.head -ℚ slope link.tail) *ℚ t ≤ℚ 0ℚ
+  pub above : (e : ℕ) (link : Link) (t : ℚ) → IsLink net e link → 0ℚ <ℚ link_slack label link until → Within 0ℚ length t
+      → 0ℚ ≤ℚ link_slack label link until +ℚ (slope link.head -ℚ slope link.tail) *ℚ t
   pub goes : GoesOn net amount label until length x slope amount' label'
   pub supply_after : (t : ℚ) → Within 0ℚ length t → supply net (until +ℚ t) ≡ supply net until +ℚ rate *ℚ t
 
@@ -65,7 +67,8 @@ same_time a b r h k = linear_eq (a ∷ b ∷ r ∷ []) (le h ∷ le k ∷ []) (s
 
 has_flow : (y x s t a b : ℚ) → 0ℚ ≤ℚ x → a ≡ y +ℚ x *ℚ s → b ≡ y +ℚ x *ℚ t → a <ℚ b → 0ℚ <ℚ x
 has_flow y x s t a b n e f h = ⊎_elim (λ (k : 0ℚ <ℚ x). k)
-    (λ (k : x ≤ℚ 0ℚ). let d : x ≡ 0ℚ = ≤ℚ_antisymm _ _ k n in absurd (linear_false (y ∷ x ∷ s ∷ t ∷ a ∷ b ∷ []) (eq e ∷ eq f ∷ lt h ∷ eq_times s d ∷ eq_times t d ∷ []) (search reading_of) tt))
+    (λ (k : x ≤ℚ 0ℚ). let d : x ≡ 0ℚ = ≤ℚ_antisymm _ _ k n in absurd (linear_false (y ∷ x ∷ s ∷ t ∷ a ∷ b ∷ [])
+        (eq e ∷ eq f ∷ lt h ∷ eq_times s d ∷ eq_times t d ∷ []) (search reading_of) tt))
     (lt_or_le_ℚ 0ℚ x)
 
 lt_along : (a b c d : ℚ) → a ≡ b → c ≡ d → a <ℚ c → b <ℚ d
@@ -85,7 +88,8 @@ source_moves : (a u l t : ℚ) → a ≡ u → l ≡ 1ℚ → a +ℚ l *ℚ t �
 source_moves a u l t e f = linear_eq (a ∷ u ∷ l ∷ t ∷ []) (eq e ∷ eq_times t f ∷ []) (search reading_of) tt tt
 
 -- up to the beginning of the phase, and from there on
-pub by_time : (until length : ℚ) (P : ℚ → Type 0) → ((time : ℚ) → Within 0ℚ until time → P time) → ((t : ℚ) → Within 0ℚ length t → P (until +ℚ t)) → (time : ℚ) → Within 0ℚ (until +ℚ length) time → P time
+pub by_time : (until length : ℚ) (P : ℚ → Type 0) → ((time : ℚ) → Within 0ℚ until time → P time) → ((t : ℚ) → Within 0ℚ length t → P (until +ℚ t))
+    → (time : ℚ) → Within 0ℚ (until +ℚ length) time → P time
 by_time until length P f g time w = ⊎_elim
     (λ (l : time <ℚ until). f time (w.0, ≤ℚ_of_lt _ _ l))
     (λ (l : until ≤ℚ time). subst P (linear_eq (until ∷ time ∷ []) [] (search reading_of) tt tt)
@@ -123,7 +127,8 @@ module _ (net : Network) (amount label : ℕ → ℚ → ℚ) (until length rate
   label_rises v s t h i j k = by_time until length (λ t. s ≤ℚ t → label' v s ≤ℚ label' v t)
       (λ t w j. le_along _ _ _ _ (step.goes.label_before v s h (i, ≤ℚ_trans _ _ _ j w.1)) (step.goes.label_before v t h w) (step.holds.label_rises v s t h i j w.1))
       (λ t w j. by_time until length (λ s. s ≤ℚ until +ℚ t → label' v s ≤ℚ label' v (until +ℚ t))
-      (λ s u j. le_along _ _ _ _ (step.goes.label_before v s h u) refl (≤ℚ_trans _ _ _ (step.holds.label_rises v s until h u.0 u.1 (≤ℚ_refl until)) (after_start (label v until) (slope v) t _ (step.thin.slope_nn v) w.0 (step.goes.label_after v t h w))))
+      (λ s u j. le_along _ _ _ _ (step.goes.label_before v s h u) refl (≤ℚ_trans _ _ _ (step.holds.label_rises v s until h u.0 u.1 (≤ℚ_refl until))
+          (after_start (label v until) (slope v) t _ (step.thin.slope_nn v) w.0 (step.goes.label_after v t h w))))
       (λ s u j. le_along _ _ _ _ (step.goes.label_after v s h u) (step.goes.label_after v t h w)
       (line_order (label v until) (slope v) s t (step.thin.slope_nn v) (linear_le (until ∷ s ∷ t ∷ []) (le j ∷ []) (search reading_of) tt)))
       s (i, ≤ℚ_trans _ _ _ j (linear_le (until ∷ t ∷ length ∷ []) (le w.1 ∷ []) (search reading_of) tt)) j)
@@ -133,7 +138,8 @@ module _ (net : Network) (amount label : ℕ → ℚ → ℚ) (until length rate
   label_takes v y h i j = ⊎_elim
       (λ (l : label v until <ℚ y).
       let u : (u : ℚ) × (0ℚ ≤ℚ u) × (u ≤ℚ length) × (label v until +ℚ slope v *ℚ (u -ℚ 0ℚ) ≡ y) =
-      line_takes 0ℚ length (label v until) (slope v) y (label' v (until +ℚ length)) step.some (step.goes.label_after v length h (step.some, ≤ℚ_refl length) ∙ from_zero (label v until) (slope v) length) (≤ℚ_of_lt _ _ l) j in
+      line_takes 0ℚ length (label v until) (slope v) y (label' v (until +ℚ length)) step.some
+          (step.goes.label_after v length h (step.some, ≤ℚ_refl length) ∙ from_zero (label v until) (slope v) length) (≤ℚ_of_lt _ _ l) j in
       (until +ℚ u.0, later u.0 (u.1, u.2), step.goes.label_after v u.0 h (u.1, u.2) ∙ from_zero (label v until) (slope v) u.0 ∙ u.3))
       (λ (l : y ≤ℚ label v until).
       let u : (time : ℚ) × Within 0ℚ until time × (label v time ≡ y) = step.holds.label_takes v y h (subst (λ (z : ℚ). z ≤ℚ y) (step.goes.label_before v 0ℚ h first) i) l in
@@ -149,7 +155,8 @@ module _ (net : Network) (amount label : ℕ → ℚ → ℚ) (until length rate
   pub slack_before : (e : ℕ) (link : Link) (time : ℚ) → IsLink net e link → Within 0ℚ until time → link_slack label' link time ≡ link_slack label link time
   slack_before e link time p w = same_slacks _ _ _ _ link.transit (step.goes.label_before link.head time (heads e link p) w) (step.goes.label_before link.tail time (tails e link p) w)
 
-  pub slack_after : (e : ℕ) (link : Link) (t : ℚ) → IsLink net e link → Within 0ℚ length t → link_slack label' link (until +ℚ t) ≡ link_slack label link until +ℚ (slope link.head -ℚ slope link.tail) *ℚ t
+  pub slack_after : (e : ℕ) (link : Link) (t : ℚ) → IsLink net e link → Within 0ℚ length t
+      → link_slack label' link (until +ℚ t) ≡ link_slack label link until +ℚ (slope link.head -ℚ slope link.tail) *ℚ t
   slack_after e link t p w = slack_line _ _ _ _ link.transit _ _ t (step.goes.label_after link.head t (heads e link p) w) (step.goes.label_after link.tail t (tails e link p) w)
 
   link_step : (e : ℕ) (link : Link) (t : ℚ) → IsLink net e link → Within 0ℚ length t
@@ -189,15 +196,18 @@ module _ (net : Network) (amount label : ℕ → ℚ → ℚ) (until length rate
 
   pub sent_after : (e : ℕ) (link : Link) (t : ℚ) → IsLink net e link → Within 0ℚ length t → new_sent e (until +ℚ t) ≡ old_sent e until +ℚ x e *ℚ t
   sent_after e link t p w =
-      let r : (r : ℚ) × (r *ℚ slope link.tail ≡ x e) × IsAffine (amount' e) (label link.tail until) (label link.tail until +ℚ slope link.tail *ℚ length) r = step.goes.amount_after e link p in
+      let r : (r : ℚ) × (r *ℚ slope link.tail ≡ x e) × IsAffine (amount' e) (label link.tail until) (label link.tail until +ℚ slope link.tail *ℚ length) r =
+          step.goes.amount_after e link p in
       new_is e link (until +ℚ t) p ∙ ap (amount' e) (step.goes.label_after link.tail t (tails e link p) w)
       ∙ on_the_line _ _ (label link.tail until) (slope link.tail) t r.0 (x e) (old_sent e until)
       (r.2.line (label link.tail until +ℚ slope link.tail *ℚ t) (past e link t w) (before_end e link t w)) (amount_until e link p) r.1
 
   amount_rises : (e : ℕ) (link : Link) → IsLink net e link → NeverFalls (amount' e)
   amount_rises e link p =
-      let r : (r : ℚ) × (r *ℚ slope link.tail ≡ x e) × IsAffine (amount' e) (label link.tail until) (label link.tail until +ℚ slope link.tail *ℚ length) r = step.goes.amount_after e link p in
-      NeverFalls-goes_on (amount e) (amount' e) (label link.tail until) (slope link.tail) length r.0 (x e) (label_nn link.tail until (tails e link p) now) (step.thin.slope_nn link.tail) (step.thin.flow_nn e) step.some
+      let r : (r : ℚ) × (r *ℚ slope link.tail ≡ x e) × IsAffine (amount' e) (label link.tail until) (label link.tail until +ℚ slope link.tail *ℚ length) r =
+          step.goes.amount_after e link p in
+      NeverFalls-goes_on (amount e) (amount' e) (label link.tail until) (slope link.tail) length r.0 (x e) (label_nn link.tail until (tails e link p) now)
+          (step.thin.slope_nn link.tail) (step.thin.flow_nn e) step.some
       (step.holds.amount_rises e (slice_get_within net.links e link p)) (λ t w. step.goes.amount_before e link t p w) r.1 r.2 (λ t h. step.goes.amount_ends e link t p h)
 
   -- ---- queues
@@ -205,21 +215,29 @@ module _ (net : Network) (amount label : ℕ → ℚ → ℚ) (until length rate
   same_amount e link time p h t w = sym (step.goes.amount_before e link t p (w.0, ≤ℚ_trans _ _ _ w.1 h))
 
   queue_until : (e : ℕ) (link : Link) → IsLink net e link → IsQueue link.capacity (amount' e) (label link.tail until) (queue_by_slack link.capacity (link_slack label link until))
-  queue_until e link p = IsQueue-same link.capacity (amount e) (amount' e) (label link.tail until) _ (same_amount e link (label link.tail until) p (≤ℚ_refl _)) (step.holds.queue e link until p now)
+  queue_until e link p =
+      IsQueue-same link.capacity (amount e) (amount' e) (label link.tail until) _ (same_amount e link (label link.tail until) p (≤ℚ_refl _))
+      (step.holds.queue e link until p now)
 
   abbrev QueueAt : ℕ → Link → ℚ → Type 0
   QueueAt e link time = IsQueue link.capacity (amount' e) (label' link.tail time) (queue_by_slack link.capacity (link_slack label' link time))
 
   queue_before : (e : ℕ) (link : Link) (time : ℚ) → IsLink net e link → Within 0ℚ until time → QueueAt e link time
-  queue_before e link time p w = subst (λ (a : ℚ). IsQueue link.capacity (amount' e) a (queue_by_slack link.capacity (link_slack label' link time))) (sym (step.goes.label_before link.tail time (tails e link p) w))
+  queue_before e link time p w =
+      subst (λ (a : ℚ). IsQueue link.capacity (amount' e) a (queue_by_slack link.capacity (link_slack label' link time)))
+      (sym (step.goes.label_before link.tail time (tails e link p) w))
       (subst (λ (s : ℚ). IsQueue link.capacity (amount' e) (label link.tail time) (queue_by_slack link.capacity s)) (sym (slack_before e link time p w))
-      (IsQueue-same link.capacity (amount e) (amount' e) (label link.tail time) _ (same_amount e link (label link.tail time) p (rises_on link.tail time (tails e link p) w)) (step.holds.queue e link time p w)))
+      (IsQueue-same link.capacity (amount e) (amount' e) (label link.tail time) _
+          (same_amount e link (label link.tail time) p (rises_on link.tail time (tails e link p) w)) (step.holds.queue e link time p w)))
 
   queue_after : (e : ℕ) (link : Link) (t : ℚ) → IsLink net e link → Within 0ℚ length t → QueueAt e link (until +ℚ t)
   queue_after e link t p w =
-      let r : (r : ℚ) × (r *ℚ slope link.tail ≡ x e) × IsAffine (amount' e) (label link.tail until) (label link.tail until +ℚ slope link.tail *ℚ length) r = step.goes.amount_after e link p in
-      subst (λ (a : ℚ). IsQueue link.capacity (amount' e) a (queue_by_slack link.capacity (link_slack label' link (until +ℚ t)))) (sym (step.goes.label_after link.tail t (tails e link p) w))
-      (IsQueue-by_slack link.capacity (amount' e) (label link.tail until) _ r.0 _ _ (x e) (slope link.tail) (slope link.head) t (link_step e link t p w) r.1 r.2 (past e link t w) (before_end e link t w) (queue_until e link p))
+      let r : (r : ℚ) × (r *ℚ slope link.tail ≡ x e) × IsAffine (amount' e) (label link.tail until) (label link.tail until +ℚ slope link.tail *ℚ length) r =
+          step.goes.amount_after e link p in
+      subst (λ (a : ℚ). IsQueue link.capacity (amount' e) a (queue_by_slack link.capacity (link_slack label' link (until +ℚ t))))
+          (sym (step.goes.label_after link.tail t (tails e link p) w))
+      (IsQueue-by_slack link.capacity (amount' e) (label link.tail until) _ r.0 _ _ (x e) (slope link.tail) (slope link.head) t
+          (link_step e link t p w) r.1 r.2 (past e link t w) (before_end e link t w) (queue_until e link p))
 
   queue : (e : ℕ) (link : Link) (time : ℚ) → IsLink net e link → Within 0ℚ (until +ℚ length) time → QueueAt e link time
   queue e link time p w = by_time until length (λ time. QueueAt e link time) (λ time w. queue_before e link time p w) (λ t w. queue_after e link t p w) time w
@@ -241,7 +259,8 @@ module _ (net : Network) (amount label : ℕ → ℚ → ℚ) (until length rate
   entered_before v time w (e, link, p, at, s) = (e, link, p, at, subst (λ (z : ℚ). 0ℚ ≤ℚ z) (sym (slack_before e link time p w)) s)
 
   entered_after : (v : ℕ) (t : ℚ) → Within 0ℚ length t
-      → (e : ℕ) × (link : Link) × IsLink net e link × (link.head ≡ v) × (0ℚ ≤ℚ link_slack label link until) × (link_slack label link until ≤ℚ 0ℚ → slope link.tail ≤ℚ slope link.head) → EnteredAt v (until +ℚ t)
+      → (e : ℕ) × (link : Link) × IsLink net e link × (link.head ≡ v) × (0ℚ ≤ℚ link_slack label link until)
+          × (link_slack label link until ≤ℚ 0ℚ → slope link.tail ≤ℚ slope link.head) → EnteredAt v (until +ℚ t)
   entered_after v t w (e, link, p, at, s, tight) = (
     e,
     link,
@@ -267,7 +286,8 @@ module _ (net : Network) (amount label : ℕ → ℚ → ℚ) (until length rate
       → 0ℚ ≤ℚ z → label link.head until -ℚ link.transit ≤ℚ z → z ≤ℚ label link.tail until +ℚ slope link.tail *ℚ t → amount' e z ≡ old_sent e until
   idle_amount e link t z p w s f h i j = ⊎_elim
       (λ (u : label link.tail until <ℚ z).
-      let r : (r : ℚ) × (r *ℚ slope link.tail ≡ x e) × IsAffine (amount' e) (label link.tail until) (label link.tail until +ℚ slope link.tail *ℚ length) r = step.goes.amount_after e link p in
+      let r : (r : ℚ) × (r *ℚ slope link.tail ≡ x e) × IsAffine (amount' e) (label link.tail until) (label link.tail until +ℚ slope link.tail *ℚ length) r =
+          step.goes.amount_after e link p in
       flat (amount' e z) (amount' e (label link.tail until)) r.0 (label link.tail until) (slope link.tail) t z
       (r.2.line z (≤ℚ_of_lt _ _ u) (≤ℚ_trans _ _ _ j (before_end e link t w))) (r.1 ∙ f) (step.thin.slope_nn link.tail) u j
       ∙ amount_until e link p)
@@ -284,7 +304,8 @@ module _ (net : Network) (amount label : ℕ → ℚ → ℚ) (until length rate
   idle_before e link time p w s z h i j =
       let k : z ≤ℚ label link.tail time = subst (λ (a : ℚ). z ≤ℚ a) (step.goes.label_before link.tail time (tails e link p) w) j in
       step.goes.amount_before e link z p (h, ≤ℚ_trans _ _ _ k (rises_on link.tail time (tails e link p) w))
-      ∙ step.holds.idle e link time z p w (subst (λ (n : ℚ). n ≤ℚ 0ℚ) (slack_before e link time p w) s) h (subst (λ (b : ℚ). b -ℚ link.transit ≤ℚ z) (step.goes.label_before link.head time (heads e link p) w) i) k
+      ∙ step.holds.idle e link time z p w (subst (λ (n : ℚ). n ≤ℚ 0ℚ) (slack_before e link time p w) s) h
+          (subst (λ (b : ℚ). b -ℚ link.transit ≤ℚ z) (step.goes.label_before link.head time (heads e link p) w) i) k
       ∙ sym (sent_before e link time p w)
 
   idle_after : (e : ℕ) (link : Link) (t : ℚ) → IsLink net e link → Within 0ℚ length t → IdleAt e link (until +ℚ t)
@@ -309,7 +330,9 @@ module _ (net : Network) (amount label : ℕ → ℚ → ℚ) (until length rate
 
   idle_queue_until : (e : ℕ) (link : Link) → IsLink net e link → link_slack label link until ≤ℚ 0ℚ → 0ℚ ≤ℚ label link.head until -ℚ link.transit
       → IsQueue link.capacity (amount' e) (label link.head until -ℚ link.transit) 0ℚ
-  idle_queue_until e link p s h = IsQueue-same link.capacity (amount e) (amount' e) _ 0ℚ (same_amount e link _ p (in_time (label link.tail until) (label link.head until) link.transit s)) (step.holds.idle_queue e link until p now s h)
+  idle_queue_until e link p s h =
+      IsQueue-same link.capacity (amount e) (amount' e) _ 0ℚ (same_amount e link _ p
+      (in_time (label link.tail until) (label link.head until) link.transit s)) (step.holds.idle_queue e link until p now s h)
 
   abbrev EmptyAt : ℕ → Link → ℚ → Type 0
   EmptyAt e link time = link_slack label' link time ≤ℚ 0ℚ → 0ℚ ≤ℚ label' link.head time -ℚ link.transit → IsQueue link.capacity (amount' e) (label' link.head time -ℚ link.transit) 0ℚ
@@ -337,7 +360,8 @@ module _ (net : Network) (amount label : ℕ → ℚ → ℚ) (until length rate
       (λ (n : link_slack label' link (until +ℚ t) <ℚ 0ℚ). empty_unused e link t p w (unused e link t p w n) s h)
       (λ (n : 0ℚ ≤ℚ link_slack label' link (until +ℚ t)).
       subst (λ (y : ℚ). IsQueue link.capacity (amount' e) (label' link.head (until +ℚ t) -ℚ link.transit) y) (queue_by_slack-low link.capacity _ s)
-      (subst (λ (a : ℚ). IsQueue link.capacity (amount' e) a (queue_by_slack link.capacity (link_slack label' link (until +ℚ t)))) (same_time (label' link.tail (until +ℚ t)) (label' link.head (until +ℚ t)) link.transit s n)
+      (subst (λ (a : ℚ). IsQueue link.capacity (amount' e) a (queue_by_slack link.capacity (link_slack label' link (until +ℚ t))))
+          (same_time (label' link.tail (until +ℚ t)) (label' link.head (until +ℚ t)) link.transit s n)
       (queue_after e link t p w)))
       (lt_or_le_ℚ (link_slack label' link (until +ℚ t)) 0ℚ)
 
@@ -357,7 +381,8 @@ module _ (net : Network) (amount label : ℕ → ℚ → ℚ) (until length rate
       lt_along _ _ _ _ (sent_before e link time p w) (sent_before e link after p v) (grows after a (longer after v).1))))
       (λ (l : until ≤ℚ time).
       let d : until +ℚ (time -ℚ until) ≡ time = linear_eq (until ∷ time ∷ []) [] (search reading_of) tt tt in
-      let w : Within 0ℚ length (time -ℚ until) = (linear_le (until ∷ time ∷ []) (le l ∷ []) (search reading_of) tt, linear_le (until ∷ time ∷ length ∷ []) (lt k ∷ []) (search reading_of) tt) in
+      let w : Within 0ℚ length (time -ℚ until) = (linear_le (until ∷ time ∷ []) (le l ∷ []) (search reading_of) tt,
+          linear_le (until ∷ time ∷ length ∷ []) (lt k ∷ []) (search reading_of) tt) in
       subst (λ (z : ℚ). 0ℚ ≤ℚ link_slack label' link z) d (with_flow e link (time -ℚ until) p w
       (has_flow (old_sent e until) (x e) (time -ℚ until) length _ _ (step.thin.flow_nn e) (sent_after e link (time -ℚ until) p w) (sent_after e link length p (step.some, ≤ℚ_refl length))
       (subst (λ (z : ℚ). new_sent e z <ℚ new_sent e (until +ℚ length)) (sym d) (grows (until +ℚ length) k (≤ℚ_refl _))))))
@@ -371,10 +396,14 @@ module _ (net : Network) (amount label : ℕ → ℚ → ℚ) (until length rate
   out_before v time w = sum_out-same net.links _ _ v (λ e link p at. sent_before e link time p w)
 
   in_after : (v : ℕ) (t : ℚ) → Within 0ℚ length t → sum_in net.links (λ e. new_sent e (until +ℚ t)) v ≡ sum_in net.links (λ e. old_sent e until) v +ℚ sum_in net.links x v *ℚ t
-  in_after v t w = sum_in-same net.links (λ e. new_sent e (until +ℚ t)) (λ e. old_sent e until +ℚ x e *ℚ t) v (λ e link p at. sent_after e link t p w) ∙ sum_in-line net.links (λ e. old_sent e until) x t v
+  in_after v t w =
+      sum_in-same net.links (λ e. new_sent e (until +ℚ t)) (λ e. old_sent e until +ℚ x e *ℚ t) v (λ e link p at. sent_after e link t p w)
+      ∙ sum_in-line net.links (λ e. old_sent e until) x t v
 
   out_after : (v : ℕ) (t : ℚ) → Within 0ℚ length t → sum_out net.links (λ e. new_sent e (until +ℚ t)) v ≡ sum_out net.links (λ e. old_sent e until) v +ℚ sum_out net.links x v *ℚ t
-  out_after v t w = sum_out-same net.links (λ e. new_sent e (until +ℚ t)) (λ e. old_sent e until +ℚ x e *ℚ t) v (λ e link p at. sent_after e link t p w) ∙ sum_out-line net.links (λ e. old_sent e until) x t v
+  out_after v t w =
+      sum_out-same net.links (λ e. new_sent e (until +ℚ t)) (λ e. old_sent e until +ℚ x e *ℚ t) v (λ e link p at. sent_after e link t p w)
+      ∙ sum_out-line net.links (λ e. old_sent e until) x t v
 
   -- ---- the theorem
   pub HoldsUpTo-phase : HoldsUpTo net amount' label' (until +ℚ length)
@@ -387,7 +416,8 @@ module _ (net : Network) (amount label : ℕ → ℚ → ℚ) (until length rate
     label_takes = label_takes;
     label_not_negative = λ v h. subst (λ (a : ℚ). 0ℚ ≤ℚ a) (sym (step.goes.label_before v 0ℚ h first)) (step.holds.label_not_negative v h);
     amount_rises = λ e h. amount_rises e (link_within net e h).0 (link_within net e h).1;
-    amount_starts = λ e h. step.goes.amount_before e (link_within net e h).0 0ℚ (link_within net e h).1 (≤ℚ_refl 0ℚ, label_nn _ until (tails e (link_within net e h).0 (link_within net e h).1) now) ∙ step.holds.amount_starts e h;
+    amount_starts = λ e h. step.goes.amount_before e (link_within net e h).0 0ℚ (link_within net e h).1
+        (≤ℚ_refl 0ℚ, label_nn _ until (tails e (link_within net e h).0 (link_within net e h).1) now) ∙ step.holds.amount_starts e h;
     sent_starts = λ e link p. sent_before e link 0ℚ p first ∙ step.holds.sent_starts e link p;
     inner = λ v time h a b w. by_time until length (λ time. sum_in net.links (λ e. new_sent e time) v ≡ sum_out net.links (λ e. new_sent e time) v)
         (λ time w. in_before v time w ∙ step.holds.inner v time h a b w ∙ sym (out_before v time w))

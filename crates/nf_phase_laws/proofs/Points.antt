@@ -63,7 +63,8 @@ record Reached (points : List Point) (last : Point) (r : ℚ) : Type 0 where
 reached : (points : List Point) (last : Point) (r : ℚ) → LastPoint points last → EndsWithSlope points r → Reached points last r
 reached points last r l s =
     let same : s.last ≡ last = same_Some s.last last
-    (sym (last-append None (s.front ++ s.before ∷ []) s.last) ∙ ap (last_or None) (append_assoc s.front (s.before ∷ []) (s.last ∷ []) ∙ sym s.same ∙ l.same) ∙ last-append None l.front last) in
+    (sym (last-append None (s.front ++ s.before ∷ []) s.last) ∙ ap (last_or None) (append_assoc s.front (s.before ∷ []) (s.last ∷ []) ∙ sym s.same ∙ l.same)
+        ∙ last-append None l.front last) in
     record {
       front = s.front;
       before = s.before;
@@ -135,7 +136,8 @@ LastSlope-rates (p ∷ []) (x ∷ rates) h = absurd h
 LastSlope-rates (p ∷ q ∷ rest) [] h = absurd h
 LastSlope-rates (p ∷ q ∷ rest) (x ∷ rates) h = last_rate p q rest x rates h.0 h.1
 
-pub AreSlopes-appended : (front : List Point) (last new : Point) (rates : List ℚ) (r : ℚ) → AreSlopes (front ++ last ∷ []) rates → r ≡ slope last new → AreSlopes ((front ++ last ∷ []) ++ new ∷ []) (rates ++ r ∷ [])
+pub AreSlopes-appended : (front : List Point) (last new : Point) (rates : List ℚ) (r : ℚ) → AreSlopes (front ++ last ∷ []) rates → r ≡ slope last new
+    → AreSlopes ((front ++ last ∷ []) ++ new ∷ []) (rates ++ r ∷ [])
 AreSlopes-appended [] last new [] r h e = (e, tt)
 AreSlopes-appended [] last new (x ∷ rates) r h e = absurd h
 AreSlopes-appended (p ∷ []) last new [] r h e = absurd h
@@ -143,7 +145,8 @@ AreSlopes-appended (p ∷ []) last new (x ∷ rates) r h e = (h.0, AreSlopes-app
 AreSlopes-appended (p ∷ q ∷ front) last new [] r h e = absurd h
 AreSlopes-appended (p ∷ q ∷ front) last new (x ∷ rates) r h e = (h.0, AreSlopes-appended (q ∷ front) last new rates r h.1 e)
 
-AreSlopes-replaced : (front : List Point) (before last new : Point) (rates : List ℚ) → AreSlopes (front ++ before ∷ last ∷ []) rates → slope before last ≡ slope before new → AreSlopes (front ++ before ∷ new ∷ []) rates
+AreSlopes-replaced : (front : List Point) (before last new : Point) (rates : List ℚ) → AreSlopes (front ++ before ∷ last ∷ []) rates
+    → slope before last ≡ slope before new → AreSlopes (front ++ before ∷ new ∷ []) rates
 AreSlopes-replaced [] before last new [] h e = absurd h
 AreSlopes-replaced [] before last new (x ∷ []) h e = (h.0 ∙ e, tt)
 AreSlopes-replaced [] before last new (x ∷ y ∷ rates) h e = absurd h.1

@@ -53,7 +53,8 @@ tight_unused c s l m x t n h i j d e f w =
 
 queue_tight : (c s l m x t n : ℚ) → 0ℚ <ℚ c → 0ℚ ≤ℚ l → 0ℚ ≤ℚ t → 0ℚ ≤ℚ x → s ≡ 0ℚ → n ≡ s +ℚ (m -ℚ l) *ℚ t → LinkLaw (Some c) s x l m → QueueCase c l x (c *ℚ s) t n
 queue_tight c s l m x t n h i j k d e p = ⊎_elim
-    (λ (g : 0ℚ <ℚ x). let u : (l ≤ℚ m) × (x ≤ℚ c *ℚ m) = p.used c refl (≤ℚ_of_same _ _ d) g in tight_used c s l m x t n (≤ℚ_of_lt _ _ h) j d e u.0 u.1 (p.upper c refl (≤ℚ_of_same _ _ d)))
+    (λ (g : 0ℚ <ℚ x). let u : (l ≤ℚ m) × (x ≤ℚ c *ℚ m) = p.used c refl (≤ℚ_of_same _ _ d) g in
+        tight_used c s l m x t n (≤ℚ_of_lt _ _ h) j d e u.0 u.1 (p.upper c refl (≤ℚ_of_same _ _ d)))
     (λ (g : x ≤ℚ 0ℚ). tight_unused c s l m x t n h i j d e (≤ℚ_antisymm _ _ g k) (p.upper c refl (≤ℚ_of_same _ _ d)))
     (lt_or_le_ℚ 0ℚ x)
 
@@ -94,7 +95,8 @@ by_case c f a end r l x t q n pos e line h k before (stays i d) = subst (λ (y :
     times_none c m e = linear_eq (c ∷ m ∷ []) (eq_times c e ∷ []) (search reading_of) tt tt
 
 -- ---- the queue that a particle meets stays that of the slack
-pub IsQueue-by_slack : (capacity : Option ℚ) (f : ℚ → ℚ) (a end r s n x l m t : ℚ) → LinkStep capacity s n x l m t → r *ℚ l ≡ x → IsAffine f a end r → a ≤ℚ a +ℚ l *ℚ t → a +ℚ l *ℚ t ≤ℚ end
+pub IsQueue-by_slack : (capacity : Option ℚ) (f : ℚ → ℚ) (a end r s n x l m t : ℚ) → LinkStep capacity s n x l m t → r *ℚ l ≡ x → IsAffine f a end r
+    → a ≤ℚ a +ℚ l *ℚ t → a +ℚ l *ℚ t ≤ℚ end
     → IsQueue capacity f a (queue_by_slack capacity s) → IsQueue capacity f (a +ℚ l *ℚ t) (queue_by_slack capacity n)
 IsQueue-by_slack None f a end r s n x l m t k e line h j before = IsQueue-none f (a +ℚ l *ℚ t)
 IsQueue-by_slack (Some c) f a end r s n x l m t k e line h j before = by_case c f a end r l x t _ n (k.positive c refl) e line h j before (queue_case c s n x l m t k)

@@ -20,10 +20,12 @@ last_slope-at (p ∷ q ∷ s ∷ front) before last = last_slope-at (q ∷ s ∷
 
 ended_by : (points : List Point) (r : ℚ) (front : List Point) (before last : Point) → EndsWithSlope points r → points ≡ front ++ before ∷ last ∷ [] → slope before last ≡ r
 ended_by points r front before last ends same =
-    same_Some (slope before last) r (sym (last_slope-at front before last) ∙ ap last_slope (sym same ∙ ends.same) ∙ last_slope-at ends.front ends.before ends.last ∙ ap (λ (x : ℚ). Some x) ends.slope_is)
+    same_Some (slope before last) r (sym (last_slope-at front before last) ∙ ap last_slope (sym same ∙ ends.same)
+        ∙ last_slope-at ends.front ends.before ends.last ∙ ap (λ (x : ℚ). Some x) ends.slope_is)
 
 -- ---- a point after the last, and one that replaces it
-IsShort-appended : (front : List Point) (before last new : Point) → IsShort (front ++ before ∷ last ∷ []) → (slope before last ≡ slope last new → ⊥) → IsShort (front ++ before ∷ last ∷ new ∷ [])
+IsShort-appended : (front : List Point) (before last new : Point) → IsShort (front ++ before ∷ last ∷ []) → (slope before last ≡ slope last new → ⊥)
+    → IsShort (front ++ before ∷ last ∷ new ∷ [])
 IsShort-appended [] before last new h other = (other, tt)
 IsShort-appended (p ∷ []) before last new h other = (h.0, IsShort-appended [] before last new h.1 other)
 IsShort-appended (p ∷ q ∷ []) before last new h other = (h.0, IsShort-appended (q ∷ []) before last new h.1 other)
@@ -52,14 +54,16 @@ module _ (points : List Point) (new : Point) (b r : ℚ) (s : EndsWithSlope poin
 
   short_by : (same : Bool) → is_same b r ≡ same → EndsWithSlope (with_point same points new) r → IsShort (with_point same points new)
   short_by true e ends =
-      let f : take (length points - 1) points ++ new ∷ [] ≡ s.front ++ s.before ∷ new ∷ [] = ap (λ (ps : List Point). take (length ps - 1) ps ++ new ∷ []) s.same ∙ taken s.front s.before s.last new in
+      let f : take (length points - 1) points ++ new ∷ [] ≡ s.front ++ s.before ∷ new ∷ [] =
+          ap (λ (ps : List Point). take (length ps - 1) ps ++ new ∷ []) s.same ∙ taken s.front s.before s.last new in
       subst IsShort (sym f) (IsShort-replaced s.front s.before s.last new here (s.slope_is ∙ same_of_test b r e ∙ sym (ended_by _ r s.front s.before new ends f)))
   short_by false e ends =
       let f : points ++ new ∷ [] ≡ s.front ++ s.before ∷ s.last ∷ new ∷ [] = ap (λ (ps : List Point). ps ++ new ∷ []) s.same ∙ append_assoc s.front (s.before ∷ s.last ∷ []) (new ∷ []) in
       let g : slope s.last new ≡ r = ended_by _ r (s.front ++ s.before ∷ []) s.last new ends (f ∙ sym (append_assoc s.front (s.before ∷ []) (s.last ∷ new ∷ []))) in
       subst IsShort (sym f) (IsShort-appended s.front s.before s.last new here (λ h. differ_of_test b r e (sym s.slope_is ∙ h ∙ g)))
 
-pub IsShort-after : (points : List Point) (o : Option ℚ) (new : Point) (r : ℚ) → LastSlope points o → HasOnePoint points o → IsShort points → EndsWithSlope (with_point (keeps_slope o r) points new) r
+pub IsShort-after : (points : List Point) (o : Option ℚ) (new : Point) (r : ℚ) → LastSlope points o → HasOnePoint points o → IsShort points
+    → EndsWithSlope (with_point (keeps_slope o r) points new) r
     → IsShort (with_point (keeps_slope o r) points new)
 IsShort-after points None new r s one short ends = subst (λ (ps : List Point). IsShort (ps ++ new ∷ [])) (sym one.1) tt
 IsShort-after points (Some b) new r s one short ends = short_by points new b r s short (is_same b r) refl ends
@@ -69,7 +73,8 @@ pub record IsShortCurve (curve : GrowingCurve) : Type 0 where
   pub short : IsShort curve.points
   pub one : HasOnePoint curve.points curve.slope
 
-pub IsShortCurve-with : (curve : GrowingCurve) (new : Point) (r : ℚ) → LastSlope curve.points curve.slope → IsShortCurve curve → LastSlope (curve_with curve new r).points (curve_with curve new r).slope
+pub IsShortCurve-with : (curve : GrowingCurve) (new : Point) (r : ℚ) → LastSlope curve.points curve.slope → IsShortCurve curve
+    → LastSlope (curve_with curve new r).points (curve_with curve new r).slope
     → IsShortCurve (curve_with curve new r)
 IsShortCurve-with curve new r s is ends = record { short = IsShort-after curve.points curve.slope new r s is.one is.short ends; one = tt }
 

@@ -53,7 +53,8 @@ record LabelBefore (time : ℚ) (found : Option GrowingCurve) (after : GrowingCu
   pub slope : ℚ
   pub is : curve_with before (time, label) slope ≡ after
 
-label_before : (time : ℚ) (labels slopes : List ℚ) (curves : List GrowingCurve) (v : ℕ) (after : GrowingCurve) → slice_get (label_curves_after time labels slopes curves) v ≡ Some after → LabelBefore time (slice_get curves v) after
+label_before : (time : ℚ) (labels slopes : List ℚ) (curves : List GrowingCurve) (v : ℕ) (after : GrowingCurve)
+    → slice_get (label_curves_after time labels slopes curves) v ≡ Some after → LabelBefore time (slice_get curves v) after
 label_before time [] slopes curves v after h = absurd (none-some after h)
 label_before time (x ∷ labels) [] curves v after h = absurd (none-some after h)
 label_before time (x ∷ labels) (r ∷ slopes) [] v after h = absurd (none-some after h)
@@ -67,7 +68,8 @@ record LinkBefore (labels : List ℚ) (found : Option LinkCurves) (after : LinkC
   pub step : LinkStep
   pub is : curves_after labels link before step ≡ after
 
-link_before : (labels : List ℚ) (links : List Link) (curves : List LinkCurves) (steps : List LinkStep) (e : ℕ) (after : LinkCurves) → slice_get (link_curves_after labels links curves steps) e ≡ Some after → LinkBefore labels (slice_get curves e) after
+link_before : (labels : List ℚ) (links : List Link) (curves : List LinkCurves) (steps : List LinkStep) (e : ℕ) (after : LinkCurves)
+    → slice_get (link_curves_after labels links curves steps) e ≡ Some after → LinkBefore labels (slice_get curves e) after
 link_before labels [] curves steps e after h = absurd (none-some after h)
 link_before labels (l ∷ links) [] steps e after h = absurd (none-some after h)
 link_before labels (l ∷ links) (c ∷ curves) [] e after h = absurd (none-some after h)
@@ -75,7 +77,8 @@ link_before labels (l ∷ links) (c ∷ curves) (t ∷ steps) zero after h = rec
 link_before labels (l ∷ links) (c ∷ curves) (t ∷ steps) (suc e) after h = link_before labels links curves steps e after h
 
 -- ---- one phase
-module _ (net : Network) (s : Standing) (pattern : Pattern) (slopes : List ℚ) (step : PhaseStep) (well : WellRun net s) (well_after : WellRun net (standing_after net s pattern slopes step)) (short : ShortRun s) where
+module _ (net : Network) (s : Standing) (pattern : Pattern) (slopes : List ℚ) (step : PhaseStep) (well : WellRun net s)
+    (well_after : WellRun net (standing_after net s pattern slopes step)) (short : ShortRun s) where
   abbrev new : Standing
   new = standing_after net s pattern slopes step
 

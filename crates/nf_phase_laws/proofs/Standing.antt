@@ -30,13 +30,17 @@ module _ (net : Network) (good : IsNetwork net) (s : Standing) (well : WellRun n
   -- no slack of an unbounded link is above 0
   pub unbounded_slack_at : (e : ℕ) (link : Link) → IsLink net e link → link.capacity ≡ None → slack s.labels (hop_of link) ≤ℚ 0ℚ
   unbounded_slack_at e link p none = subst (λ (x : ℚ). x ≤ℚ 0ℚ)
-      (sym (slack-is net (at curves.inflows) (at curves.labels) s.time s.labels good grown_at.stands.holds grown_at.stands.same e link p)) (grown_at.stands.holds.unbounded e link s.time p none now)
+      (sym (slack-is net (at curves.inflows) (at curves.labels) s.time s.labels good grown_at.stands.holds grown_at.stands.same e link p))
+          (grown_at.stands.holds.unbounded e link s.time p none now)
 
   pub ends_at : EndsAtLabels net s
   ends_at = record {
     labels = λ v c here. (let inside : v < net.nodes = (let n = well.label_count in let w = slice_get_within s.label_curves v c here in omega arith) in
         ap end_of (sym (label_points s v c here)) ∙ end-last _ _ (grown_at.curves_stand.labels_end v inside));
-    inflows = λ e link c p here. (ap end_of (sym (inflow_points s e c here)) ∙ end-last _ _ (grown_at.curves_stand.inflows_end e link p) ∙ grown_at.stands.same link.tail (good.tails e link p));
-    outflows = λ e link c p here. (ap end_of (sym (outflow_points s e c here)) ∙ end-last _ _ (grown_at.description_stands.outflows_end e link p) ∙ grown_at.stands.same link.head (good.heads e link p));
-    queues = λ e link c p here. (ap end_of (sym (queue_points s e c here)) ∙ end-last _ _ (grown_at.description_stands.queues_end e link p) ∙ grown_at.stands.same link.tail (good.tails e link p));
+    inflows = λ e link c p here. (ap end_of (sym (inflow_points s e c here)) ∙ end-last _ _ (grown_at.curves_stand.inflows_end e link p)
+        ∙ grown_at.stands.same link.tail (good.tails e link p));
+    outflows = λ e link c p here. (ap end_of (sym (outflow_points s e c here)) ∙ end-last _ _ (grown_at.description_stands.outflows_end e link p)
+        ∙ grown_at.stands.same link.head (good.heads e link p));
+    queues = λ e link c p here. (ap end_of (sym (queue_points s e c here)) ∙ end-last _ _ (grown_at.description_stands.queues_end e link p)
+        ∙ grown_at.stands.same link.tail (good.tails e link p));
   }

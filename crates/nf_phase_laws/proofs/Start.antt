@@ -43,9 +43,11 @@ module _ (net : Network) (labels : List ℚ) (amount label : ℕ → ℚ → ℚ
   pub slack_none : (e : ℕ) (link : Link) → IsLink net e link → link_slack label link 0ℚ ≤ℚ 0ℚ
   slack_none e link p = ⊎_elim
       (λ (s : (eqb link.head net.source ≡ true) × (link.head ≡ net.source)).
-      into_source (label link.tail 0ℚ) (label link.head 0ℚ) link.transit (ap (λ (v : ℕ). label v 0ℚ) s.1 ∙ source_first) (label_not_negative link.tail (good.tails e link p)) (good.transits e link p))
+      into_source (label link.tail 0ℚ) (label link.head 0ℚ) link.transit (ap (λ (v : ℕ). label v 0ℚ) s.1 ∙ source_first)
+          (label_not_negative link.tail (good.tails e link p)) (good.transits e link p))
       (λ (s : (eqb link.head net.source ≡ false) × (link.head ≢ net.source)).
-      into_other (label link.tail 0ℚ) (label link.head 0ℚ) _ _ link.transit (start.labels_are link.tail (good.tails e link p)) (start.labels_are link.head (good.heads e link p)) (transit_labels.none_shorter e link p s.1))
+      into_other (label link.tail 0ℚ) (label link.head 0ℚ) _ _ link.transit (start.labels_are link.tail (good.tails e link p))
+          (start.labels_are link.head (good.heads e link p)) (transit_labels.none_shorter e link p s.1))
       (eqb_tells link.head net.source)
 
   -- ---- each node but the source has an active link into it
@@ -55,7 +57,8 @@ module _ (net : Network) (labels : List ℚ) (amount label : ℕ → ℚ → ℚ
   entered_first : (v : ℕ) → v < net.nodes → v ≢ net.source → (e : ℕ) × (link : Link) × IsLink net e link × (link.head ≡ v) × (0ℚ ≤ℚ link_slack label link 0ℚ)
   entered_first v h other =
       let n : (e : ℕ) × (link : Link) × IsLink net e link × (link.head ≡ v) × (number_at labels v ≡ number_at labels link.tail +ℚ link.transit) = transit_labels.entered v h other in
-      (n.0, n.1, n.2, n.3, just_there (label n.1.tail 0ℚ) (label n.1.head 0ℚ) _ _ _ n.1.transit (start.labels_are n.1.tail (good.tails n.0 n.1 n.2)) (start.labels_are n.1.head (good.heads n.0 n.1 n.2)) (ap (number_at labels) n.3) n.4)
+      (n.0, n.1, n.2, n.3, just_there (label n.1.tail 0ℚ) (label n.1.head 0ℚ) _ _ _ n.1.transit (start.labels_are n.1.tail (good.tails n.0 n.1 n.2))
+          (start.labels_are n.1.head (good.heads n.0 n.1 n.2)) (ap (number_at labels) n.3) n.4)
 
   -- ---- nothing is sent, and nothing waits
   nothing_at : (e : ℕ) (link : Link) (time : ℚ) → IsLink net e link → 0ℚ ≤ℚ time → amount e time ≡ 0ℚ
@@ -65,7 +68,9 @@ module _ (net : Network) (labels : List ℚ) (amount label : ℕ → ℚ → ℚ
   nothing_sent e link p = sent-is net amount label e link 0ℚ p ∙ nothing_at e link (label link.tail 0ℚ) p (label_not_negative link.tail (good.tails e link p))
 
   no_queue : (e : ℕ) (link : Link) (time : ℚ) → IsLink net e link → 0ℚ ≤ℚ time → IsQueue link.capacity (amount e) time 0ℚ
-  no_queue e link time p h = IsQueue-before_any link.capacity (amount e) time (IsPositive-link net e link good p) h (λ t i _. nothing_at e link t p i ∙ sym (nothing_at e link 0ℚ p (≤ℚ_refl 0ℚ)))
+  no_queue e link time p h =
+      IsQueue-before_any link.capacity (amount e) time (IsPositive-link net e link good p) h
+      (λ t i _. nothing_at e link t p i ∙ sym (nothing_at e link 0ℚ p (≤ℚ_refl 0ℚ)))
 
   in_none : (v : ℕ) → sum_in net.links (λ e. sent net amount label e 0ℚ) v ≡ 0ℚ
   in_none v = sum_in-same net.links (λ e. sent net amount label e 0ℚ) (λ _. 0ℚ) v (λ e link p _. nothing_sent e link p) ∙ sum_in-none net.links v
@@ -98,9 +103,11 @@ module _ (net : Network) (labels : List ℚ) (amount label : ℕ → ℚ → ℚ
     sent_starts = nothing_sent;
     inner = λ v departure h a b w. at_first (λ departure. sum_in net.links (λ e. sent net amount label e departure) v ≡ sum_out net.links (λ e. sent net amount label e departure) v)
         (in_none v ∙ sym (out_none v)) departure w;
-    supplied = at_first (λ departure. sum_in net.links (λ e. sent net amount label e departure) net.source +ℚ supply net departure ≡ sum_out net.links (λ e. sent net amount label e departure) net.source)
+    supplied = at_first (λ departure. sum_in net.links (λ e. sent net amount label e departure) net.source +ℚ supply net departure ≡ sum_out net.links
+        (λ e. sent net amount label e departure) net.source)
         (add_none _ _ _ (in_none net.source) unsupplied (out_none net.source));
-    drained = at_first (λ departure. sum_in net.links (λ e. sent net amount label e departure) net.sink ≡ sum_out net.links (λ e. sent net amount label e departure) net.sink +ℚ supply net departure)
+    drained = at_first (λ departure. sum_in net.links (λ e. sent net amount label e departure) net.sink ≡ sum_out net.links
+        (λ e. sent net amount label e departure) net.sink +ℚ supply net departure)
         (sym (add_none _ _ _ (out_none net.sink) unsupplied (in_none net.sink)));
     queue = λ e link departure p w. at_first (λ departure. IsQueue link.capacity (amount e) (label link.tail departure) (queue_by_slack link.capacity (link_slack label link departure)))
         (subst (λ (y : ℚ). IsQueue link.capacity (amount e) (label link.tail 0ℚ) y) (sym (queue_by_slack-low link.capacity _ (slack_none e link p)))
@@ -108,7 +115,8 @@ module _ (net : Network) (labels : List ℚ) (amount label : ℕ → ℚ → ℚ
     unbounded = λ e link departure p _ w. at_first (λ departure. link_slack label link departure ≤ℚ 0ℚ) (slack_none e link p) departure w;
     entered = λ v departure h other w. at_first (λ departure. (e : ℕ) × (link : Link) × IsLink net e link × (link.head ≡ v) × (0ℚ ≤ℚ link_slack label link departure))
         (entered_first v h other) departure w;
-    idle = λ e link departure time p w _ h _ _. at_first (λ departure. amount e time ≡ sent net amount label e departure) (nothing_at e link time p h ∙ sym (nothing_sent e link p)) departure w;
+    idle = λ e link departure time p w _ h _ _. at_first (λ departure. amount e time ≡ sent net amount label e departure)
+        (nothing_at e link time p h ∙ sym (nothing_sent e link p)) departure w;
     idle_queue = λ e link departure p w _ h. no_queue e link _ p h;
     used = λ e link departure p h k grows. absurd (not_both_ℚ _ _ k h);
   }

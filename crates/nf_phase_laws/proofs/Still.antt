@@ -21,7 +21,8 @@ exit_still false (Some rate) x l c h e = absurd (no_quotient x rate (x /ℚ rate
     (λ (w : (max_ℚ l (x /ℚ rate) ≡ l) × (x /ℚ rate <ℚ l)). ≤ℚ_trans _ _ _ (≤ℚ_of_lt _ _ w.1) (≤ℚ_of_same _ _ (sym w.0 ∙ e)))
     (max_ℚ_cases l (x /ℚ rate))))
 
-module _ (net : Network) (labels : List ℚ) (rate : ℚ) (flows slopes : List ℚ) (good : IsNetwork net) (not_negative : 0ℚ ≤ℚ rate) (thin : IsThinFlow net (sets_at net labels) rate flows slopes) where
+module _ (net : Network) (labels : List ℚ) (rate : ℚ) (flows slopes : List ℚ) (good : IsNetwork net) (not_negative : 0ℚ ≤ℚ rate)
+    (thin : IsThinFlow net (sets_at net labels) rate flows slopes) where
   moves_on : (v : ℕ) → number_at slopes v ≡ 0ℚ → v ≢ net.source
   moves_on v still at = apart (number_at slopes v) still (ap (number_at slopes) at ∙ thin.starts)
     where
@@ -60,7 +61,8 @@ module _ (net : Network) (labels : List ℚ) (rate : ℚ) (flows slopes : List �
   comes_in : (v : ℕ) → v < net.nodes → Sends v → 0ℚ <ℚ sum_in net.links (number_at flows) v
   comes_in v h (still, (e, link, p, at, f)) = ⊎_elim
       (λ (s : (eqb v net.sink ≡ true) × (v ≡ net.sink)). subst (λ (k : ℕ). 0ℚ <ℚ sum_in net.links (number_at flows) k) (sym s.1)
-      (sink_some _ _ _ rate (IsThinFlow-sink net good (sets_at net labels) rate flows slopes thin) not_negative (subst (λ (k : ℕ). number_at flows e ≤ℚ sum_out net.links (number_at flows) k) s.1 most) f))
+      (sink_some _ _ _ rate (IsThinFlow-sink net good (sets_at net labels) rate flows slopes thin) not_negative
+          (subst (λ (k : ℕ). number_at flows e ≤ℚ sum_out net.links (number_at flows) k) s.1 most) f))
       (λ (s : (eqb v net.sink ≡ false) × (v ≢ net.sink)). inner_some _ _ _ (thin.inner v h (moves_on v still) s.1) most f)
       (eqb_tells v net.sink)
     where
@@ -87,7 +89,8 @@ module _ (net : Network) (labels : List ℚ) (rate : ℚ) (flows slopes : List �
     (λ w way. (
       e ∷ way.0,
       IsWalk-link net e way.0 w link p (subst (λ (k : ℕ). IsWalk (hops net) way.0 k w) (sym at) way.1),
-      further (number_at labels link.tail) (number_at labels link.head) _ _ link.transit _ (transit_of-is net e link p) long (subst (λ (k : ℕ). number_at labels k +ℚ transit_sum (hops net) way.0 ≤ℚ number_at labels w) (sym at) way.2),
+      further (number_at labels link.tail) (number_at labels link.head) _ _ link.transit _ (transit_of-is net e link p) long
+          (subst (λ (k : ℕ). number_at labels k +ℚ transit_sum (hops net) way.0 ≤ℚ number_at labels w) (sym at) way.2),
     )),
     (λ way. closed (number_at labels link.tail) (number_at labels link.head) _ link.transit _ (transit_of-is net e link p) long
         (subst (λ (k : ℕ). number_at labels k +ℚ transit_sum (hops net) way.0 ≤ℚ number_at labels link.tail) (sym at) way.2)

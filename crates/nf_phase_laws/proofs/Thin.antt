@@ -80,10 +80,12 @@ pub record IsThinBy (net : Network) (slack : Link → ℚ) (rate : ℚ) (x slope
   pub drained : sum_in net.links x net.sink ≡ sum_out net.links x net.sink +ℚ rate
 
 -- ---- a walk takes at least its transit times
-Arrives-after : (net : Network) (amount : ℕ → ℚ → ℚ) → IsNetwork net → (walk : List ℕ) (time arrival : ℚ) → Arrives net amount walk time arrival → time +ℚ transit_sum (hops net) walk ≤ℚ arrival
+Arrives-after : (net : Network) (amount : ℕ → ℚ → ℚ) → IsNetwork net → (walk : List ℕ) (time arrival : ℚ) → Arrives net amount walk time arrival
+    → time +ℚ transit_sum (hops net) walk ≤ℚ arrival
 Arrives-after net amount good [] time arrival a = plus_zero_le time arrival a
 Arrives-after net amount good (e ∷ walk) time arrival (link, p, exit, is_exit, rest) =
-    more time exit arrival link.transit _ _ (transit_of-is net e link p) (IsExit-after link.transit link.capacity (amount e) time exit (IsPositive-link net e link good p) is_exit) (Arrives-after net amount good walk exit arrival rest)
+    more time exit arrival link.transit _ _ (transit_of-is net e link p) (IsExit-after link.transit link.capacity (amount e) time exit
+        (IsPositive-link net e link good p) is_exit) (Arrives-after net amount good walk exit arrival rest)
   where
     more : (t x a r q l : ℚ) → q ≡ r → t +ℚ r ≤ℚ x → x +ℚ l ≤ℚ a → t +ℚ (q +ℚ l) ≤ℚ a
     more t x a r q l e h k = linear_le (t ∷ x ∷ a ∷ r ∷ q ∷ l ∷ []) (eq e ∷ le h ∷ le k ∷ []) (search reading_of) tt
@@ -151,7 +153,8 @@ module _ (net : Network) (amount label : ℕ → ℚ → ℚ) (until : ℚ) (lab
       n.head,
       subst (λ (s : ℚ). 0ℚ ≤ℚ s) (slack-is e link n.is_link) (slack_of_active net labels e link n.is_link n.active),
       λ h. subst (λ (k : ℕ). number_at slopes link.tail ≤ℚ number_at slopes k) (sym n.head)
-          (subst (λ (y : ℚ). number_at slopes link.tail ≤ℚ y) (ap (λ (b : Bool). exit_slope b link.capacity (number_at flows e) (number_at slopes link.tail)) (sym (not_above e link n.is_link h)) ∙ r)
+          (subst (λ (y : ℚ). number_at slopes link.tail ≤ℚ y) (ap (λ (b : Bool). exit_slope b link.capacity (number_at flows e)
+              (number_at slopes link.tail)) (sym (not_above e link n.is_link h)) ∙ r)
           (exit_slope-tail link.capacity (number_at flows e) (number_at slopes link.tail))),
     )
 

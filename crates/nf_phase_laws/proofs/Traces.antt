@@ -33,7 +33,8 @@ pub record TraceStep (points : List Point) (after : Trace) (a y t flow sl : ℚ)
   pub stays : sl ≡ 0ℚ → after.points ≡ points
   pub rates : AreSlopes after.points after.rates
 
-module _ (trace : Trace) (flow sl : ℚ) (points : List Point) (a y t label amount : ℚ) (same : points ≡ trace.points) (are : AreSlopes trace.points trace.rates) (l : LastPoint points (a, y)) (some : 0ℚ <ℚ t)
+module _ (trace : Trace) (flow sl : ℚ) (points : List Point) (a y t label amount : ℚ) (same : points ≡ trace.points)
+    (are : AreSlopes trace.points trace.rates) (l : LastPoint points (a, y)) (some : 0ℚ <ℚ t)
     (label_is : label ≡ a +ℚ sl *ℚ t) (amount_is : amount ≡ y +ℚ flow *ℚ t) (last_slope : LastSlope trace.points (last_or None trace.rates)) where
   trace_by : (b : Bool) → is_positive sl ≡ b → TraceStep points (trace_after trace label amount (rate_value b flow sl)) a y t flow sl
   trace_by true h =
@@ -46,7 +47,8 @@ module _ (trace : Trace) (flow sl : ℚ) (points : List Point) (a y t label amou
       record {
         goes = λ _. w.goes;
         stays = λ e. absurd (not_both_ℚ 0ℚ sl moves (≤ℚ_of_same _ _ e));
-        rates = subst (λ (p : Point). AreSlopes (with_point (keeps_slope (last_or None trace.rates) (flow /ℚ sl)) trace.points p) (with_rate (keeps_slope (last_or None trace.rates) (flow /ℚ sl)) trace.rates (flow /ℚ sl))) (sym raw)
+        rates = subst (λ (p : Point). AreSlopes (with_point (keeps_slope (last_or None trace.rates) (flow /ℚ sl)) trace.points p)
+            (with_rate (keeps_slope (last_or None trace.rates) (flow /ℚ sl)) trace.rates (flow /ℚ sl))) (sym raw)
             (AreSlopes-after trace.points trace.rates (a, y) (a +ℚ sl *ℚ t, y +ℚ flow *ℚ t) (flow /ℚ sl) (subst (λ (ps : List Point). LastPoint ps (a, y)) same l) later
             (slope_is (a, y) (a +ℚ sl *ℚ t, y +ℚ flow *ℚ t) (flow /ℚ sl) later times) are);
       }
@@ -61,7 +63,8 @@ pub record QueueStepped (points : List Point) (after : GrowingCurve) (a y t sl s
   pub stays : sl ≡ 0ℚ → after.points ≡ points
   pub slopes : LastSlope after.points after.slope
 
-module _ (curve : GrowingCurve) (link : LinkPhase) (flow sl : ℚ) (points : List Point) (a y t label size : ℚ) (same : points ≡ curve.points) (last_slope : LastSlope curve.points curve.slope)
+module _ (curve : GrowingCurve) (link : LinkPhase) (flow sl : ℚ) (points : List Point) (a y t label size : ℚ) (same : points ≡ curve.points)
+    (last_slope : LastSlope curve.points curve.slope)
     (l : LastPoint points (a, y)) (some : 0ℚ <ℚ t) (label_is : label ≡ a +ℚ sl *ℚ t)
     (size_is : queue_by_slack link.capacity (link.head_label -ℚ (link.tail_label +ℚ link.transit)) ≡ size)
     (times : 0ℚ <ℚ sl → filled_slope link.filled link.capacity (flow /ℚ sl) *ℚ (sl *ℚ t) ≡ size -ℚ y) where

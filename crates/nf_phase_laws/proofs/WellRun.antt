@@ -47,7 +47,9 @@ pub record WellRun (net : Network) (s : Standing) : Type 0 where
 
 -- The number of phases and the last pattern do not matter.
 pub WellRun-counted : (net : Network) (s : Standing) (made : ℕ) (last : Pattern) → WellRun net s → WellRun net (record s { made = made; last = last })
-WellRun-counted net s made last w = record { grow = w.grow; label_count = w.label_count; link_count = w.link_count; label_slopes = w.label_slopes; inflow_rates = w.inflow_rates; outflow_rates = w.outflow_rates; queue_slopes = w.queue_slopes }
+WellRun-counted net s made last w =
+    record { grow = w.grow; label_count = w.label_count; link_count = w.link_count; label_slopes = w.label_slopes; inflow_rates =
+    w.inflow_rates; outflow_rates = w.outflow_rates; queue_slopes = w.queue_slopes }
 
 -- ---- the start
 flat : (l : ℚ) → 0ℚ *ℚ (l -ℚ 0ℚ) ≡ 0ℚ -ℚ 0ℚ
@@ -84,7 +86,8 @@ module _ (net : Network) (good : IsNetwork net) (s : Standing) (h : IsStart net 
   first = record {
     label_curves = λ v k. label_points s v (first_label_curve (number_at s.labels v)) (label_entry v k);
     inflows = λ e link p. inflow_points s e (first_curves s.labels link) (link_entry e link p) ∙ trace_points (is_positive (number_at s.labels link.tail)) (number_at s.labels link.tail);
-    outflows = λ e link p. outflow_points s e (first_curves s.labels link) (link_entry e link p) ∙ trace_points (is_positive (number_at s.labels link.head)) (number_at s.labels link.head);
+    outflows = λ e link p. outflow_points s e (first_curves s.labels link) (link_entry e link p)
+        ∙ trace_points (is_positive (number_at s.labels link.head)) (number_at s.labels link.head);
     queues = λ e link p. queue_points s e (first_curves s.labels link) (link_entry e link p) ∙ queue_first (is_positive (number_at s.labels link.tail)) (number_at s.labels link.tail);
   }
 
@@ -105,7 +108,10 @@ module _ (net : Network) (good : IsNetwork net) (s : Standing) (h : IsStart net 
     link_count = ap length h.link_curves ∙ length-map net.links (first_curves s.labels);
     label_slopes = λ v c at. (let w = from_map first_label_curve s.labels v c (ap (λ (l : List GrowingCurve). slice_get l v) (sym h.label_curves) ∙ at) in
         subst (λ (c : GrowingCurve). LastSlope c.points c.slope) w.2 tt);
-    inflow_rates = λ e c at. by_first e c at (λ c. AreSlopes c.inflow.points c.inflow.rates) (λ link. first_rates (is_positive (number_at s.labels link.tail)) (number_at s.labels link.tail) refl);
-    outflow_rates = λ e c at. by_first e c at (λ c. AreSlopes c.outflow.points c.outflow.rates) (λ link. first_rates (is_positive (number_at s.labels link.head)) (number_at s.labels link.head) refl);
-    queue_slopes = λ e c at. by_first e c at (λ c. LastSlope c.queue.points c.queue.slope) (λ link. first_slope (is_positive (number_at s.labels link.tail)) (number_at s.labels link.tail) refl);
+    inflow_rates = λ e c at. by_first e c at (λ c. AreSlopes c.inflow.points c.inflow.rates)
+        (λ link. first_rates (is_positive (number_at s.labels link.tail)) (number_at s.labels link.tail) refl);
+    outflow_rates = λ e c at. by_first e c at (λ c. AreSlopes c.outflow.points c.outflow.rates)
+        (λ link. first_rates (is_positive (number_at s.labels link.head)) (number_at s.labels link.head) refl);
+    queue_slopes = λ e c at. by_first e c at (λ c. LastSlope c.queue.points c.queue.slope)
+        (λ link. first_slope (is_positive (number_at s.labels link.tail)) (number_at s.labels link.tail) refl);
   }

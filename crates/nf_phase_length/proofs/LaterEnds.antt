@@ -22,7 +22,8 @@ module _ (passes : Passing) (net : Network) (slacks slopes : List ℚ) (time : �
   after : (e l : ℚ) → 0ℚ <ℚ l → e ≡ time +ℚ l → time <ℚ e
   after e l k f = linear_lt (time ∷ e ∷ l ∷ []) (lt k ∷ eq f ∷ []) (search reading_of depth 12) tt
 
-  by_length : (length : Option ℚ) → MatchOption length (IsUnending net slacks slopes time) (IsExtension net slacks slopes time) → (end : ℚ) → end_after passes time length ≡ Ok (Some end) → time <ℚ end
+  by_length : (length : Option ℚ) → MatchOption length (IsUnending net slacks slopes time) (IsExtension net slacks slopes time) → (end : ℚ)
+      → end_after passes time length ≡ Ok (Some end) → time <ℚ end
   by_length None h end e = absurd (cc)
   by_length (Some length) h end e =
       let w = then_ok (checked passes Sum time length) (λ (end : ℚ). Ok (Some end)) (Some end) e in

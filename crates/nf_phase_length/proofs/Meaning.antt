@@ -26,9 +26,11 @@ module _ (passes : Passing) (net : Network) (slacks slopes : List ℚ) (time : �
   length_means (Err p) h = tt
 
 -- The links, and then the next change of the inflow rate.
-pub whole_list : (passes : Passing) (net : Network) (slacks slopes : List ℚ) (time : ℚ) (least change : Option ℚ) (result : Result (Option ℚ) (PassedAt ℚ)) → Ok least ≡ at_part Extend (after_all passes net slacks slopes)
+pub whole_list : (passes : Passing) (net : Network) (slacks slopes : List ℚ) (time : ℚ) (least change : Option ℚ) (result : Result (Option ℚ) (PassedAt ℚ))
+    → Ok least ≡ at_part Extend (after_all passes net slacks slopes)
     → change ≡ next_change net time → result ≡ at_part Extend (until_change passes least time change) → result ≡ at_part Extend (extend_list passes net slacks slopes time)
 unfolding extend_list
 whole_list passes net slacks slopes time least change result links same h =
     h ∙ ap (λ (c : Option ℚ). at_part Extend (until_change passes least time c)) same
-    ∙ ap (λ (r : Checked (Option ℚ)). at_part Extend (r >>= λ l. until_change passes l time (next_change net time))) (sym (part_ok Extend (after_all passes net slacks slopes) least links))
+    ∙ ap (λ (r : Checked (Option ℚ)). at_part Extend (r >>= λ l. until_change passes l time (next_change net time)))
+        (sym (part_ok Extend (after_all passes net slacks slopes) least links))

@@ -36,7 +36,8 @@ module _ (passes : Passing) (net : Network) (good : IsNetwork net) (s : Standing
         (step_value_at passes net (sets_at net s.labels) pattern step.length flows slopes step.labels (map amount_so_far s.link_curves) step.links parts.links e link p)
 
     by_rate : (b : Bool) → is_positive (number_at slopes link.tail) ≡ b
-        → amount_of (trace_after c.inflow (number_at step.labels link.tail) (before e +ℚ step.length *ℚ number_at flows e) (rate_value b (number_at flows e) (number_at slopes link.tail)))
+        → amount_of (trace_after c.inflow (number_at step.labels link.tail) (before e +ℚ step.length *ℚ number_at flows e)
+            (rate_value b (number_at flows e) (number_at slopes link.tail)))
         ≡ before e +ℚ step.length *ℚ number_at flows e
     by_rate true t = with-amount _ c.inflow.points (number_at step.labels link.tail, before e +ℚ step.length *ℚ number_at flows e)
     by_rate false t =

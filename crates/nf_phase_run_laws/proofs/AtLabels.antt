@@ -56,7 +56,8 @@ module _ (passes : Passing) (net : Network) (good : IsNetwork net) where
     pub well_resumed : (old : Report) (last : Standing) (stop : Option (Cause ℚ)) → IsWellFormed net old → IsResumed passes net bounds old last stop → WellRun net last
     well_resumed old last stop formed run = WellRun-on passes net good bounds run.first last stop (well_restarted passes net good old formed run.first run.stands) run.runs
 
-    pub thin_after_resumed : (old : Report) (last : Standing) (stop : Option (Cause ℚ)) → IsWellFormed net old → IsResumed passes net bounds old last stop → HasThinFlow net last.time last.labels
+    pub thin_after_resumed : (old : Report) (last : Standing) (stop : Option (Cause ℚ)) → IsWellFormed net old → IsResumed passes net bounds old last stop
+        → HasThinFlow net last.time last.labels
     thin_after_resumed old last stop formed run = thin_at_standing net last good (well_resumed old last stop formed run)
 
   pub thin_after_forever : (phases patterns : ℕ) (last : Standing) (end : End) → IsForeverRun passes net phases patterns last end → HasThinFlow net last.time last.labels

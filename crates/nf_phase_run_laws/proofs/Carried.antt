@@ -76,7 +76,8 @@ module _ (net : Network) (flow : Flow) (given : CanBeChecked net flow) (all : Al
   )
 
   -- who enters a link at the label of its tail leaves it at the label of its head or later
-  leaves_late : (e : ℕ) (link : Link) (departure exit : ℚ) → IsLink net e link → Within 0ℚ flow.reached departure → ExitAt flow e link departure exit → label flow link.head departure ≤ℚ exit
+  leaves_late : (e : ℕ) (link : Link) (departure exit : ℚ) → IsLink net e link → Within 0ℚ flow.reached departure → ExitAt flow e link departure exit
+      → label flow link.head departure ≤ℚ exit
   leaves_late e link departure exit p w x = by_source net link.head
       (λ s. subst (λ (z : ℚ). z ≤ℚ exit) (sym (ap (λ (u : ℕ). label flow u departure) s ∙ at_source departure w))
       (no_sooner departure (label flow link.tail departure) link.transit exit
@@ -89,14 +90,17 @@ module _ (net : Network) (flow : Flow) (given : CanBeChecked net flow) (all : Al
   -- ---- what is sent into a link by a departure, and what has come out of it
   outflow_right : (e : ℕ) (link : Link) (departure : ℚ) → IsLink net e link → Within 0ℚ flow.reached departure
       → IsOutflow link.transit link.capacity (inflow flow e) (label flow link.head departure) (outflow flow e (label flow link.head departure))
-  outflow_right e link departure p w = all (Outflow e) (slice_get_within net.links e link p) (λ s. cc) link (label flow link.head departure) p (label_up_to_end link.head departure (good.heads e link p) w)
+  outflow_right e link departure p w =
+      all (Outflow e) (slice_get_within net.links e link p) (λ s. cc) link (label flow link.head departure) p
+      (label_up_to_end link.head departure (good.heads e link p) w)
 
   -- what has come out by a time up to the exit is at most what was sent
   comes_after : (e : ℕ) (link : Link) (departure exit time out : ℚ) → IsLink net e link → Within 0ℚ flow.reached departure → ExitAt flow e link departure exit → time ≤ℚ exit
       → IsOutflow link.transit link.capacity (inflow flow e) time out → out ≤ℚ inflow flow e (label flow link.tail departure)
   comes_after e link departure exit time out p w x l o =
       let inside : e < length net.links = slice_get_within net.links e link p in
-      IsOutflow-rises link.transit (inflow flow e) (inflows_rise e inside) (all (Inflow e) inside (λ s. cc)).0 link.capacity time exit out (inflow flow e (label flow link.tail departure))
+      IsOutflow-rises link.transit (inflow flow e) (inflows_rise e inside) (all (Inflow e) inside (λ s. cc)).0 link.capacity time exit out
+          (inflow flow e (label flow link.tail departure))
       (IsPositive-link net e link good p) l o
       (IsOutflow-at_exit link.transit link.capacity (inflow flow e) (label flow link.tail departure) exit (IsPositive-link net e link good p) (inflows_rise e inside)
       (label_nn link.tail departure (good.tails e link p) w) x)
@@ -122,14 +126,16 @@ module _ (net : Network) (flow : Flow) (given : CanBeChecked net flow) (all : Al
     not_more e link p =
         let x = exit_of e link departure p w in
         subst (λ (z : ℚ). z ≤ℚ sent e) (sym (came_is e link p)) (subst (λ (z : ℚ). outflow flow e (label flow link.head departure) ≤ℚ z) (sym (sent_is e link p))
-        (comes_after e link departure x.0 (label flow link.head departure) (outflow flow e (label flow link.head departure)) p w x.1 (leaves_late e link departure x.0 p w x.1) (outflow_right e link departure p w)))
+        (comes_after e link departure x.0 (label flow link.head departure) (outflow flow e (label flow link.head departure)) p w x.1
+            (leaves_late e link departure x.0 p w x.1) (outflow_right e link departure p w)))
 
     -- at a node, by its label
     balanced : (v : ℕ) (more less : ℚ) → Balances net (inflow flow) v (label flow v departure) more less → sum_in net.links came v +ℚ more ≡ sum_out net.links sent v +ℚ less
     balanced v more less b =
         ap (λ (s : ℚ). s +ℚ more) (sum_in-same net.links came b.outs v (λ e link p at. came_is e link p
         ∙ IsOutflow-unique link.transit link.capacity (inflow flow e) (label flow v departure) _ _
-        (subst (λ (u : ℕ). IsOutflow link.transit link.capacity (inflow flow e) (label flow u departure) (outflow flow e (label flow link.head departure))) at (outflow_right e link departure p w))
+        (subst (λ (u : ℕ). IsOutflow link.transit link.capacity (inflow flow e) (label flow u departure) (outflow flow e (label flow link.head departure)))
+            at (outflow_right e link departure p w))
         (b.outflows e link p at)))
         ∙ b.sums
         ∙ ap (λ (s : ℚ). s +ℚ less) (sym (sum_out-same net.links sent (λ e. inflow flow e (label flow v departure)) v
@@ -189,7 +195,8 @@ module _ (net : Network) (flow : Flow) (given : CanBeChecked net flow) (all : Al
   -- ---- shortest routes
   -- Were the exit later than the label of the head, then so it would be than the head's label of a little later departure; and what is sent
   -- until then would have come out before the exit.
-  no_gap : (e : ℕ) (link : Link) (departure exit : ℚ) → IsLink net e link → 0ℚ ≤ℚ departure → departure <ℚ flow.reached → TakesFlow (inflow flow) (label flow) flow.reached e link.tail departure
+  no_gap : (e : ℕ) (link : Link) (departure exit : ℚ) → IsLink net e link → 0ℚ ≤ℚ departure → departure <ℚ flow.reached
+      → TakesFlow (inflow flow) (label flow) flow.reached e link.tail departure
       → ExitAt flow e link departure exit → label flow link.head departure <ℚ exit → ⊥
   no_gap e link departure exit p h k takes x l =
       let w : Within 0ℚ flow.reached departure = (h, ≤ℚ_of_lt _ _ k) in

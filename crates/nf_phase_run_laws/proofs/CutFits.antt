@@ -30,8 +30,10 @@ line_fits p q time h k l = then_fits (checked_slope passes_Q p q) _ (slope_fits 
 from_fits : (p : Point) (rest : List Point) (time : ℚ) → IsFractionPoint p → AreFractionPoints rest → IsFraction time → Fits AreOperands IsFraction (value_from passes_Q p rest time)
 from_fits p [] time h k l = ok_fits AreOperands IsFraction p.1 h.1
 from_fits p (q ∷ rest) time h k l =
-    either (Fits AreOperands IsFraction) (is_same time p.0) (Ok p.1) (if lt_ℚ time q.0 then checked_line passes_Q p q time else value_from passes_Q q rest time) (ok_fits AreOperands IsFraction p.1 h.1)
-    (either (Fits AreOperands IsFraction) (lt_ℚ time q.0) (checked_line passes_Q p q time) (value_from passes_Q q rest time) (line_fits p q time h k.0 l) (from_fits q rest time k.0 k.1 l))
+    either (Fits AreOperands IsFraction) (is_same time p.0) (Ok p.1) (if lt_ℚ time q.0 then checked_line passes_Q p q time else value_from passes_Q q rest
+        time) (ok_fits AreOperands IsFraction p.1 h.1)
+    (either (Fits AreOperands IsFraction) (lt_ℚ time q.0) (checked_line passes_Q p q time) (value_from passes_Q q rest time) (line_fits p q time h k.0 l)
+        (from_fits q rest time k.0 k.1 l))
 
 value_fits : (points : List Point) (time : ℚ) → AreFractionPoints points → IsFraction time → Fits AreOperands IsFraction (checked_value passes_Q points time)
 unfolding checked_value
@@ -60,7 +62,8 @@ turning_fractions [] slopes h = tt
 turning_fractions (q ∷ rest) [] h = h
 turning_fractions (q ∷ rest) (before ∷ []) h = h
 turning_fractions (q ∷ rest) (before ∷ after ∷ slopes) h =
-    either AreFractionPoints (is_same before after) (turning rest (after ∷ slopes)) (q ∷ turning rest (after ∷ slopes)) (turning_fractions rest (after ∷ slopes) h.1) (h.0, turning_fractions rest (after ∷ slopes) h.1)
+    either AreFractionPoints (is_same before after) (turning rest (after ∷ slopes)) (q ∷ turning rest (after ∷ slopes))
+        (turning_fractions rest (after ∷ slopes) h.1) (h.0, turning_fractions rest (after ∷ slopes) h.1)
 
 short_fractions : (points : List Point) (slopes : List ℚ) → AreFractionPoints points → AreFractionPoints (short_points points slopes)
 short_fractions [] slopes h = tt
@@ -101,13 +104,16 @@ with_fractions (link ∷ links) (i ∷ inflows) (o ∷ outflows) (q ∷ queues) 
 end_fraction : (labels : List (List Point)) (v : ℕ) → AllByRecursion AreFractionPoints labels → IsFraction (value_at_end (points_at labels v))
 end_fraction labels v h = last_fraction None (points_at labels v) zero_fraction (entry_or AreFractionPoints [] labels v h tt)
 
-link_fits : (labels : List (List Point)) (of_link : OfLink) → AllByRecursion AreFractionPoints labels → IsFractionOfLink of_link → Fits AreOperands IsFractionCut (cut_link passes_Q labels of_link)
+link_fits : (labels : List (List Point)) (of_link : OfLink) → AllByRecursion AreFractionPoints labels → IsFractionOfLink of_link
+    → Fits AreOperands IsFractionCut (cut_link passes_Q labels of_link)
 link_fits labels l h k =
     let tail : IsFraction (value_at_end (points_at labels l.link.tail)) = end_fraction labels l.link.tail h in
     let head : IsFraction (value_at_end (points_at labels l.link.head)) = end_fraction labels l.link.head h in
     then_fits (cut_trace passes_Q (value_at_end (points_at labels l.link.tail)) l.inflow) _ (cut_trace_fits (value_at_end (points_at labels l.link.tail)) l.inflow tail k.inflow)
-    (λ inflow m. then_fits (cut_trace passes_Q (value_at_end (points_at labels l.link.head)) l.outflow) _ (cut_trace_fits (value_at_end (points_at labels l.link.head)) l.outflow head k.outflow)
-    (λ outflow n. then_fits (cut_short passes_Q (value_at_end (points_at labels l.link.tail)) l.queue) _ (cut_short_fits (value_at_end (points_at labels l.link.tail)) l.queue tail k.queue)
+    (λ inflow m. then_fits (cut_trace passes_Q (value_at_end (points_at labels l.link.head)) l.outflow) _
+        (cut_trace_fits (value_at_end (points_at labels l.link.head)) l.outflow head k.outflow)
+    (λ outflow n. then_fits (cut_short passes_Q (value_at_end (points_at labels l.link.tail)) l.queue) _
+        (cut_short_fits (value_at_end (points_at labels l.link.tail)) l.queue tail k.queue)
     (λ queue o. ok_fits AreOperands IsFractionCut (record { inflow = inflow; outflow = outflow; queue = queue }) (record { inflow = m; outflow = n; queue = o }))))
 
 -- ---- a flow
@@ -125,7 +131,8 @@ flow_fits net flow h =
     then_fits (each (cut_short passes_Q flow.reached) flow.labels) _
     (each_fits AreOperands AreFractionPoints AreFractionPoints (cut_short passes_Q flow.reached) (λ points k. cut_short_fits flow.reached points h.reached k) flow.labels h.labels)
     (λ labels k. then_fits (each (cut_link passes_Q labels) of_links) _
-    (each_fits AreOperands IsFractionOfLink IsFractionCut (cut_link passes_Q labels) (λ l m. link_fits labels l k m) of_links (with_fractions net.links flow.inflows flow.outflows flow.queues h.inflows h.outflows h.queues))
+    (each_fits AreOperands IsFractionOfLink IsFractionCut (cut_link passes_Q labels) (λ l m. link_fits labels l k m) of_links
+        (with_fractions net.links flow.inflows flow.outflows flow.queues h.inflows h.outflows h.queues))
     (λ cuts l. ok_fits AreOperands IsFractionFlow (cut_flow_of passes_Q flow.reached labels cuts) (record {
       reached = h.reached;
       labels = k;
@@ -145,7 +152,8 @@ growing_fits : (points : List Point) → AreFractionPoints points → Fits AreOp
 growing_fits points h =
     then_fits (last_slope passes_Q points) _ (last_slope_fits points h) (λ slope k. ok_fits AreOperands IsFractionCurve (record { points = points; slope = slope }) h)
 
-link_curves_fractions : (inflows outflows : List Trace) (queues : List GrowingCurve) → AllByRecursion IsFractionTrace inflows → AllByRecursion IsFractionTrace outflows → AllByRecursion IsFractionCurve queues
+link_curves_fractions : (inflows outflows : List Trace) (queues : List GrowingCurve) → AllByRecursion IsFractionTrace inflows
+    → AllByRecursion IsFractionTrace outflows → AllByRecursion IsFractionCurve queues
     → AllByRecursion AreFractionCurves (link_curves_of inflows outflows queues)
 link_curves_fractions [] outflows queues h k l = tt
 link_curves_fractions (i ∷ inflows) [] queues h k l = tt

@@ -22,7 +22,8 @@ none_left : (n : ℕ) → suc n ≡ 0 → ⊥
 none_left n e = cc
 
 module _ (passes : Passing) (net : Network) where
-  same_list : (horizon : ℚ) (s : Standing) (n : ℕ) (pattern : Pattern) (flows slopes : List ℚ) → phase_lists passes net horizon (with_made n s) pattern flows slopes ≡ phase_lists passes net horizon s pattern flows slopes
+  same_list : (horizon : ℚ) (s : Standing) (n : ℕ) (pattern : Pattern) (flows slopes : List ℚ)
+      → phase_lists passes net horizon (with_made n s) pattern flows slopes ≡ phase_lists passes net horizon s pattern flows slopes
   unfolding phase_lists
   same_list horizon s n pattern flows slopes = refl
 
@@ -74,7 +75,8 @@ module _ (passes : Passing) (net : Network) where
         (λ (l : s.time ≡ b.horizon). absurd (not_both_ℚ _ _ g.finds.below (≤ℚ_of_same _ _ (sym l))))
         closed
     together s end t last o v n well knows e closed (goes {new = u} may g rest) x (steps {new = w} may' (begins c k) rest') y =
-        let alone : Goes passes net r.horizon r.patterns s (with_made (suc s.made) w) = unmade r.horizon r.patterns n s w (subst (λ (z : Standing). Goes passes net r.horizon r.patterns z w) e k) in
+        let alone : Goes passes net r.horizon r.patterns s (with_made (suc s.made) w) =
+            unmade r.horizon r.patterns n s w (subst (λ (z : Standing). Goes passes net r.horizon r.patterns z w) e k) in
         let same : u ≡ with_made (suc s.made) w = same_phase passes net good b r s u (with_made (suc s.made) w) well knows g alone (sym to) in
         together u end w last o v w.made (WellRun-goes passes net good b s u g well) (goes_knows passes net b.horizon b.patterns s u g) (ap (with_made w.made) (sym same))
         (inl (λ d. none_left t.made (sym (ap (λ (z : Standing). z.made) k.new_is) ∙ d.0))) rest x rest' y
@@ -89,7 +91,8 @@ module _ (passes : Passing) (net : Network) where
 
       not_there : standing.time ≡ r.horizon → ⊥
       not_there e = not_both_ℚ _ _ (<_≤_trans _ _ _ (sooner c.before.time c.goes.step.length c.whole.step.length c.short)
-          (IsPhaseLength-within net (slacks_of (hops net) c.before.labels) c.goes.slopes c.before.time b.horizon c.whole.step.length (other_length passes net good a b c.before last c.after c.well c.knows c.goes c.whole)))
+          (IsPhaseLength-within net (slacks_of (hops net) c.before.labels) c.goes.slopes c.before.time b.horizon c.whole.step.length
+              (other_length passes net good a b c.before last c.after c.well c.knows c.goes c.whole)))
           (≤ℚ_of_same _ _ (sym (e ∙ to)))
 
       within : (final : Standing) (v : Option (Cause ℚ)) → RunsOn passes net r standing final v → v ≡ None → NonePassesNext passes net r standing → final ≡ with_made final.made end
@@ -98,17 +101,20 @@ module _ (passes : Passing) (net : Network) where
       within final v (fails_on may e) y none = absurd (some_cause _ _ refl y)
       within final v (steps may (begins d k) rest) y none = absurd (d (refl, opened passes net good a b c.before last c.after c.well c.knows c.goes c.whole c.short))
       within final v (steps may (continues {t = w} d k) rest) y none =
-          together c.after end (with_last standing.last w) final None v 1 (WellRun-goes passes net good b c.before c.after c.whole c.well) (goes_knows passes net b.horizon b.patterns c.before c.after c.whole)
+          together c.after end (with_last standing.last w) final None v 1 (WellRun-goes passes net good b c.before c.after c.whole c.well)
+              (goes_knows passes net b.horizon b.patterns c.before c.after c.whole)
           (rest-whole passes net good a b c.before last c.after c.well c.knows c.goes c.whole c.short r w k (none w k) to)
           (inl (λ f. none_left 0 (sym (ap (λ (z : Standing). z.made) k.new_is) ∙ f.0))) c.runs refl rest y
 
 -- ---- from a report
 module _ (passes : Passing) (net : Network) (good : IsNetwork net) where
-  pub run-restored : (bounds : Bounds) (last first : Standing) (stop : Option (Cause ℚ)) → IsPhaseRun passes net bounds last stop → restart_list passes net (report_of bounds.horizon last stop) ≡ Ok first
+  pub run-restored : (bounds : Bounds) (last first : Standing) (stop : Option (Cause ℚ)) → IsPhaseRun passes net bounds last stop
+      → restart_list passes net (report_of bounds.horizon last stop) ≡ Ok first
       → first ≡ with_made 0 last
   unfolding restart_list
   run-restored bounds last first stop run e =
-      let w : WellRun net last × ShortRun last = stands_at passes net good bounds run.first last stop (WellRun-start net good run.first run.start) (ShortRun-start net run.first run.start) run.runs in
+      let w : WellRun net last × ShortRun last = stands_at passes net good bounds run.first last stop (WellRun-start net good run.first run.start)
+          (ShortRun-start net run.first run.start) run.runs in
       let k = then_ok (cut_flow passes net (flow_of last)) _ first e in
       let flow : k.between ≡ flow_of last = flow-back passes net good last w.0 w.1 k.between k.first in
       standing-back passes net good last w.0 w.1 first (ap (λ (f : Flow). restore_list passes f last.last) (sym flow) ∙ k.next)
@@ -121,11 +127,13 @@ module _ (passes : Passing) (net : Network) (good : IsNetwork net) where
   reaches r t last v (steps may (begins c k) rest) y = ≤ℚ_of_lt _ _ k.finds.below
 
   module _ (bounds later resumed : Bounds) (to : resumed.horizon ≡ later.horizon) where
-    same_end : (old_last end first final : Standing) (stop o v : Option (Cause ℚ)) → IsPhaseRun passes net bounds old_last stop → IsPhaseRun passes net later end o → o ≡ None → first ≡ with_made 0 old_last
+    same_end : (old_last end first final : Standing) (stop o v : Option (Cause ℚ)) → IsPhaseRun passes net bounds old_last stop
+        → IsPhaseRun passes net later end o → o ≡ None → first ≡ with_made 0 old_last
         → RunsOn passes net resumed first final v → v ≡ None → RestFits passes net resumed first → final ≡ with_made final.made end
     same_end old_last end first final stop o v run whole x is runs y fits =
         let start : run.first ≡ whole.first = one_start net run.first whole.first run.start whole.start in
-        let inside : old_last.time ≤ℚ later.horizon = subst (λ (h : ℚ). old_last.time ≤ℚ h) to (subst (λ (z : Standing). z.time ≤ℚ resumed.horizon) is (reaches resumed first final v runs y)) in
+        let inside : old_last.time ≤ℚ later.horizon = subst (λ (h : ℚ). old_last.time ≤ℚ h) to
+            (subst (λ (z : Standing). z.time ≤ℚ resumed.horizon) is (reaches resumed first final v runs y)) in
         ⊎_elim
         (λ (c : Comes passes net good later old_last end).
         together passes net good later resumed to old_last end first final None v 0 c.well c.knows is
@@ -140,7 +148,8 @@ module _ (passes : Passing) (net : Network) (good : IsNetwork net) where
         (meets passes net good bounds later run.first old_last end stop o inside (WellRun-start net good run.first run.start) (start_knows net run.first run.start)
         (inl (λ d. closed-at_start net run.first good run.start (run.start.made, d))) run.runs (subst (λ (z : Standing). Runs passes net later z end o) (sym start) whole.runs) x)
 
-  pub resumed-solved : (bounds later resumed : Bounds) (old solved report : Report) (phases : ℕ) → (ran : IsRunReport passes net bounds old) → IsRunReport passes net later solved → solved.stop ≡ None
+  pub resumed-solved : (bounds later resumed : Bounds) (old solved report : Report) (phases : ℕ) → (ran : IsRunReport passes net bounds old)
+      → IsRunReport passes net later solved → solved.stop ≡ None
       → IsResumedReport passes net resumed old phases report → report.stop ≡ None → resumed.horizon ≡ later.horizon → RestFits passes net resumed ran.last → report ≡ solved
   resumed-solved bounds later resumed old solved report phases run whole done again ended to fits =
       let o : whole.stop ≡ None = sym (ap (λ (w : Report). w.stop) whole.report_is) ∙ done in
@@ -148,7 +157,8 @@ module _ (passes : Passing) (net : Network) (good : IsNetwork net) where
       let list : restart_list passes net old ≡ Ok again.run.first = list-stands passes net old again.run.first again.run.stands in
       let is : again.run.first ≡ with_made 0 run.last = run-restored bounds run.last again.run.first run.stop run.run (ap (restart_list passes net) (sym run.report_is) ∙ list) in
       let here : RestFits passes net resumed again.run.first = subst (λ (z : Standing). RestFits passes net resumed z) (sym is) (fits_again passes net resumed 0 run.last fits) in
-      let end : again.last ≡ with_made again.last.made whole.last = same_end bounds later resumed to run.last whole.last again.run.first again.last run.stop whole.stop again.stop run.run whole.run o is again.run.runs v here in
+      let end : again.last ≡ with_made again.last.made whole.last = same_end bounds later resumed to run.last whole.last again.run.first again.last run.stop
+          whole.stop again.stop run.run whole.run o is again.run.runs v here in
       again.report_is
       ∙ ap (λ (s : Standing). report_of resumed.horizon s again.stop) end
       ∙ ap (λ (h : ℚ). report_of h whole.last again.stop) to

@@ -25,7 +25,8 @@ ok_fits Q P x h = record { value = λ y e. subst P (same_Ok x y e) h; passed = �
 err_fits : {A E : Type 0} (Q : E → Type 0) (P : A → Type 0) (d : E) → Q d → Fits Q P (Err d)
 err_fits Q P d h = record { value = λ y e. absurd (cc); passed = λ e f. subst Q (same_Err d e f) h }
 
-pub then_fits : {A B E : Type 0} {Q : E → Type 0} {P : A → Type 0} {R : B → Type 0} (r : Result A E) (f : A → Result B E) → Fits Q P r → ((x : A) → P x → Fits Q R (f x)) → Fits Q R (r >>= f)
+pub then_fits : {A B E : Type 0} {Q : E → Type 0} {P : A → Type 0} {R : B → Type 0} (r : Result A E) (f : A → Result B E) → Fits Q P r
+    → ((x : A) → P x → Fits Q R (f x)) → Fits Q R (r >>= f)
 then_fits (Ok x) f h k = k x (h.value x refl)
 then_fits {Q = Q} {R = R} (Err d) f h k = err_fits Q R d (h.passed d refl)
 

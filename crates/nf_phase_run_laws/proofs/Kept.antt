@@ -41,7 +41,8 @@ module _ (passes : Passing) where
   value-last p (q ∷ rest) r =
       ap (λ (b : Bool). if b then Ok p.1 else (if lt_ℚ (last_from q rest).0 q.0 then checked_line passes p q (last_from q rest).0 else value_from passes q rest (last_from q rest).0))
       (not_same (last_from q rest).0 p.0 (below-last p q rest r))
-      ∙ ap (λ (b : Bool). if b then checked_line passes p q (last_from q rest).0 else value_from passes q rest (last_from q rest).0) (test_of_not_less (last_from q rest).0 q.0 (rises-last q rest r.1))
+      ∙ ap (λ (b : Bool). if b then checked_line passes p q (last_from q rest).0 else value_from passes q rest (last_from q rest).0)
+          (test_of_not_less (last_from q rest).0 q.0 (rises-last q rest r.1))
       ∙ value-last q rest r.1
 
   before-last : (p : Point) (rest : List Point) → TimesRise (p ∷ rest) → points_before (last_from p rest).0 (p ∷ rest) ++ last_from p rest ∷ [] ≡ p ∷ rest
@@ -101,7 +102,8 @@ module _ (passes : Passing) where
   rates-same [] rates slopes e a = absurd a
   rates-same (p ∷ rest) rates slopes e a = rates-from p rest rates slopes (slopes-are passes p rest rates e) a
 
-  pub cut_trace-same : (trace cut : Trace) (last : Point) → LastPoint trace.points last → IsShort trace.points → AreSlopes trace.points trace.rates → cut_trace passes last.0 trace.points ≡ Ok cut → cut ≡ trace
+  pub cut_trace-same : (trace cut : Trace) (last : Point) → LastPoint trace.points last → IsShort trace.points → AreSlopes trace.points trace.rates
+      → cut_trace passes last.0 trace.points ≡ Ok cut → cut ≡ trace
   cut_trace-same trace cut last l s a e =
       let w = then_ok (cut_short passes last.0 trace.points) _ cut e in
       let k = then_ok (checked_slopes passes w.between) _ cut w.next in

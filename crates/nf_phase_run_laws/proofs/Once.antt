@@ -29,7 +29,8 @@ pub record Alike (pattern pattern' : Pattern) (flows flows' slopes slopes' : Lis
   pub flows_are : flows ≡ flows'
   pub slopes_are : slopes ≡ slopes'
 
-alike_of : (place place' : ℕ) (pattern pattern' : Pattern) (flows flows' slopes slopes' : List ℚ) → Found place pattern flows slopes ≡ Found place' pattern' flows' slopes' → Alike pattern pattern' flows flows' slopes slopes'
+alike_of : (place place' : ℕ) (pattern pattern' : Pattern) (flows flows' slopes slopes' : List ℚ)
+    → Found place pattern flows slopes ≡ Found place' pattern' flows' slopes' → Alike pattern pattern' flows flows' slopes slopes'
 alike_of place place' pattern pattern' flows flows' slopes slopes' e = record { pattern_is = cc; flows_are = cc; slopes_are = cc }
 
 module _ (passes : Passing) (net : Network) (s : Standing) (knows : length s.last ≡ length net.links) where
@@ -42,7 +43,8 @@ module _ (passes : Passing) (net : Network) (s : Standing) (knows : length s.las
       (one_answer passes net (sets_at net s.labels) (rate_at net s.time) k.search.base (patterns + patterns') (Found place pattern flows slopes) (Found place' pattern' flows' slopes')
       (subst (λ (base : Pattern). IsSearch passes net (sets_at net s.labels) (rate_at net s.time) base (patterns + patterns') (Found place pattern flows slopes)) bases
       (more_patterns passes net (sets_at net s.labels) (rate_at net s.time) h.search.base patterns (patterns + patterns') place pattern flows slopes (omega arith) h.search.is_search))
-      (more_patterns passes net (sets_at net s.labels) (rate_at net s.time) k.search.base patterns' (patterns + patterns') place' pattern' flows' slopes' (omega arith) k.search.is_search))
+      (more_patterns passes net (sets_at net s.labels) (rate_at net s.time) k.search.base patterns' (patterns + patterns') place' pattern' flows' slopes'
+          (omega arith) k.search.is_search))
 
 -- The result of a phase is determined by its length.
 same_step : (x y : PhaseStep) → x.length ≡ y.length → x.labels ≡ y.labels → x.links ≡ y.links → x ≡ y
@@ -51,7 +53,8 @@ same_step x y e f g = λ i. record { length = e i; labels = f i; links = g i }
 same_links : {E : Type 0} (r s : Result (List LinkStep) E) (x y : List LinkStep) → r ≡ s → r ≡ Ok x → s ≡ Ok y → x ≡ y
 same_links r s x y e f g = cc
 
-pub one_step : (passes : Passing) (net : Network) (s : Standing) (pattern : Pattern) (flows slopes : List ℚ) (x y : PhaseStep) → PhaseParts passes net s pattern flows slopes x → PhaseParts passes net s pattern flows slopes y
+pub one_step : (passes : Passing) (net : Network) (s : Standing) (pattern : Pattern) (flows slopes : List ℚ) (x y : PhaseStep)
+    → PhaseParts passes net s pattern flows slopes x → PhaseParts passes net s pattern flows slopes y
     → x.length ≡ y.length → x ≡ y
 one_step passes net s pattern flows slopes x y p q e =
     let labels : x.labels ≡ y.labels = p.labels ∙ ap (moved s.labels slopes) e ∙ sym q.labels in
@@ -61,7 +64,8 @@ one_step passes net s pattern flows slopes x y p q e =
     p.links q.links)
 
 -- Parts of a phase, stated with the pattern, flows and slopes of an equal phase.
-pub parts_alike : (passes : Passing) (net : Network) (s : Standing) (pattern pattern' : Pattern) (flows flows' slopes slopes' : List ℚ) (step : PhaseStep) → Alike pattern pattern' flows flows' slopes slopes'
+pub parts_alike : (passes : Passing) (net : Network) (s : Standing) (pattern pattern' : Pattern) (flows flows' slopes slopes' : List ℚ) (step : PhaseStep)
+    → Alike pattern pattern' flows flows' slopes slopes'
     → PhaseParts passes net s pattern' flows' slopes' step → PhaseParts passes net s pattern flows slopes step
 parts_alike passes net s pattern pattern' flows flows' slopes slopes' step a p =
     subst (λ (x : Pattern). PhaseParts passes net s x flows slopes step) (sym a.pattern_is)
@@ -87,7 +91,8 @@ module _ (passes : Passing) (net : Network) (good : IsNetwork net) (a b : Bounds
 
   pub same_end : g.step.length ≡ h.step.length → t ≡ u
   same_end e = g.new_is
-      ∙ after_alike net s g.pattern h.pattern g.slopes h.slopes g.step h.step alike.pattern_is alike.slopes_are (one_step passes net s g.pattern g.flows g.slopes g.step h.step first_parts other_parts e)
+      ∙ after_alike net s g.pattern h.pattern g.slopes h.slopes g.step h.step alike.pattern_is alike.slopes_are
+          (one_step passes net s g.pattern g.flows g.slopes g.step h.step first_parts other_parts e)
       ∙ sym h.new_is
 
   pub other_length : IsPhaseLength net (slacks_of (hops net) s.labels) g.slopes s.time b.horizon h.step.length

@@ -63,13 +63,16 @@ module _ (net : Network) (has : HasFractions net) (sets : Sets) (rate : ℚ) (is
   unfolding equations
   equation_fractions = (
     row_of_fractions (unknowns net sets) (source_factor net.source) 1ℚ (source_fraction net.source) one_fraction,
-    every_append AreFractions (map (node_row net sets rate) (filter (λ v. not (v == net.sink)) (range_with_len 0 net.nodes))) (flat_map (link_rows net sets pattern) (enumerate_from 0 net.links))
+    every_append AreFractions (map (node_row net sets rate) (filter (λ v. not (v == net.sink)) (range_with_len 0 net.nodes)))
+        (flat_map (link_rows net sets pattern) (enumerate_from 0 net.links))
         (all_map AreFractions (node_row net sets rate) node_row_fractions (filter (λ v. not (v == net.sink)) (range_with_len 0 net.nodes)))
-        (all_flat AreFractions (λ (numbered : ℕ × Link). IsFractionLink numbered.1) (link_rows net sets pattern) link_row_fractions (enumerate_from 0 net.links) (all_numbered IsFractionLink 0 net.links has.links)),
+        (all_flat AreFractions (λ (numbered : ℕ × Link). IsFractionLink numbered.1) (link_rows net sets pattern) link_row_fractions
+            (enumerate_from 0 net.links) (all_numbered IsFractionLink 0 net.links has.links)),
   )
 
   -- ---- the verdict list
-  bound_fits : (state : Option State) (capacity : Option ℚ) (head_slope : ℚ) → IsFractionOrNone capacity → IsFraction head_slope → Fits AreOperands IsFractionOrNone (bound_on passes_Q state capacity head_slope)
+  bound_fits : (state : Option State) (capacity : Option ℚ) (head_slope : ℚ) → IsFractionOrNone capacity → IsFraction head_slope
+      → Fits AreOperands IsFractionOrNone (bound_on passes_Q state capacity head_slope)
   bound_fits (Some Tight) (Some capacity) head_slope h k =
       then_fits (checked passes_Q Product capacity head_slope) _ (one Product capacity head_slope h k) (λ bound l. ok_fits AreOperands IsFractionOrNone (Some bound) l)
   bound_fits (Some Tight) None head_slope h k = ok_fits AreOperands IsFractionOrNone None tt
@@ -105,7 +108,8 @@ module _ (net : Network) (has : HasFractions net) (sets : Sets) (rate : ℚ) (is
   after_fits (Some values) h =
       let slopes : List ℚ = slopes_in net.nodes values in
       then_fits (at_part Verdict (verdict_list passes_Q net pattern slopes)) _ (part_fits Verdict (verdict_list passes_Q net pattern slopes) (verdict_fits slopes (slopes_fit values h)))
-      (λ bounds k. ok_fits AreOperandsAt (OrNone AreSolved) (Some (record { flows = flows_in net.nodes sets.active values; slopes = slopes; bounds = bounds })) (flows_fit values h, slopes_fit values h))
+      (λ bounds k. ok_fits AreOperandsAt (OrNone AreSolved) (Some (record { flows = flows_in net.nodes sets.active values; slopes = slopes; bounds =
+          bounds })) (flows_fit values h, slopes_fit values h))
 
   pub pattern_fits : Fits AreOperandsAt (OrNone AreSolved) (pattern_lists passes_Q net sets rate pattern)
   unfolding pattern_lists
@@ -123,7 +127,8 @@ module _ (net : Network) (has : HasFractions net) (sets : Sets) (rate : ℚ) (is
         let same = solution.only (flows_in net.nodes sets.active values) (slopes_in net.nodes values) (solves_alone net sets rate pattern is_in passes_Q values e).solves in
         (subst AreFractions same.0 (flows_fit values h), subst AreFractions same.1 (slopes_fit values h))
 
-    by_table : (r : Result (Option (List ℚ)) (Passed ℚ)) → table_list passes_Q (equations net sets rate pattern) ≡ r → IsOk (at_part Table r >>= after_table passes_Q net sets rate pattern) → AreFractions flows × AreFractions slopes
+    by_table : (r : Result (Option (List ℚ)) (Passed ℚ)) → table_list passes_Q (equations net sets rate pattern) ≡ r
+        → IsOk (at_part Table r >>= after_table passes_Q net sets rate pattern) → AreFractions flows × AreFractions slopes
     by_table (Ok values) e ok = by_values values e ((table_fits (equations net sets rate pattern) equation_fractions).value values e)
     by_table (Err p) e ok = absurd (cc)
 

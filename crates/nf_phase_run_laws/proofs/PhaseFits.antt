@@ -16,7 +16,9 @@ use Rattle.nf_phase_run_laws.proofs.Fits.{Fits, AreOperands, AreOperandsAt, ok_f
 -- ---- slacks
 slack_fits : (labels : List ℚ) (hop : Hop) → AreFractions labels → IsFraction hop.transit → Fits AreOperands IsFraction (slack_of passes_Q labels hop)
 unfolding slack_of
-slack_fits labels hop all h = then_fits (checked passes_Q Sum (number_at labels hop.tail) hop.transit) _ (one Sum (number_at labels hop.tail) hop.transit (number_fraction labels hop.tail all) h)
+slack_fits labels hop all h =
+    then_fits (checked passes_Q Sum (number_at labels hop.tail) hop.transit) _
+    (one Sum (number_at labels hop.tail) hop.transit (number_fraction labels hop.tail all) h)
     (λ a k. one Difference (number_at labels hop.head) a (number_fraction labels hop.head all) k)
 
 pub slack_list_fits : (net : Network) → HasFractions net → (labels : List ℚ) → AreFractions labels → Fits AreOperands AreFractions (slack_list passes_Q (hops net) labels)
@@ -32,28 +34,35 @@ lesser_fraction : (least : Option ℚ) (length : ℚ) → IsFractionOrNone least
 lesser_fraction None length h k = k
 lesser_fraction (Some least) length h k = least_fraction least length h k
 
-to_zero_fits : (goes : Bool) (least : Option ℚ) (slack change : ℚ) → IsFractionOrNone least → IsFraction slack → IsFraction change → Fits AreOperands IsFractionOrNone (to_zero passes_Q goes least slack change)
+to_zero_fits : (goes : Bool) (least : Option ℚ) (slack change : ℚ) → IsFractionOrNone least → IsFraction slack → IsFraction change
+    → Fits AreOperands IsFractionOrNone (to_zero passes_Q goes least slack change)
 to_zero_fits false least slack change h k l = ok_fits AreOperands IsFractionOrNone least h
 to_zero_fits true least slack change h k l = then_fits (checked passes_Q Difference 0ℚ slack) _ (one Difference 0ℚ slack zero_fraction k)
-    (λ m n. then_fits (checked passes_Q Quotient m change) _ (one Quotient m change n l) (λ length o. ok_fits AreOperands IsFractionOrNone (lesser least length) (lesser_fraction least length h o)))
+    (λ m n. then_fits (checked passes_Q Quotient m change) _ (one Quotient m change n l)
+        (λ length o. ok_fits AreOperands IsFractionOrNone (lesser least length) (lesser_fraction least length h o)))
 
 after_link_fits : (zero : Bool) (least : Option ℚ) (slack tail_slope head_slope : ℚ) → IsFractionOrNone least → IsFraction slack → IsFraction tail_slope → IsFraction head_slope
     → Fits AreOperands IsFractionOrNone (after_link passes_Q zero least slack tail_slope head_slope)
 after_link_fits true least slack tail_slope head_slope h k l m = ok_fits AreOperands IsFractionOrNone least h
 after_link_fits false least slack tail_slope head_slope h k l m =
-    then_fits (checked passes_Q Difference head_slope tail_slope) _ (one Difference head_slope tail_slope m l) (λ change n. to_zero_fits (are_opposite slack change) least slack change h k n)
+    then_fits (checked passes_Q Difference head_slope tail_slope) _ (one Difference head_slope tail_slope m l)
+        (λ change n. to_zero_fits (are_opposite slack change) least slack change h k n)
 
-until_fits : (least : Option ℚ) (time : ℚ) (change : Option ℚ) → IsFractionOrNone least → IsFraction time → IsFractionOrNone change → Fits AreOperands IsFractionOrNone (until_change passes_Q least time change)
+until_fits : (least : Option ℚ) (time : ℚ) (change : Option ℚ) → IsFractionOrNone least → IsFraction time → IsFractionOrNone change
+    → Fits AreOperands IsFractionOrNone (until_change passes_Q least time change)
 until_fits least time None h k l = ok_fits AreOperands IsFractionOrNone least h
 until_fits least time (Some change) h k l =
-    then_fits (checked passes_Q Difference change time) _ (one Difference change time l k) (λ length m. ok_fits AreOperands IsFractionOrNone (lesser least length) (lesser_fraction least length h m))
+    then_fits (checked passes_Q Difference change time) _ (one Difference change time l k)
+        (λ length m. ok_fits AreOperands IsFractionOrNone (lesser least length) (lesser_fraction least length h m))
 
 module _ (net : Network) (has : HasFractions net) where
-  extend_fits : (slacks slopes : List ℚ) (time : ℚ) → AreFractions slacks → AreFractions slopes → IsFraction time → Fits AreOperands IsFractionOrNone (extend_list passes_Q net slacks slopes time)
+  extend_fits : (slacks slopes : List ℚ) (time : ℚ) → AreFractions slacks → AreFractions slopes → IsFraction time
+      → Fits AreOperands IsFractionOrNone (extend_list passes_Q net slacks slopes time)
   unfolding extend_list
   extend_fits slacks slopes time h k l = then_fits _ _
       (fold_fits AreOperands (λ (numbered : ℕ × Link). IsFractionLink numbered.1) IsFractionOrNone (least_after passes_Q slacks slopes)
-      (λ least numbered m n. after_link_fits (is_zero (number_at slacks numbered.0)) least (number_at slacks numbered.0) (number_at slopes numbered.1.tail) (number_at slopes numbered.1.head) m
+      (λ least numbered m n. after_link_fits (is_zero (number_at slacks numbered.0)) least (number_at slacks numbered.0) (number_at slopes numbered.1.tail)
+          (number_at slopes numbered.1.head) m
       (number_fraction slacks numbered.0 h) (number_fraction slopes numbered.1.tail k) (number_fraction slopes numbered.1.head k))
       None (enumerate_from 0 net.links) tt (all_numbered IsFractionLink 0 net.links has.links))
       (λ least m. until_fits least time (next_change net time) m l (change_fraction net has time))
@@ -63,16 +72,19 @@ module _ (net : Network) (has : HasFractions net) where
   cut_fraction left None h k = h
   cut_fraction left (Some extension) h k = least_fraction left extension h k
 
-  label_fits : (length : ℚ) (slopes : List ℚ) (numbered : ℕ × ℚ) → IsFraction length → AreFractions slopes → IsFraction numbered.1 → Fits AreOperands IsFraction (label_after passes_Q length slopes numbered)
+  label_fits : (length : ℚ) (slopes : List ℚ) (numbered : ℕ × ℚ) → IsFraction length → AreFractions slopes → IsFraction numbered.1
+      → Fits AreOperands IsFraction (label_after passes_Q length slopes numbered)
   label_fits length slopes numbered h k l = then_fits (checked passes_Q Product length (number_at slopes numbered.0)) _
       (one Product length (number_at slopes numbered.0) h (number_fraction slopes numbered.0 k)) (λ p m. one Sum numbered.1 p l m)
 
-  labels_fit : (length : ℚ) (labels slopes : List ℚ) → IsFraction length → AreFractions labels → AreFractions slopes → Fits AreOperands AreFractions (labels_after passes_Q length labels slopes)
+  labels_fit : (length : ℚ) (labels slopes : List ℚ) → IsFraction length → AreFractions labels → AreFractions slopes
+      → Fits AreOperands AreFractions (labels_after passes_Q length labels slopes)
   unfolding labels_after
   labels_fit length labels slopes h k l = each_fits AreOperands (λ (numbered : ℕ × ℚ). IsFraction numbered.1) IsFraction (label_after passes_Q length slopes)
       (λ numbered m. label_fits length slopes numbered h l m) (enumerate_from 0 labels) (all_numbered IsFraction 0 labels k)
 
-  advance_fits : (horizon time : ℚ) (extension : Option ℚ) (labels slopes : List ℚ) → IsFraction horizon → IsFraction time → IsFractionOrNone extension → AreFractions labels → AreFractions slopes
+  advance_fits : (horizon time : ℚ) (extension : Option ℚ) (labels slopes : List ℚ) → IsFraction horizon → IsFraction time → IsFractionOrNone extension
+      → AreFractions labels → AreFractions slopes
       → Fits AreOperands AreAdvanced (advance_list passes_Q horizon time extension labels slopes)
   unfolding advance_list
   advance_fits horizon time extension labels slopes h k l m n = then_fits (checked passes_Q Difference horizon time) _ (one Difference horizon time h k)
@@ -126,11 +138,14 @@ queue_fits link (Some rate) h k = then_fits (checked passes_Q Sum link.tail_labe
     (λ size n. then_fits (slope_at passes_Q link.filled link.capacity rate) _ (slope_fits link.filled link.capacity rate h.capacity k)
     (λ slope o. ok_fits AreOperands IsFractionQueueOrNone (Some (record { size = size; slope = slope })) (record { size = n; slope = o })))))
 
-step_fits : (length so_far : ℚ) (link : LinkPhase) → IsFraction length → IsFraction so_far → IsFractionPhase link → Fits AreOperands IsFractionStep (link_step passes_Q length so_far link)
+step_fits : (length so_far : ℚ) (link : LinkPhase) → IsFraction length → IsFraction so_far → IsFractionPhase link
+    → Fits AreOperands IsFractionStep (link_step passes_Q length so_far link)
 step_fits length so_far link h k l = then_fits (checked passes_Q Product length link.flow) _ (one Product length link.flow h l.flow)
     (λ p m. then_fits (checked passes_Q Sum so_far p) _ (one Sum so_far p k m)
-    (λ amount n. then_fits (rate_over passes_Q (is_positive link.tail_slope) link.flow link.tail_slope) _ (rate_fits (is_positive link.tail_slope) link.flow link.tail_slope l.flow l.tail_slope)
-    (λ inflow_rate o. then_fits (rate_over passes_Q (is_positive link.head_slope) link.flow link.head_slope) _ (rate_fits (is_positive link.head_slope) link.flow link.head_slope l.flow l.head_slope)
+    (λ amount n. then_fits (rate_over passes_Q (is_positive link.tail_slope) link.flow link.tail_slope) _
+        (rate_fits (is_positive link.tail_slope) link.flow link.tail_slope l.flow l.tail_slope)
+    (λ inflow_rate o. then_fits (rate_over passes_Q (is_positive link.head_slope) link.flow link.head_slope) _
+        (rate_fits (is_positive link.head_slope) link.flow link.head_slope l.flow l.head_slope)
     (λ outflow_rate q. then_fits (queue_step passes_Q link inflow_rate) _ (queue_fits link inflow_rate l o)
     (λ queue r. ok_fits AreOperands IsFractionStep (record { amount = amount; inflow_rate = inflow_rate; outflow_rate = outflow_rate; queue = queue })
     (record { amount = n; inflow_rate = o; outflow_rate = q; queue = r }))))))
@@ -142,7 +157,8 @@ pub record AreSteps (step : PhaseStep) : Type 0 where
   pub links : AllByRecursion IsFractionStep step.links
 
 module _ (net : Network) (has : HasFractions net) where
-  phase_fractions : (sets : Sets) (pattern : Pattern) (flows slopes labels : List ℚ) (numbered : ℕ × Link) → AreFractions flows → AreFractions slopes → AreFractions labels → IsFractionLink numbered.1
+  phase_fractions : (sets : Sets) (pattern : Pattern) (flows slopes labels : List ℚ) (numbered : ℕ × Link) → AreFractions flows → AreFractions slopes
+      → AreFractions labels → IsFractionLink numbered.1
       → IsFractionPhase (link_phase sets pattern flows slopes labels numbered)
   phase_fractions sets pattern flows slopes labels (e, link) h k l m = record {
     capacity = m.1;
@@ -154,7 +170,8 @@ module _ (net : Network) (has : HasFractions net) where
     head_label = number_fraction labels link.head l;
   }
 
-  curve_fits : (sets : Sets) (pattern : Pattern) (length : ℚ) (flows slopes labels amounts : List ℚ) → IsFraction length → AreFractions flows → AreFractions slopes → AreFractions labels → AreFractions amounts
+  curve_fits : (sets : Sets) (pattern : Pattern) (length : ℚ) (flows slopes labels amounts : List ℚ) → IsFraction length → AreFractions flows
+      → AreFractions slopes → AreFractions labels → AreFractions amounts
       → Fits AreOperands (AllByRecursion IsFractionStep) (curve_list passes_Q net sets pattern length flows slopes labels amounts)
   unfolding curve_list
   curve_fits sets pattern length flows slopes labels amounts h k l m n = each_fits AreOperands (λ (numbered : ℕ × Link). IsFractionLink numbered.1) IsFractionStep _
@@ -163,12 +180,14 @@ module _ (net : Network) (has : HasFractions net) where
       (enumerate_from 0 net.links) (all_numbered IsFractionLink 0 net.links has.links)
 
   -- ---- the three lists in order
-  pub phase_fits : (horizon : ℚ) (s : Standing) (pattern : Pattern) (flows slopes : List ℚ) → IsFraction horizon → IsFraction s.time → AreFractions s.labels → AreFractions (slacks_of (hops net) s.labels)
+  pub phase_fits : (horizon : ℚ) (s : Standing) (pattern : Pattern) (flows slopes : List ℚ) → IsFraction horizon → IsFraction s.time → AreFractions s.labels
+      → AreFractions (slacks_of (hops net) s.labels)
       → AreFractions (map amount_so_far s.link_curves) → AreFractions flows → AreFractions slopes → Fits AreOperandsAt AreSteps (phase_lists passes_Q net horizon s pattern flows slopes)
   unfolding phase_lists
   phase_fits horizon s pattern flows slopes h t l k a f p =
       let slacks : List ℚ = slacks_of (hops net) s.labels in
-      then_fits (at_part Extend (extend_list passes_Q net slacks slopes s.time)) _ (part_fits Extend (extend_list passes_Q net slacks slopes s.time) (extend_fits net has slacks slopes s.time k p t))
+      then_fits (at_part Extend (extend_list passes_Q net slacks slopes s.time)) _
+          (part_fits Extend (extend_list passes_Q net slacks slopes s.time) (extend_fits net has slacks slopes s.time k p t))
       (λ extension m. then_fits (at_part Advance (advance_list passes_Q horizon s.time extension s.labels slopes)) _
       (part_fits Advance (advance_list passes_Q horizon s.time extension s.labels slopes) (advance_fits net has horizon s.time extension s.labels slopes h t m l p))
       (λ advanced n. (let amounts : List ℚ = map amount_so_far s.link_curves in

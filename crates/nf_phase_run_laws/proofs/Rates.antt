@@ -17,7 +17,8 @@ rates_stay before time later (piece ∷ pieces) h none = ⊎_elim
     (le_ℚ_cases piece.start time)
 
 -- within a phase
-pub rate-within : (net : Network) (slacks slopes : List ℚ) (time whole done : ℚ) → Lasts net slacks slopes time whole → 0ℚ ≤ℚ done → done <ℚ whole → rate_at net (time +ℚ done) ≡ rate_at net time
+pub rate-within : (net : Network) (slacks slopes : List ℚ) (time whole done : ℚ) → Lasts net slacks slopes time whole → 0ℚ ≤ℚ done → done <ℚ whole
+    → rate_at net (time +ℚ done) ≡ rate_at net time
 rate-within net slacks slopes time whole done lasts some short =
     rates_stay 0ℚ time (time +ℚ done) net.pieces (not_before_by time done some) (λ i piece at k. ⊎_elim
     (λ (l : time +ℚ done <ℚ piece.start). l)

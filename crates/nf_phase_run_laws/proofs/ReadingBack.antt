@@ -15,5 +15,6 @@ readable_reads_back n report named formed readable =
       only = λ other other_formed can same. same_Ok report other (sym reads ∙ ap (report_in n) same ∙ report_back n other named (fit n other named other_formed can));
     }
 
-pub reads_back : (n : Named) (bounds : Bounds) (report : Report) → IsNamed n → AreReadable bounds → IsWellFormed n.net report → IsRunReport passes_Q n.net bounds report → ReadsBack n report
+pub reads_back : (n : Named) (bounds : Bounds) (report : Report) → IsNamed n → AreReadable bounds → IsWellFormed n.net report
+    → IsRunReport passes_Q n.net bounds report → ReadsBack n report
 reads_back n bounds report named within formed run = readable_reads_back n report named formed (report_readable n named bounds within report run)

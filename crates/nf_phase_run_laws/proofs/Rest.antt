@@ -120,7 +120,8 @@ module _ (passes : Passing) (net : Network) (good : IsNetwork net) (a b : Bounds
   pub opened : IsOpen net restored
   opened = IsOpen-cut net good s.labels slopes s.time done pattern listed.states count not_negative restored first.labels refl refl longer.most longer.lasts some longer.beyond
 
-  moves : (e : ℕ) (link : Link) → IsLink net e link → slack restored.labels (hop_of link) ≡ slack s.labels (hop_of link) +ℚ done *ℚ (number_at slopes link.head -ℚ number_at slopes link.tail)
+  moves : (e : ℕ) (link : Link) → IsLink net e link → slack restored.labels (hop_of link) ≡ slack s.labels (hop_of link) +ℚ done *ℚ
+      (number_at slopes link.head -ℚ number_at slopes link.tail)
   moves = slack-moves net good s.labels slopes s.time done pattern listed.states count not_negative restored first.labels refl refl
 
   below : (e : ℕ) (link : Link) → IsLink net e link → slack s.labels (hop_of link) <ℚ 0ℚ → slack restored.labels (hop_of link) <ℚ 0ℚ
@@ -142,7 +143,8 @@ module _ (passes : Passing) (net : Network) (good : IsNetwork net) (a b : Bounds
   well_restored = WellRun-counted net cut 0 cut.last well_cut
 
   -- ---- the phase of the resumed run
-  module _ (r : Bounds) (w : Standing) (k : Goes passes net r.horizon r.patterns restored w) (none : NonePassesIn passes net r.horizon r.patterns restored w k) (to : r.horizon ≡ b.horizon) where
+  module _ (r : Bounds) (w : Standing) (k : Goes passes net r.horizon r.patterns restored w)
+      (none : NonePassesIn passes net r.horizon r.patterns restored w k) (to : r.horizon ≡ b.horizon) where
     abbrev base : Pattern
     base = k.finds.search.base
 
@@ -159,7 +161,8 @@ module _ (passes : Passing) (net : Network) (good : IsNetwork net) (a b : Bounds
     base_count = based.count ∙ length-sets net restored.labels
 
     listed_base : IsListedIn net (sets_at net restored.labels) base
-    listed_base = IsListed-restricted net good s.labels restored.labels slopes flows (rate_at net s.time) done pattern base some moves below above listed solution base_count same_count based
+    listed_base = IsListed-restricted net good s.labels restored.labels slopes flows
+        (rate_at net s.time) done pattern base some moves below above listed solution base_count same_count based
 
     solution_base : IsSolution net (sets_at net restored.labels) (rate_at net restored.time) base flows slopes
     solution_base = subst (λ (x : ℚ). IsSolution net (sets_at net restored.labels) x base flows slopes) (sym same_rate)
@@ -173,11 +176,14 @@ module _ (passes : Passing) (net : Network) (good : IsNetwork net) (a b : Bounds
 
     goes_alike : Alike base k.pattern flows k.flows slopes k.slopes
     goes_alike = record {
-      pattern_is = sym (pattern-base net (sets_at net restored.labels) base listing is_listing listed_base passes (rate_at net restored.time) r.patterns k.place k.pattern flows slopes k.flows k.slopes
+      pattern_is = sym (pattern-base net (sets_at net restored.labels) base listing is_listing listed_base passes
+          (rate_at net restored.time) r.patterns k.place k.pattern flows slopes k.flows k.slopes
           k.finds.search.is_search.answers accepted solution_base);
-      flows_are = sym (flows-same net (sets_at net restored.labels) base listing is_listing listed_base passes (rate_at net restored.time) r.patterns k.place k.pattern flows slopes k.flows k.slopes
+      flows_are = sym (flows-same net (sets_at net restored.labels) base listing is_listing listed_base passes
+          (rate_at net restored.time) r.patterns k.place k.pattern flows slopes k.flows k.slopes
           k.finds.search.is_search.answers accepted solution_base);
-      slopes_are = sym (slopes-same net (sets_at net restored.labels) base listing is_listing listed_base passes (rate_at net restored.time) r.patterns k.place k.pattern flows slopes k.flows k.slopes
+      slopes_are = sym (slopes-same net (sets_at net restored.labels) base listing is_listing listed_base passes
+          (rate_at net restored.time) r.patterns k.place k.pattern flows slopes k.flows k.slopes
           k.finds.search.is_search.answers accepted solution_base);
     }
 
@@ -191,7 +197,8 @@ module _ (passes : Passing) (net : Network) (good : IsNetwork net) (a b : Bounds
     lengths : done +ℚ k.step.length ≡ h.step.length
     lengths = ⊎_elim
         (λ (v : (x : ℚ) × IsExtension net slacks slopes s.time x × (h.step.length ≡ min_ℚ (b.horizon -ℚ s.time) x)).
-        ap (λ (z : ℚ). done +ℚ z) (IsPhaseLength-unique net (slacks_of (hops net) restored.labels) slopes restored.time b.horizon k.step.length (min_ℚ (b.horizon -ℚ restored.time) (v.0 -ℚ done)) left
+        ap (λ (z : ℚ). done +ℚ z) (IsPhaseLength-unique net (slacks_of (hops net) restored.labels) slopes restored.time b.horizon k.step.length
+            (min_ℚ (b.horizon -ℚ restored.time) (v.0 -ℚ done)) left
         (inl (
           v.0 -ℚ done,
           IsExtension-left net good s.labels slopes s.time done pattern listed.states count not_negative restored first.labels refl refl v.0 opened
@@ -201,7 +208,8 @@ module _ (passes : Passing) (net : Network) (good : IsNetwork net) (a b : Bounds
         ∙ min-left b.horizon s.time done v.0 ∙ sym v.2)
         (λ (v : IsUnending net slacks slopes s.time × (h.step.length ≡ b.horizon -ℚ s.time)).
         ap (λ (z : ℚ). done +ℚ z) (IsPhaseLength-unique net (slacks_of (hops net) restored.labels) slopes restored.time b.horizon k.step.length (b.horizon -ℚ restored.time) left
-        (inr ((λ more nn. Lasts-left net good s.labels slopes s.time done pattern listed.states count not_negative restored first.labels refl refl more nn (v.0 (done +ℚ more) (nn_plus done more not_negative nn))), refl)))
+        (inr ((λ more nn. Lasts-left net good s.labels slopes s.time done pattern listed.states count not_negative restored first.labels refl refl more nn
+            (v.0 (done +ℚ more) (nn_plus done more not_negative nn))), refl)))
         ∙ all_left done b.horizon s.time ∙ sym v.1)
         long
       where
@@ -226,7 +234,8 @@ module _ (passes : Passing) (net : Network) (good : IsNetwork net) (a b : Bounds
         moved-length (x ∷ labels) [] l m = refl
         moved-length (x ∷ labels) (y ∷ rates) l m = ap suc (moved-length labels rates l m)
 
-    label_curves_are : label_curves_after (restored.time +ℚ k.step.length) k.step.labels slopes restored.label_curves ≡ label_curves_after (s.time +ℚ h.step.length) h.step.labels slopes s.label_curves
+    label_curves_are : label_curves_after (restored.time +ℚ k.step.length) k.step.labels slopes restored.label_curves ≡ label_curves_after
+        (s.time +ℚ h.step.length) h.step.labels slopes s.label_curves
     label_curves_are =
         ap (λ (x : ℚ). label_curves_after x k.step.labels slopes restored.label_curves) time_is
         ∙ ap (λ (l : List ℚ). label_curves_after (s.time +ℚ h.step.length) l slopes restored.label_curves) labels_are
@@ -239,7 +248,8 @@ module _ (passes : Passing) (net : Network) (good : IsNetwork net) (a b : Bounds
         let v : (v : Option State) × (slice_get base e ≡ Some v) = entry base e (let n = slice_get_within net.links e link p in let c = base_count in omega arith) in
         ap (λ (x : Option (Option State)). is_filled (unwrap_or x None) (resets (sets_at net s.labels) e)) o.1
         ∙ filled-same (resets (sets_at net s.labels) e) (resets (sets_at net restored.labels) e) o.0 v.0
-        (goes-on net good s.labels restored.labels slopes flows (rate_at net s.time) done pattern base some moves below above listed solution base_count same_count based e link p o.0 v.0 o.1 v.1)
+        (goes-on net good s.labels restored.labels slopes flows (rate_at net s.time) done pattern base some moves below above listed solution base_count
+            same_count based e link p o.0 v.0 o.1 v.1)
         ∙ sym (ap (λ (x : Option (Option State)). is_filled (unwrap_or x None) (resets (sets_at net restored.labels) e)) v.1)
 
     still : (e : ℕ) (link : Link) → IsLink net e link → number_at slopes link.tail ≡ 0ℚ → number_at flows e ≡ 0ℚ
@@ -247,7 +257,8 @@ module _ (passes : Passing) (net : Network) (good : IsNetwork net) (a b : Bounds
         (thin passes net good a.horizon s pattern flows slopes g.step well g.finds.below listed solution.solves solution.meets first g.is_length)
 
     rest_links : curve_list passes net (sets_at net restored.labels) base k.step.length flows slopes h.step.labels (map amount_so_far restored.link_curves) ≡ Ok k.step.links
-    rest_links = ap (λ (l : List ℚ). curve_list passes net (sets_at net restored.labels) base k.step.length flows slopes l (map amount_so_far restored.link_curves)) (sym labels_are) ∙ rest.links
+    rest_links = ap (λ (l : List ℚ). curve_list passes net (sets_at net restored.labels) base k.step.length flows slopes l
+        (map amount_so_far restored.link_curves)) (sym labels_are) ∙ rest.links
 
     link_curves_are : link_curves_after k.step.labels net.links restored.link_curves k.step.links ≡ link_curves_after h.step.labels net.links s.link_curves h.step.links
     link_curves_are =

@@ -38,14 +38,16 @@ rate_added : (goes : Bool) (rates : List ℚ) (rate : ℚ) → AreFractions rate
 rate_added true rates rate h k = h
 rate_added false rates rate h k = every_append IsFraction rates (rate ∷ []) h (k, tt)
 
-trace_fractions : (trace : Trace) (label amount : ℚ) (rate : Option ℚ) → IsFractionTrace trace → IsFraction label → IsFraction amount → IsFractionOrNone rate → IsFractionTrace (trace_after trace label amount rate)
+trace_fractions : (trace : Trace) (label amount : ℚ) (rate : Option ℚ) → IsFractionTrace trace → IsFraction label → IsFraction amount
+    → IsFractionOrNone rate → IsFractionTrace (trace_after trace label amount rate)
 trace_fractions trace label amount None h k l m = h
 trace_fractions trace label amount (Some rate) h k l m = (
   point_added (keeps_slope (last_or None trace.rates) rate) trace.points (label, amount) h.0 (k, l),
   rate_added (keeps_slope (last_or None trace.rates) rate) trace.rates rate h.1 m,
 )
 
-queue_fractions : (curve : GrowingCurve) (label : ℚ) (step : Option QueueStep) → IsFractionCurve curve → IsFraction label → IsFractionQueueOrNone step → IsFractionCurve (queue_after curve label step)
+queue_fractions : (curve : GrowingCurve) (label : ℚ) (step : Option QueueStep) → IsFractionCurve curve → IsFraction label → IsFractionQueueOrNone step
+    → IsFractionCurve (queue_after curve label step)
 queue_fractions curve label None h k l = h
 queue_fractions curve label (Some step) h k l = point_added (keeps_slope curve.slope step.slope) curve.points (label, step.size) h (k, l.size)
 
@@ -57,7 +59,8 @@ labels_extended time (label ∷ labels) (slope ∷ slopes) [] h k l = tt
 labels_extended time (label ∷ labels) (slope ∷ slopes) (curve ∷ curves) h k l =
     (point_added (keeps_slope curve.slope slope) curve.points (time, label) l.0 (h, k.0), labels_extended time labels slopes curves h k.1 l.1)
 
-links_extended : (labels : List ℚ) (links : List Link) (curves : List LinkCurves) (steps : List LinkStep) → AreFractions labels → AllByRecursion AreFractionCurves curves → AllByRecursion IsFractionStep steps
+links_extended : (labels : List ℚ) (links : List Link) (curves : List LinkCurves) (steps : List LinkStep) → AreFractions labels
+    → AllByRecursion AreFractionCurves curves → AllByRecursion IsFractionStep steps
     → AllByRecursion AreFractionCurves (link_curves_after labels links curves steps)
 links_extended labels [] curves steps h k l = tt
 links_extended labels (link ∷ links) [] steps h k l = tt
@@ -87,7 +90,8 @@ first_curves_fractions labels link h = record {
   queue = first_queue_fractions (is_positive (number_at labels link.tail)) (number_at labels link.tail) (number_fraction labels link.tail h);
 }
 
-pub last_fraction : (o : Option Point) (points : List Point) → IsFraction (option_map_or (λ point. point.1) o 0ℚ) → AreFractionPoints points → IsFraction (option_map_or (λ point. point.1) (last_or o points) 0ℚ)
+pub last_fraction : (o : Option Point) (points : List Point) → IsFraction (option_map_or (λ point. point.1) o 0ℚ) → AreFractionPoints points
+    → IsFraction (option_map_or (λ point. point.1) (last_or o points) 0ℚ)
 last_fraction o [] h all = h
 last_fraction o (p ∷ points) h all = last_fraction (Some p) points all.0.1 all.1
 
@@ -133,7 +137,8 @@ module _ (n : Named) (named : IsNamed n) (bounds : Bounds) (within : AreReadable
         well = WellRun-start net named.network s h;
         time = subst IsFraction (sym h.time) zero_fraction;
         labels = labels;
-        label_curves = subst (AllByRecursion IsFractionCurve) (sym h.label_curves) (all_image IsFractionCurve IsFraction first_label_curve (λ label k. ((zero_fraction, k), tt)) s.labels labels);
+        label_curves = subst (AllByRecursion IsFractionCurve) (sym h.label_curves)
+            (all_image IsFractionCurve IsFraction first_label_curve (λ label k. ((zero_fraction, k), tt)) s.labels labels);
         link_curves = subst (AllByRecursion AreFractionCurves) (sym h.link_curves)
             (all_image AreFractionCurves (λ (link : Link). Unit {0}) (first_curves s.labels) (λ link k. first_curves_fractions s.labels link labels) net.links (every net.links));
       }
@@ -163,11 +168,13 @@ module _ (n : Named) (named : IsNamed n) (bounds : Bounds) (within : AreReadable
       slacks : AreFractions (slacks_of (hops net) s.labels)
       slacks = (slack_list_fits net has s.labels fit.labels).value (slacks_of (hops net) s.labels) seeks.slacks
 
-    found : (place : ℕ) (pattern : Pattern) (flows slopes : List ℚ) → Seeks passes_Q net bounds.horizon bounds.patterns s (Found place pattern flows slopes) → AreFractions flows × AreFractions slopes
+    found : (place : ℕ) (pattern : Pattern) (flows slopes : List ℚ) → Seeks passes_Q net bounds.horizon bounds.patterns s (Found place pattern flows slopes)
+        → AreFractions flows × AreFractions slopes
     found place pattern flows slopes seeks =
         let search = seeks.search.is_search in
         let listed : IsListedIn net (sets_at net s.labels) pattern = search.is_listing.listed place pattern search.answers.has_place in
-        let is_in : IsPatternIn net (sets_at net s.labels) pattern = record { network = named.network; sets_are = AreSets-sets_at net s.labels; bounded = bounded; pattern_is = listed.states } in
+        let is_in : IsPatternIn net (sets_at net s.labels) pattern = record { network = named.network; sets_are = AreSets-sets_at net s.labels; bounded =
+            bounded; pattern_is = listed.states } in
         solution_fractions net has (sets_at net s.labels) (rate_at net s.time) rate pattern flows slopes is_in search.answers.solution search.answers.accepted.none_passes
 
     lists_fit : (place : ℕ) (pattern : Pattern) (flows slopes : List ℚ) → Seeks passes_Q net bounds.horizon bounds.patterns s (Found place pattern flows slopes)
@@ -194,7 +201,8 @@ module _ (n : Named) (named : IsNamed n) (bounds : Bounds) (within : AreReadable
         }
 
     -- ---- why none is made
-    search_cause : (phase : ℕ) (answer : SearchAnswer) (cause : Cause ℚ) → IsCount phase → Seeks passes_Q net bounds.horizon bounds.patterns s answer → cause_of_search phase bounds.patterns answer ≡ Some cause
+    search_cause : (phase : ℕ) (answer : SearchAnswer) (cause : Cause ℚ) → IsCount phase → Seeks passes_Q net bounds.horizon bounds.patterns s answer
+        → cause_of_search phase bounds.patterns answer ≡ Some cause
         → IsReadableCause (Some cause)
     search_cause phase (Found place pattern flows slopes) cause h seeks e = absurd (cc)
     search_cause phase OverBudget cause h seeks e = subst IsReadableCause e (h, within.patterns)

@@ -60,7 +60,8 @@ sum-push hops (f ∷ walk) e = longer (transit_of hops f) (transit_sum hops (wal
 less_before : (a b f t w : ℚ) → a ≡ f +ℚ t → b ≡ w +ℚ t → a ≤ℚ b → f ≤ℚ w
 less_before a b f t w e g h = linear_le (a ∷ b ∷ f ∷ t ∷ w ∷ []) (eq e ∷ eq g ∷ le h ∷ []) (search reading_of) tt
 
-front_least : (hops : List Hop) (u v : ℕ) (walk : List ℕ) (r : EndsBy hops u v walk) → IsLeastTransit hops u v (transit_sum hops walk) → IsLeastTransit hops u r.hop.tail (transit_sum hops r.front)
+front_least : (hops : List Hop) (u v : ℕ) (walk : List ℕ) (r : EndsBy hops u v walk) → IsLeastTransit hops u v (transit_sum hops walk)
+    → IsLeastTransit hops u r.hop.tail (transit_sum hops r.front)
 front_least hops u v walk r least = record {
   taken = (r.front, r.is_walk, refl);
   bound = λ other is. less_before (transit_sum hops walk) (transit_sum hops (other ++ r.number ∷ [])) (transit_sum hops r.front) r.hop.transit (transit_sum hops other) r.sum

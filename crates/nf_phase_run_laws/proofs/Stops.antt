@@ -26,16 +26,20 @@ never_of net flow stop good is none phase e =
 
 -- ---- runs from the start
 pub never_report : (passes : Passing) (net : Network) (bounds : Bounds) (report : Report) → IsNetwork net → IsRunReport passes net bounds report → NeverNoPattern report.stop
-never_report passes net bounds report good r = never_of net report.flow report.stop good (report_equilibrium passes net good bounds report r) (stops_for_none passes net bounds report good r)
+never_report passes net bounds report good r =
+    never_of net report.flow report.stop good (report_equilibrium passes net good bounds report r) (stops_for_none passes net bounds report good r)
 
-pub never_run : (passes : Passing) (net : Network) (bounds : Bounds) (last : Standing) (stop : Option (Cause ℚ)) → IsNetwork net → IsPhaseRun passes net bounds last stop → NeverNoPattern stop
+pub never_run : (passes : Passing) (net : Network) (bounds : Bounds) (last : Standing) (stop : Option (Cause ℚ)) → IsNetwork net
+    → IsPhaseRun passes net bounds last stop → NeverNoPattern stop
 never_run passes net bounds last stop good run =
     never_report passes net bounds (report_of bounds.horizon last stop) good (record { last = last; stop = stop; run = run; report_is = refl })
 
 -- ---- runs from a given run state
-pub never_on : (passes : Passing) (net : Network) (bounds : Bounds) (first last : Standing) (stop : Option (Cause ℚ)) → IsNetwork net → WellRun net first → RunsOn passes net bounds first last stop
+pub never_on : (passes : Passing) (net : Network) (bounds : Bounds) (first last : Standing) (stop : Option (Cause ℚ)) → IsNetwork net → WellRun net first
+    → RunsOn passes net bounds first last stop
     → NeverNoPattern stop
-never_on passes net bounds first last stop good well runs = never_of net (flow_of last) stop good (Equilibrium-well net good last (WellRun-on passes net good bounds first last stop well runs))
+never_on passes net bounds first last stop good well runs =
+    never_of net (flow_of last) stop good (Equilibrium-well net good last (WellRun-on passes net good bounds first last stop well runs))
     (end_stops net last stop good (resumed_ends passes net good bounds first last stop well runs))
 
 -- ---- resumed ones
@@ -50,7 +54,8 @@ of_end : (net : Network) (last : Standing) (end : End) → Equilibrium net (flow
 of_end net last (Stops cause) is = is
 of_end net last (NeverEnds pattern tail) is = is
 
-pub never_forever : (passes : Passing) (net : Network) (phases patterns : ℕ) (forever : Forever) → IsNetwork net → IsForever passes net phases patterns forever → NeverNoPattern forever.stop
+pub never_forever : (passes : Passing) (net : Network) (phases patterns : ℕ) (forever : Forever) → IsNetwork net
+    → IsForever passes net phases patterns forever → NeverNoPattern forever.stop
 never_forever passes net phases patterns forever good f = never_of net forever.flow forever.stop good
     (subst (λ (w : Forever). Equilibrium net w.flow) (sym f.forever_is) (of_end net f.last f.end (Equilibrium-forever passes net good phases patterns f.last f.end f.run)))
     (forever_stops_for_none passes net phases patterns forever good f)

@@ -39,13 +39,16 @@ cleared_fits column pivot_row row h k = then_fits (checked passes_Q Quotient (nu
     (one Quotient (number_at row column) (number_at pivot_row column) (number_fraction row column k) (number_fraction pivot_row column h))
     (λ f l. then_fits (entries_less passes_Q f (drop (suc column) pivot_row) (drop (suc column) row)) _
     (entries_fit f (drop (suc column) pivot_row) (drop (suc column) row) l (all_drop IsFraction (suc column) pivot_row h) (all_drop IsFraction (suc column) row k))
-    (λ later m. ok_fits AreOperands AreFractions (take column row ++ 0ℚ ∷ later) (every_append IsFraction (take column row) (0ℚ ∷ later) (all_take IsFraction column row k) (zero_fraction, m))))
+    (λ later m. ok_fits AreOperands AreFractions (take column row ++ 0ℚ ∷ later)
+        (every_append IsFraction (take column row) (0ℚ ∷ later) (all_take IsFraction column row k) (zero_fraction, m))))
 
-unless_fits : (stays : Bool) (column : ℕ) (pivot_row row : Row) → AreFractions pivot_row → AreFractions row → Fits AreOperands AreFractions (clear_unless passes_Q stays column pivot_row row)
+unless_fits : (stays : Bool) (column : ℕ) (pivot_row row : Row) → AreFractions pivot_row → AreFractions row
+    → Fits AreOperands AreFractions (clear_unless passes_Q stays column pivot_row row)
 unless_fits true column pivot_row row h k = ok_fits AreOperands AreFractions row k
 unless_fits false column pivot_row row h k = cleared_fits column pivot_row row h k
 
-rows_fit : (column pivot : ℕ) (pivot_row : Row) (i : ℕ) (rows : List Row) → AreFractions pivot_row → AreFractionRows rows → Fits AreOperands AreFractionRows (clear_rows passes_Q column pivot pivot_row i rows)
+rows_fit : (column pivot : ℕ) (pivot_row : Row) (i : ℕ) (rows : List Row) → AreFractions pivot_row → AreFractionRows rows
+    → Fits AreOperands AreFractionRows (clear_rows passes_Q column pivot pivot_row i rows)
 rows_fit column pivot pivot_row i [] h k = ok_fits AreOperands AreFractionRows [] tt
 rows_fit column pivot pivot_row i (row ∷ rows) h k =
     let stays : Bool = i == pivot || is_zero (number_at row column) in
@@ -65,7 +68,9 @@ column_fits done column (Some pivot) h = then_fits (clear_rows passes_Q column p
 
 columns_fit : (more column : ℕ) (done : Eliminated) → HasRows done → Fits AreOperands (OrNone HasRows) (eliminate_from passes_Q more column done)
 columns_fit zero column done h = ok_fits AreOperands (OrNone HasRows) (Some done) h
-columns_fit (suc more) column done h = then_fits (eliminate_at passes_Q done column (pivot_of done.rows done.pivots column)) _ (column_fits done column (pivot_of done.rows done.pivots column) h)
+columns_fit (suc more) column done h =
+    then_fits (eliminate_at passes_Q done column (pivot_of done.rows done.pivots column)) _
+    (column_fits done column (pivot_of done.rows done.pivots column) h)
     (λ next k. if_some_fits HasRows HasRows (λ next. eliminate_from passes_Q more (suc column) next) (λ next l. columns_fit more (suc column) next l) next k)
 
 -- ---- the solution
@@ -76,10 +81,12 @@ solution_fits rows column (pivot ∷ pivots) h =
     then_fits (checked passes_Q Quotient (number_at (row_at rows pivot) (length rows)) (number_at (row_at rows pivot) column)) _
     (one Quotient (number_at (row_at rows pivot) (length rows)) (number_at (row_at rows pivot) column)
     (number_fraction (row_at rows pivot) (length rows) pivot_row) (number_fraction (row_at rows pivot) column pivot_row))
-    (λ x first. then_fits (solution_from passes_Q rows (suc column) pivots) _ (solution_fits rows (suc column) pivots h) (λ xs others. ok_fits AreOperands AreFractions (x ∷ xs) (first, others)))
+    (λ x first. then_fits (solution_from passes_Q rows (suc column) pivots) _ (solution_fits rows (suc column) pivots h)
+        (λ xs others. ok_fits AreOperands AreFractions (x ∷ xs) (first, others)))
 
 pub table_fits : (rows : List Row) → AreFractionRows rows → Fits AreOperands (OrNone AreFractions) (table_list passes_Q rows)
 unfolding table_list
 table_fits rows h = then_fits (eliminate_from passes_Q (length rows) 0 (record { rows = rows; pivots = [] })) _ (columns_fit (length rows) 0 (record { rows = rows; pivots = [] }) h)
     (λ done k. if_some_fits HasRows AreFractions (solution_of passes_Q)
-    (λ done l. then_fits (solution_from passes_Q done.rows 0 done.pivots) _ (solution_fits done.rows 0 done.pivots l) (λ xs m. ok_fits AreOperands (OrNone AreFractions) (Some xs) m)) done k)
+    (λ done l. then_fits (solution_from passes_Q done.rows 0 done.pivots) _ (solution_fits done.rows 0 done.pivots l)
+        (λ xs m. ok_fits AreOperands (OrNone AreFractions) (Some xs) m)) done k)

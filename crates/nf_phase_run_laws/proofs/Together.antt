@@ -45,7 +45,8 @@ module _ (passes : Passing) (net : Network) (good : IsNetwork net) where
   rises-runs a s last stop (at_horizon e) well = ≤ℚ_refl s.time
   rises-runs a s last stop (at_phases below e) well = ≤ℚ_refl s.time
   rises-runs a s last stop (fails may f) well = ≤ℚ_refl s.time
-  rises-runs a s last stop (goes {new = t} may g rest) well = ≤ℚ_trans _ _ _ (≤ℚ_of_lt _ _ (later-goes a s t g well)) (rises-runs a t last stop rest (WellRun-goes passes net good a s t g well))
+  rises-runs a s last stop (goes {new = t} may g rest) well =
+      ≤ℚ_trans _ _ _ (≤ℚ_of_lt _ _ (later-goes a s t g well)) (rises-runs a t last stop rest (WellRun-goes passes net good a s t g well))
 
   -- At its horizon a run has ended.
   ended : (a : Bounds) (s last : Standing) (stop : Option (Cause ℚ)) → Runs passes net a s last stop → s.time ≡ a.horizon → s ≡ last
@@ -79,7 +80,8 @@ module _ (passes : Passing) (net : Network) (good : IsNetwork net) where
     Meets = Comes b last end ⊎ CutShort a b last end
 
     -- Two phases from one run state.
-    module _ (s t u : Standing) (stop : Option (Cause ℚ)) (well : WellRun net s) (knows : Knows s) (g : Goes passes net a.horizon a.patterns s t) (h : Goes passes net b.horizon b.patterns s u)
+    module _ (s t u : Standing) (stop : Option (Cause ℚ)) (well : WellRun net s) (knows : Knows s) (g : Goes passes net a.horizon a.patterns s t)
+        (h : Goes passes net b.horizon b.patterns s u)
         (rest : Runs passes net a t last stop) (rest' : Runs passes net b u end None) where
       abbrev slacks : List ℚ
       slacks = slacks_of (hops net) s.labels
@@ -92,7 +94,8 @@ module _ (passes : Passing) (net : Network) (good : IsNetwork net) where
 
       shorter : g.step.length <ℚ h.step.length → Meets
       shorter k =
-          let at : t.time ≡ a.horizon = time_is ∙ ends_there s.time a.horizon g.step.length (cut-ends net slacks g.slopes s.time a.horizon b.horizon g.step.length h.step.length g.is_length long k) in
+          let at : t.time ≡ a.horizon = time_is ∙ ends_there s.time a.horizon g.step.length
+              (cut-ends net slacks g.slopes s.time a.horizon b.horizon g.step.length h.step.length g.is_length long k) in
           let same : t ≡ last = ended a t last stop rest at in
           inr (by_last last same)
         where
@@ -101,8 +104,10 @@ module _ (passes : Passing) (net : Network) (good : IsNetwork net) where
 
       not_longer : h.step.length <ℚ g.step.length → ⊥
       not_longer k =
-          let at : s.time +ℚ h.step.length ≡ b.horizon = ends_there s.time b.horizon h.step.length (cut-ends net slacks g.slopes s.time b.horizon a.horizon h.step.length g.step.length long g.is_length k) in
-          let beyond : b.horizon <ℚ t.time = subst (λ (x : ℚ). x <ℚ t.time) at (subst (λ (x : ℚ). s.time +ℚ h.step.length <ℚ x) (sym time_is) (longer_ends s.time h.step.length g.step.length k)) in
+          let at : s.time +ℚ h.step.length ≡ b.horizon = ends_there s.time b.horizon h.step.length
+              (cut-ends net slacks g.slopes s.time b.horizon a.horizon h.step.length g.step.length long g.is_length k) in
+          let beyond : b.horizon <ℚ t.time = subst (λ (x : ℚ). x <ℚ t.time) at
+              (subst (λ (x : ℚ). s.time +ℚ h.step.length <ℚ x) (sym time_is) (longer_ends s.time h.step.length g.step.length k)) in
           not_both_ℚ _ _ beyond (≤ℚ_trans _ _ _ (rises-runs a t last stop rest (WellRun-goes passes net good a s t g well)) within)
 
       closed_after : g.step.length ≡ h.step.length → Closed b t
@@ -123,11 +128,15 @@ module _ (passes : Passing) (net : Network) (good : IsNetwork net) where
               (subst (λ (z : ℚ). IsExtension net slacks g.slopes s.time z) (sym f) extension)
 
   -- The run to the other horizon, compared with the one that ends.
-  pub meets : (a b : Bounds) (s last end : Standing) (stop o : Option (Cause ℚ)) → last.time ≤ℚ b.horizon → WellRun net s → Knows s → Closed b s → Runs passes net a s last stop → Runs passes net b s end o → o ≡ None
+  pub meets : (a b : Bounds) (s last end : Standing) (stop o : Option (Cause ℚ)) → last.time ≤ℚ b.horizon → WellRun net s → Knows s → Closed b s
+      → Runs passes net a s last stop → Runs passes net b s end o → o ≡ None
       → Comes b last end ⊎ CutShort a b last end
-  meets a b s last end stop o within well knows closed (at_horizon e) other f = inl (record { well = well; knows = knows; closed = closed; runs = subst (λ (x : Option (Cause ℚ)). Runs passes net b s end x) f other })
-  meets a b s last end stop o within well knows closed (at_phases below e) other f = inl (record { well = well; knows = knows; closed = closed; runs = subst (λ (x : Option (Cause ℚ)). Runs passes net b s end x) f other })
-  meets a b s last end stop o within well knows closed (fails may c) other f = inl (record { well = well; knows = knows; closed = closed; runs = subst (λ (x : Option (Cause ℚ)). Runs passes net b s end x) f other })
+  meets a b s last end stop o within well knows closed (at_horizon e) other f =
+      inl (record { well = well; knows = knows; closed = closed; runs = subst (λ (x : Option (Cause ℚ)). Runs passes net b s end x) f other })
+  meets a b s last end stop o within well knows closed (at_phases below e) other f =
+      inl (record { well = well; knows = knows; closed = closed; runs = subst (λ (x : Option (Cause ℚ)). Runs passes net b s end x) f other })
+  meets a b s last end stop o within well knows closed (fails may c) other f =
+      inl (record { well = well; knows = knows; closed = closed; runs = subst (λ (x : Option (Cause ℚ)). Runs passes net b s end x) f other })
   meets a b s last end stop o within well knows closed (goes {new = t} may g rest) (at_horizon e) f =
       absurd (not_both_ℚ _ _ (<_≤_trans _ _ _ (later-goes a s t g well) (rises-runs a t last stop rest (WellRun-goes passes net good a s t g well)))
       (≤ℚ_trans _ _ _ within (≤ℚ_of_same _ _ (sym e))))
@@ -141,7 +150,8 @@ module _ (passes : Passing) (net : Network) (good : IsNetwork net) where
       (λ (l : h.step.length <ℚ g.step.length). absurd (not_longer a b last end within s t u stop well knows g h rest others l))
       (λ (l : g.step.length ≤ℚ h.step.length).
       let e : g.step.length ≡ h.step.length = ≤ℚ_antisymm _ _ l k in
-      meets a b t last end stop o within (WellRun-goes passes net good a s t g well) (goes_knows passes net a.horizon a.patterns s t g) (closed_after a b last end within s t u stop well knows g h rest others e) rest
+      meets a b t last end stop o within (WellRun-goes passes net good a s t g well) (goes_knows passes net a.horizon a.patterns s t g)
+          (closed_after a b last end within s t u stop well knows g h rest others e) rest
       (subst (λ (x : Standing). Runs passes net b x end o) (sym (same_end passes net good a b s t u well knows g h e)) rest') f)
       (lt_or_le_ℚ h.step.length g.step.length))
       (lt_or_le_ℚ g.step.length h.step.length)

@@ -87,7 +87,8 @@ module _ (passes : Passing) (net : Network) (amount : ℚ) (augments : ℕ) wher
   answered_is_quick good h (Err fault) answered = tt
 
   -- ---- the answer results from walks pushed in order
-  pub answered_in_order : IsNetwork net → 0ℚ ≤ℚ amount → 1 ≤ augments → (result : Result Quick QuickFault) → IsAnswered passes net amount augments result → IsInOrder net amount augments result
+  pub answered_in_order : IsNetwork net → 0ℚ ≤ℚ amount → 1 ≤ augments → (result : Result Quick QuickFault) → IsAnswered passes net amount augments result
+      → IsInOrder net amount augments result
   answered_in_order good h some (Ok quick) answered =
       (IsMade-list net good passes amount augments quick h answered.0 (ok_of_part (quickest_list passes net amount augments) (FoundQuick quick) answered.1)).1
   answered_in_order good h some (Err (QuickFault.Budget walks)) answered =

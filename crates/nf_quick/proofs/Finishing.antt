@@ -61,7 +61,8 @@ module _ (passes : Passing) (net : Network) (amount : ℚ) (flows given : List �
       pub sink_stops : (h : Halt ℚ) → Stops (λ (q : ℚ). q) h (at_part Part.Quick to_there) → Stops (λ (q : ℚ). q) h (at_part Part.Quick all)
       sink_stops h e = stops_as all (to_there >>= with_sink walks from_source) h two (stops to_there (with_sink walks from_source) h e)
 
-      module _ (from_sink : List (Option ℚ)) (t : at_part Part.Quick to_there ≡ Ok from_sink) (lent_source lent_sink : List (Option ℚ)) (is_source : lent_source ≡ from_source) (is_sink : lent_sink ≡ from_sink) where
+      module _ (from_sink : List (Option ℚ)) (t : at_part Part.Quick to_there ≡ Ok from_sink) (lent_source lent_sink : List (Option ℚ))
+          (is_source : lent_source ≡ from_source) (is_sink : lent_sink ≡ from_sink) where
         abbrev timed : Checked (List ℚ)
         timed = node_times_list passes time lent_source lent_sink
 

@@ -28,7 +28,8 @@ module _ (passes : Passing) (net : Network) (amount : ℚ) (augments : ℕ) wher
 
   pub pushes_first : (s : QuickStanding) → s ≡ start_of net → IsSound net s.flows → PushesOn passes net amount augments s 0
   pushes_first s e sound = record {
-    same = let left : augments - 0 ≡ augments = omega arith in ap (λ (i : ℕ). push_up_to passes net amount i s) left ∙ ap (λ (t : QuickStanding). push_up_to passes net amount augments t) e;
+    same = let left : augments - 0 ≡ augments = omega arith in ap (λ (i : ℕ). push_up_to passes net amount i s) left
+        ∙ ap (λ (t : QuickStanding). push_up_to passes net amount augments t) e;
     sound = sound;
     rate = subst (λ (t : QuickStanding). 0ℚ ≤ℚ t.rate) (sym e) (≤ℚ_refl 0ℚ);
   }
@@ -85,6 +86,8 @@ module _ (passes : Passing) (net : Network) (amount : ℚ) (augments : ℕ) wher
       over_budget walk e = ap (at_part Part.Quick) (at_end ∙ goes_on next last (Some walk) e)
 
 -- A failure of the pushes is the answer.
-pub halted : (passes : Passing) (net : Network) (amount : ℚ) (augments : ℕ) (h : Halt ℚ) → Stops (λ (q : ℚ). q) h (at_part Part.Quick (push_up_to passes net amount augments (start_of net))) → IsPushResult passes net amount augments (Err (of_halt h))
+pub halted : (passes : Passing) (net : Network) (amount : ℚ) (augments : ℕ) (h : Halt ℚ)
+    → Stops (λ (q : ℚ). q) h (at_part Part.Quick (push_up_to passes net amount augments (start_of net)))
+    → IsPushResult passes net amount augments (Err (of_halt h))
 halted passes net amount augments (Halt.Passed p) e = e
 halted passes net amount augments Halt.Memory e = tt

@@ -23,11 +23,14 @@ two_links = record {
   nodes = 2;
   source = 0;
   sink = 1;
-  links = record { tail = 0; head = 1; transit = whole (pos 1); capacity = Some (whole (pos 1)) } ∷ record { tail = 0; head = 1; transit = whole (pos 3); capacity = Some (whole (pos 1)) } ∷ [];
+  links =
+      record { tail = 0; head = 1; transit = whole (pos 1); capacity = Some (whole (pos 1)) } ∷ record { tail = 0; head = 1; transit =
+      whole (pos 3); capacity = Some (whole (pos 1)) } ∷ [];
   pieces = [];
 }
 
-first : shortest_list never two_links (whole (pos 0) ∷ whole (pos 0) ∷ []) ≡ Ok (Some (record { steps = record { link = 0; forward = true } ∷ []; length = whole (pos 1); room = whole (pos 1) }))
+first : shortest_list never two_links (whole (pos 0) ∷ whole (pos 0) ∷ []) ≡ Ok
+    (Some (record { steps = record { link = 0; forward = true } ∷ []; length = whole (pos 1); room = whole (pos 1) }))
 unfolding never two_links shortest_list reaches_list round_list checked whole ratio gcd neg_ℚ inv_ℚ ◌+ℚ◌ ◌-ℚ◌ ◌*ℚ◌ ◌/ℚ◌ le_ℚ lt_ℚ min_ℚ
 first = refl
 
@@ -41,10 +44,13 @@ seen (Ok (FoundQuick q)) = (map parts (q.time ∷ q.value ∷ map (λ (fed : Fed
 seen answer = ([], [])
 
 six : seen (quickest_list never two_links (whole (pos 6)) 2) ≡ ((pos 5, 1) ∷ (pos 6, 1) ∷ (pos 1, 1) ∷ (pos 1, 1) ∷ (pos 0, 1) ∷ (pos 5, 1) ∷ [], (0 ∷ []) ∷ (1 ∷ []) ∷ [])
-unfolding seen parts never two_links quickest_list finish_list push_list time_list node_times_list value_list distances_list shortest_list reaches_list round_list checked whole ratio gcd neg_ℚ inv_ℚ ◌+ℚ◌ ◌-ℚ◌ ◌*ℚ◌ ◌/ℚ◌ le_ℚ lt_ℚ min_ℚ
+unfolding seen parts never two_links quickest_list finish_list push_list time_list node_times_list value_list distances_list shortest_list reaches_list
+    round_list checked whole ratio gcd neg_ℚ inv_ℚ ◌+ℚ◌ ◌-ℚ◌ ◌*ℚ◌ ◌/ℚ◌ le_ℚ lt_ℚ min_ℚ
 six = refl
 
 -- With the first walk alone the time would be 7, and the next walk has length 3.
-too_few : quickest_list never two_links (whole (pos 6)) 1 ≡ Ok (Budget (record { walk = record { steps = record { link = 0; forward = true } ∷ []; length = whole (pos 1); room = whole (pos 1) }; amount = whole (pos 1) } ∷ []))
-unfolding never two_links quickest_list finish_list push_list time_list node_times_list value_list distances_list shortest_list reaches_list round_list checked whole ratio gcd neg_ℚ inv_ℚ ◌+ℚ◌ ◌-ℚ◌ ◌*ℚ◌ ◌/ℚ◌ le_ℚ lt_ℚ min_ℚ
+too_few : quickest_list never two_links (whole (pos 6)) 1 ≡ Ok (Budget (record { walk =
+    record { steps = record { link = 0; forward = true } ∷ []; length = whole (pos 1); room = whole (pos 1) }; amount = whole (pos 1) } ∷ []))
+unfolding never two_links quickest_list finish_list push_list time_list node_times_list value_list distances_list shortest_list reaches_list round_list
+    checked whole ratio gcd neg_ℚ inv_ℚ ◌+ℚ◌ ◌-ℚ◌ ◌*ℚ◌ ◌/ℚ◌ le_ℚ lt_ℚ min_ℚ
 too_few = refl

@@ -17,7 +17,8 @@ AreFewerOrFirst-length : (walk other : List Step) → AreFewerOrFirst walk other
 AreFewerOrFirst-length walk other (inl f) = omega arith
 AreFewerOrFirst-length walk other (inr f) = let e : length walk ≡ length other = f.0 in omega arith
 
-pub IsAtMost-steps : (net : Network) (walk other : List Step) → IsAtMost (reach_of net walk) (reach_of net other) → walk_length net other ≤ℚ walk_length net walk → length walk ≤ length other
+pub IsAtMost-steps : (net : Network) (walk other : List Step) → IsAtMost (reach_of net walk) (reach_of net other)
+    → walk_length net other ≤ℚ walk_length net walk → length walk ≤ length other
 IsAtMost-steps net walk other (inl l) h = absurd (not_both_ℚ _ _ l h)
 IsAtMost-steps net walk other (inr e) h = AreFewerOrFirst-length walk other e.1
 
@@ -150,7 +151,8 @@ module _ (net : Network) (flows : List ℚ) (from to : ℕ) (all : List Step) (c
       (subst (λ (k : ℕ). IsResidualWalk net flows (a.step ∷ a.after) k to) (Leads-begin net flows flows a.step step s.0 s.2.0 v w s.2.1 l a.link e) s.2))
       (λ (e : a.step.forward ≡ step.forward → ⊥).
       let turn : (s.0 ≡ w) × (s.2.0 ≡ v) = Leads-turn net flows flows a.step step s.0 s.2.0 v w s.2.1 l a.link e in
-      no_return front (step ∷ (a.before ++ a.step ∷ [])) a.after v (omega arith) (whole a ∙ ap (λ (k : List Step). front ++ step ∷ k) (sym (append_assoc a.before (a.step ∷ []) a.after))) p
+      no_return front (step ∷ (a.before ++ a.step ∷ [])) a.after v (omega arith)
+          (whole a ∙ ap (λ (k : List Step). front ++ step ∷ k) (sym (append_assoc a.before (a.step ∷ []) a.after))) p
       (w, l, subst (λ (k : ℕ). IsResidualWalk net flows (a.before ++ a.step ∷ []) w k) turn.1 (front_on a.before a.step w s.0 s.2.0 s.1 s.2.1))
       (subst (λ (k : ℕ). IsResidualWalk net flows a.after k to) turn.1 s.2.2))
       (same_ways a.step.forward step.forward)

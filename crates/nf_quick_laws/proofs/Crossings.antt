@@ -71,7 +71,8 @@ sum_out-only [] f k link v p h = absurd (cc)
 sum_out-only (l ∷ links) f zero link v p h =
     if_one (eqb l.tail v) (f 0) _ (sum_out-same links (λ e. f (suc e)) (λ _. 0ℚ) v (λ e m _ _. h (suc e) (zero_other e)) ∙ sum_out-none links v)
     ∙ ap (λ (m : Link). if eqb m.tail v then f 0 else 0ℚ) (same_Some l link p)
-sum_out-only (l ∷ links) f (suc k) link v p h = if_none (eqb l.tail v) (f 0) _ _ (h 0 (suc-ne-zero k)) (sum_out-only links (λ e. f (suc e)) k link v p (λ e other. h (suc e) (suc_other k e other)))
+sum_out-only (l ∷ links) f (suc k) link v p h =
+    if_none (eqb l.tail v) (f 0) _ _ (h 0 (suc-ne-zero k)) (sum_out-only links (λ e. f (suc e)) k link v p (λ e other. h (suc e) (suc_other k e other)))
 
 pub sum_in-only : (links : List Link) (f : ℕ → ℚ) (k : ℕ) (link : Link) (v : ℕ) → slice_get links k ≡ Some link → ((e : ℕ) → k ≢ e → f e ≡ 0ℚ)
     → sum_in links f v ≡ (if eqb link.head v then f k else 0ℚ)
@@ -79,7 +80,8 @@ sum_in-only [] f k link v p h = absurd (cc)
 sum_in-only (l ∷ links) f zero link v p h =
     if_one (eqb l.head v) (f 0) _ (sum_in-same links (λ e. f (suc e)) (λ _. 0ℚ) v (λ e m _ _. h (suc e) (zero_other e)) ∙ sum_in-none links v)
     ∙ ap (λ (m : Link). if eqb m.head v then f 0 else 0ℚ) (same_Some l link p)
-sum_in-only (l ∷ links) f (suc k) link v p h = if_none (eqb l.head v) (f 0) _ _ (h 0 (suc-ne-zero k)) (sum_in-only links (λ e. f (suc e)) k link v p (λ e other. h (suc e) (suc_other k e other)))
+sum_in-only (l ∷ links) f (suc k) link v p h =
+    if_none (eqb l.head v) (f 0) _ _ (h 0 (suc-ne-zero k)) (sum_in-only links (λ e. f (suc e)) k link v p (λ e other. h (suc e) (suc_other k e other)))
 
 pub sum_out-plus : (links : List Link) (f g : ℕ → ℚ) (v : ℕ) → sum_out links (λ e. f e +ℚ g e) v ≡ sum_out links f v +ℚ sum_out links g v
 sum_out-plus [] f g v = linear_eq [] [] (search reading_of) tt tt
@@ -104,7 +106,8 @@ pub cost_from-only : (links : List Link) (f : ℕ → ℚ) (k : ℕ) (link : Lin
 cost_from-only [] f k link p h = absurd (cc)
 cost_from-only (l ∷ links) f zero link p h =
     cost_first l.transit (f 0) _ (cost_from-none links (λ e. f (suc e)) (λ e. h (suc e) (zero_other e))) ∙ ap (λ (m : Link). m.transit *ℚ f 0) (same_Some l link p)
-cost_from-only (l ∷ links) f (suc k) link p h = cost_later l.transit (f 0) _ _ (h 0 (suc-ne-zero k)) (cost_from-only links (λ e. f (suc e)) k link p (λ e other. h (suc e) (suc_other k e other)))
+cost_from-only (l ∷ links) f (suc k) link p h =
+    cost_later l.transit (f 0) _ _ (h 0 (suc-ne-zero k)) (cost_from-only links (λ e. f (suc e)) k link p (λ e other. h (suc e) (suc_other k e other)))
 
 cost_plus : (r a c s t u : ℚ) → s ≡ t +ℚ u → r *ℚ (a +ℚ c) +ℚ s ≡ (r *ℚ a +ℚ t) +ℚ (r *ℚ c +ℚ u)
 cost_plus r a c s t u e = linear_eq (r ∷ a ∷ c ∷ s ∷ t ∷ u ∷ []) (eq e ∷ []) (search reading_of) tt tt
@@ -146,7 +149,8 @@ sign_balance false true false = linear_eq [] [] (search reading_of) tt tt
 sign_balance false false true = linear_eq [] [] (search reading_of) tt tt
 sign_balance false false false = linear_eq [] [] (search reading_of) tt tt
 
-at_ends : (d : Bool) (link : Link) (v : ℕ) → (if (if d then eqb link.tail v else eqb link.head v) then 1ℚ else 0ℚ) -ℚ (if (if d then eqb link.head v else eqb link.tail v) then 1ℚ else 0ℚ)
+at_ends : (d : Bool) (link : Link) (v : ℕ) → (if (if d then eqb link.tail v else eqb link.head v) then 1ℚ else 0ℚ) -ℚ
+    (if (if d then eqb link.head v else eqb link.tail v) then 1ℚ else 0ℚ)
     ≡ only_at (begin_of d link) 1ℚ v -ℚ only_at (end_of d link) 1ℚ v
 at_ends true link v = refl
 at_ends false link v = refl

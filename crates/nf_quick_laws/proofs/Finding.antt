@@ -34,7 +34,8 @@ pub in-steps : (k : ℕ) (links : List Link) (e : ℕ) (link : Link) (d : Bool) 
 in-steps k [] e link d p = absurd (cc)
 in-steps k (l ∷ links) zero link true p = inl (same_pair _ _ l link (at_number k (k + 0) true (omega arith)) (same_Some l link p))
 in-steps k (l ∷ links) zero link false p = inr (inl (same_pair _ _ l link (at_number k (k + 0) false (omega arith)) (same_Some l link p)))
-in-steps k (l ∷ links) (suc e) link d p = inr (inr (subst (λ (n : ℕ). IsIn (record { link = n; forward = d }, link) (steps_from (suc k) links)) (one_on k e) (in-steps (suc k) links e link d p)))
+in-steps k (l ∷ links) (suc e) link d p =
+    inr (inr (subst (λ (n : ℕ). IsIn (record { link = n; forward = d }, link) (steps_from (suc k) links)) (one_on k e) (in-steps (suc k) links e link d p)))
 
 -- ---- one round
 abbrev pub longer : Network → Reach → Step → Reach
@@ -69,7 +70,9 @@ module _ (net : Network) (flows : List ℚ) (good : IsNetwork net) where
       from_none e k h = omega arith
 
   in_links : (step : Step) (link : Link) → IsLink net step.link link → IsIn (step, link) (steps_from 0 net.links)
-  in_links step link p = subst (λ (k : ℕ). IsIn (record { link = k; forward = step.forward }, link) (steps_from 0 net.links)) (none_plus step.link) (in-steps 0 net.links step.link link step.forward p)
+  in_links step link p =
+      subst (λ (k : ℕ). IsIn (record { link = k; forward = step.forward }, link) (steps_from 0 net.links)) (none_plus step.link)
+      (in-steps 0 net.links step.link link step.forward p)
     where
       none_plus : (k : ℕ) → 0 + k ≡ k
       none_plus k = omega arith
@@ -83,7 +86,8 @@ module _ (net : Network) (flows : List ℚ) (good : IsNetwork net) where
         count = all.count;
         kept = all.kept;
         offers = λ step v w b l p. subst (λ (r : Reach). AtMostAt next w r) (extended-is net b step l.link l.is_link)
-            (subst (λ (k : ℕ). AtMostAt next k (extended b step l.link)) l.ends (all.offers step l.link b (in_links step l.link l.is_link) l.goes (ap (λ (k : ℕ). known_at before k) l.begins ∙ p)));
+            (subst (λ (k : ℕ). AtMostAt next k (extended b step l.link)) l.ends
+                (all.offers step l.link b (in_links step l.link l.is_link) l.goes (ap (λ (k : ℕ). known_at before k) l.begins ∙ p)));
         from = λ u q p. ⊎_elim
             (λ (old : known_at before u ≡ Some q). inl old)
             (λ (new : (step : Step) × (link : Link) × (b : Reach) × IsIn (step, link) (steps_from 0 net.links) × (can_go step.forward link.capacity (number_at flows step.link) ≡ true)
@@ -151,7 +155,8 @@ module _ (net : Network) (flows : List ℚ) (from : ℕ) (good : IsNetwork net) 
           (same_Some _ q (sym at_from ∙ ap (λ (k : ℕ). known_at (first_known net.nodes from) k) e ∙ p)) (e, refl)
 
       at_start : (walk : List Step) (v : ℕ) → IsResidualWalk net flows walk from v → length walk ≤ 0 → AtMostAt (first_known net.nodes from) v (reach_of net walk)
-      at_start [] v p h = subst (λ (k : ℕ). AtMostAt (first_known net.nodes from) k (reach_of net [])) p (record { distance = 0ℚ; steps = [] }, at_from, IsAtMost-refl (record { distance = 0ℚ; steps = [] }))
+      at_start [] v p h = subst (λ (k : ℕ). AtMostAt (first_known net.nodes from) k (reach_of net [])) p
+          (record { distance = 0ℚ; steps = [] }, at_from, IsAtMost-refl (record { distance = 0ℚ; steps = [] }))
       at_start (step ∷ walk) v p h = absurd (omega arith)
 
   pub HasBest-round : (k : ℕ) (before next : Known) → HasBest net flows from k before → IsRound net flows before next → HasBest net flows from (suc k) next
@@ -160,7 +165,8 @@ module _ (net : Network) (flows : List ℚ) (from : ℕ) (good : IsNetwork net) 
     valid = λ v q p. ⊎_elim
         (λ (old : known_at before v ≡ Some q). b.valid v q old)
         (λ (new : (step : Step) × (u : ℕ) × (a : Reach) × Leads net flows step u v × (known_at before u ≡ Some a) × (q ≡ longer net a step)).
-        subst (λ (x : Reach). IsResidualWalk net flows x.steps from v × (x.distance ≡ walk_length net x.steps)) (sym new.5) (longer_valid new.0 new.1 v new.2 new.3 (b.valid new.1 new.2 new.4)))
+        subst (λ (x : Reach). IsResidualWalk net flows x.steps from v × (x.distance ≡ walk_length net x.steps)) (sym new.5)
+            (longer_valid new.0 new.1 v new.2 new.3 (b.valid new.1 new.2 new.4)))
         (r.from v q p);
     best = λ walk v p h. by_last walk v p h (last_step walk);
   }
@@ -191,8 +197,10 @@ module _ (net : Network) (flows : List ℚ) (from : ℕ) (good : IsNetwork net) 
                 (IsAtMost-more a.0 (reach_of net w.front) w.step (step_length net w.step) _ _ refl (sum_last _ _ _ (walk_length-append net w.front (w.step ∷ []))) a.2)),
           )
 
-  pub HasBest-rounds : (passes : Passing) (left k : ℕ) (before next : Known) → HasBest net flows from k before → rounds_list passes left net.links flows before ≡ Ok next → HasBest net flows from (left + k) next
-  HasBest-rounds passes zero k before next b e = subst (λ (n : ℕ). HasBest net flows from n next) (none_plus k) (subst (λ (x : Known). HasBest net flows from k x) (same_Ok before next e) b)
+  pub HasBest-rounds : (passes : Passing) (left k : ℕ) (before next : Known) → HasBest net flows from k before
+      → rounds_list passes left net.links flows before ≡ Ok next → HasBest net flows from (left + k) next
+  HasBest-rounds passes zero k before next b e =
+      subst (λ (n : ℕ). HasBest net flows from n next) (none_plus k) (subst (λ (x : Known). HasBest net flows from k x) (same_Ok before next e) b)
     where
       none_plus : (k : ℕ) → k ≡ 0 + k
       none_plus k = omega arith

@@ -15,7 +15,8 @@ use Rattle.nf_quick_laws.proofs.Cutting.{IsCutTo, cut, IsCutTo-at_most}
 
 module _ (net : Network) (flows : List ℚ) (from : ℕ) (good : IsNetwork net) (inside : from < net.nodes) (closed : NoneNegative net flows) where
   -- The shortened walk to v, or a better one, is known.
-  best_at : (k : ℕ) (known : Known) → HasBest net flows from k known → net.nodes ≤ suc k → (walk : List Step) (v : ℕ) → IsResidualWalk net flows walk from v → AtMostAt known v (reach_of net walk)
+  best_at : (k : ℕ) (known : Known) → HasBest net flows from k known → net.nodes ≤ suc k → (walk : List Step) (v : ℕ) → IsResidualWalk net flows walk from v
+      → AtMostAt known v (reach_of net walk)
   best_at k known b enough walk v p =
       let c : (short : List Step) × IsCutTo net flows from v good walk short = cut net flows from v good closed inside walk p in
       let few : length c.0 < net.nodes = c.1.few in
@@ -39,19 +40,24 @@ module _ (net : Network) (flows : List ℚ) (from : ℕ) (good : IsNetwork net) 
   pub IsFoundAt-list : (passes : Passing) (known : Known) → reaches_list passes net flows from ≡ Ok known → (v : ℕ) → IsFoundAt net flows from v (known_at known v)
   unfolding reaches_list
   IsFoundAt-list passes known e v =
-      let b : HasBest net flows from (net.nodes - 1 + 0) known = HasBest-rounds net flows from good inside passes (net.nodes - 1) 0 (first_known net.nodes from) known (HasBest-first net flows from good inside) e in
+      let b : HasBest net flows from (net.nodes - 1 + 0) known = HasBest-rounds net flows from good inside passes (net.nodes - 1) 0
+          (first_known net.nodes from) known (HasBest-first net flows from good inside) e in
       found_at (net.nodes - 1 + 0) known b (omega arith) v (known_at known v) refl
 
   pub reaches-count : (passes : Passing) (known : Known) → reaches_list passes net flows from ≡ Ok known → length known ≡ net.nodes
   unfolding reaches_list
-  reaches-count passes known e = (HasBest-rounds net flows from good inside passes (net.nodes - 1) 0 (first_known net.nodes from) known (HasBest-first net flows from good inside) e).count
+  reaches-count passes known e =
+      (HasBest-rounds net flows from good inside passes (net.nodes - 1) 0 (first_known net.nodes from) known
+      (HasBest-first net flows from good inside) e).count
 
 -- ---- exactly, where no operation passes
 abbrev pub Succeeds : {A : Type 0} → Checked A → Type 0
 Succeeds {A} w = (a : A) × (w ≡ Ok a)
 
 along-given : (goes : Bool) (before : Option Reach) (step : Step) (transit : ℚ) (end : ℕ) (so_far : Known) → Succeeds (along never goes before step transit end so_far)
-along-given true (Some b) step transit end so_far = (_, ap (λ (w : Checked ℚ). ◌>>=◌ w (λ z. Ok (offered so_far end (record { distance = z; steps = b.steps ++ step ∷ [] })))) (checked-never (op_of step.forward) b.distance transit))
+along-given true (Some b) step transit end so_far =
+    (_, ap (λ (w : Checked ℚ). ◌>>=◌ w (λ z. Ok (offered so_far end (record { distance = z; steps = b.steps ++ step ∷ [] }))))
+    (checked-never (op_of step.forward) b.distance transit))
 along-given true None step transit end so_far = (so_far, refl)
 along-given false before step transit end so_far = (so_far, refl)
 

@@ -8,7 +8,8 @@ use Rattle.nf_quick_laws.proofs.Found.{IsFoundAt-list, reaches-count, IsLeastLen
 use Rattle.nf_quick_laws.proofs.PushList.{RoomFound, RoomFound-fold, can_go_each, unbounded_walk}
 
 module _ (passes : Passing) (net : Network) (flows : List ℚ) (good : IsNetwork net) (closed : NoneNegative net flows) where
-  room_of : (limited : IsLimited net) (walk : List Step) (room : Option ℚ) → IsResidualWalk net flows walk net.source net.sink → RoomFound passes net flows walk None room → IsRoom net flows walk (unwrap_or room 0ℚ)
+  room_of : (limited : IsLimited net) (walk : List Step) (room : Option ℚ) → IsResidualWalk net flows walk net.source net.sink
+      → RoomFound passes net flows walk None room → IsRoom net flows walk (unwrap_or room 0ℚ)
   room_of limited walk None p r = let u = unbounded_walk net flows walk net.source net.sink p r.1 in absurd (limited u.0 u.1)
   room_of limited walk (Some m) p r = record { some = r.some; has_room = r.has_room; greatest = λ other h. r.greatest other tt h }
 
@@ -33,7 +34,8 @@ module _ (passes : Passing) (net : Network) (flows : List ℚ) (good : IsNetwork
       by_known limited (known_at w.0 net.sink) found (IsFoundAt-list net flows net.source good good.source closed passes w.0 w.1 net.sink) w.2
 
   -- An entry of the distances is the length of the known path.
-  entry_of : (known : Known) (v : ℕ) (o : Option ℚ) → slice_get (map (option_map (λ (r : Reach). r.distance)) known) v ≡ Some o → option_map (λ (r : Reach). r.distance) (known_at known v) ≡ o
+  entry_of : (known : Known) (v : ℕ) (o : Option ℚ) → slice_get (map (option_map (λ (r : Reach). r.distance)) known) v ≡ Some o
+      → option_map (λ (r : Reach). r.distance) (known_at known v) ≡ o
   entry_of known v o e = by_entry (slice_get known v) (sym (slice_get-map (option_map (λ (r : Reach). r.distance)) known v) ∙ e)
     where
       by_entry : (x : Option (Option Reach)) → option_map (option_map (λ (r : Reach). r.distance)) x ≡ Some o → option_map (λ (r : Reach). r.distance) (unwrap_or x None) ≡ o
@@ -44,14 +46,17 @@ module _ (passes : Passing) (net : Network) (flows : List ℚ) (good : IsNetwork
   least_at from v None d f e = absurd (cc)
   least_at from v (Some q) d f e = subst (λ (x : ℚ). IsLeastLength net flows from v x) (sym f.1 ∙ same_Some q.distance d e) (IsLeastLength-first net flows from v q.steps f.0)
 
-  none_at : (from v : ℕ) (o : Option Reach) → IsFoundAt net flows from v o → option_map (λ (r : Reach). r.distance) o ≡ None → (walk : List Step) → IsResidualWalk net flows walk from v → ⊥
+  none_at : (from v : ℕ) (o : Option Reach) → IsFoundAt net flows from v o → option_map (λ (r : Reach). r.distance) o ≡ None → (walk : List Step)
+      → IsResidualWalk net flows walk from v → ⊥
   none_at from v None f e = f
   none_at from v (Some q) f e = absurd (cc)
 
-  pub AreLeastLengths-list : (from : ℕ) → from < net.nodes → (distances : List (Option ℚ)) → distances_list passes net flows from ≡ Ok distances → AreLeastLengths net flows from distances
+  pub AreLeastLengths-list : (from : ℕ) → from < net.nodes → (distances : List (Option ℚ)) → distances_list passes net flows from ≡ Ok distances
+      → AreLeastLengths net flows from distances
   unfolding distances_list
   AreLeastLengths-list from inside distances e =
-      let w : (known : Known) × (reaches_list passes net flows from ≡ Ok known) × (◌≡◌ {A = Checked (List (Option ℚ))} (Ok (map (option_map (λ (r : Reach). r.distance)) known)) (Ok distances)) =
+      let w : (known : Known) × (reaches_list passes net flows from ≡ Ok known)
+          × (◌≡◌ {A = Checked (List (Option ℚ))} (Ok (map (option_map (λ (r : Reach). r.distance)) known)) (Ok distances)) =
       bind-ok (reaches_list passes net flows from) (λ known. Ok (map (option_map (λ (r : Reach). r.distance)) known)) distances e in
       let found : (v : ℕ) → IsFoundAt net flows from v (known_at w.0 v) = IsFoundAt-list net flows from good inside closed passes w.0 w.1 in
       subst (λ (x : List (Option ℚ)). AreLeastLengths net flows from x) (same_Ok _ distances w.2) (record {

@@ -107,22 +107,28 @@ module _ (net : Network) (flows new : List ℚ) (walk : List Step) (amount : ℚ
   at_least : (e : ℕ) → 0ℚ ≤ℚ number_at new e
   at_least e = ⊎_elim
       (λ (z : crossed walk e ≡ 0ℚ). same_nn _ _ (sound.flow.at_least e) (moved_by_zero _ _ _ amount z (pushed.flow e)))
-      (λ (t : Taken e). new_nn t.step.forward t.holds.0.leads.link.capacity (number_at flows e) (number_at new e) (crossed walk e) amount (sound.flow.at_least e) some t.once (pushed.flow e) (taken_room e t))
+      (λ (t : Taken e). new_nn t.step.forward t.holds.0.leads.link.capacity (number_at flows e) (number_at new e) (crossed walk e) amount
+          (sound.flow.at_least e) some t.once (pushed.flow e) (taken_room e t))
       (taken_or_not e)
 
   at_most : (e : ℕ) (link : Link) (capacity : ℚ) → IsLink net e link → link.capacity ≡ Some capacity → number_at new e ≤ℚ capacity
   at_most e link capacity p c = ⊎_elim
       (λ (z : crossed walk e ≡ 0ℚ). same_within _ _ capacity (sound.flow.at_most e link capacity p c) (moved_by_zero _ _ _ amount z (pushed.flow e)))
       (λ (t : Taken e). new_within t.step.forward t.holds.0.leads.link.capacity (number_at flows e) (number_at new e) (crossed walk e) amount capacity
-      (ap (λ (l : Link). l.capacity) (same_link e t.holds.0.leads.link link (taken_link e t) p) ∙ c) (sound.flow.at_most e link capacity p c) some t.once (pushed.flow e) (taken_room e t))
+      (ap (λ (l : Link). l.capacity) (same_link e t.holds.0.leads.link link (taken_link e t) p) ∙ c) (sound.flow.at_most e link capacity p c) some t.once
+          (pushed.flow e) (taken_room e t))
       (taken_or_not e)
 
   -- ---- sums at the nodes
   out_new : (v : ℕ) → sum_out net.links (number_at new) v ≡ sum_out net.links (number_at flows) v +ℚ sum_out net.links (crossed walk) v *ℚ amount
-  out_new v = sum_out-same net.links (number_at new) (λ e. number_at flows e +ℚ crossed walk e *ℚ amount) v (λ e _ _ _. pushed.flow e) ∙ sum_out-line net.links (number_at flows) (crossed walk) amount v
+  out_new v =
+      sum_out-same net.links (number_at new) (λ e. number_at flows e +ℚ crossed walk e *ℚ amount) v (λ e _ _ _. pushed.flow e)
+      ∙ sum_out-line net.links (number_at flows) (crossed walk) amount v
 
   in_new : (v : ℕ) → sum_in net.links (number_at new) v ≡ sum_in net.links (number_at flows) v +ℚ sum_in net.links (crossed walk) v *ℚ amount
-  in_new v = sum_in-same net.links (number_at new) (λ e. number_at flows e +ℚ crossed walk e *ℚ amount) v (λ e _ _ _. pushed.flow e) ∙ sum_in-line net.links (number_at flows) (crossed walk) amount v
+  in_new v =
+      sum_in-same net.links (number_at new) (λ e. number_at flows e +ℚ crossed walk e *ℚ amount) v (λ e _ _ _. pushed.flow e)
+      ∙ sum_in-line net.links (number_at flows) (crossed walk) amount v
 
   kept : (o i p q y z a b amount : ℚ) → y ≡ o +ℚ p *ℚ amount → z ≡ i +ℚ q *ℚ amount → o ≡ i → p -ℚ q ≡ a -ℚ b → a ≡ 0ℚ → b ≡ 0ℚ → y ≡ z
   kept o i p q y z a b m e f g h k l = linear_eq (o ∷ i ∷ p ∷ q ∷ y ∷ z ∷ a ∷ b ∷ m ∷ []) (eq e ∷ eq f ∷ eq g ∷ eq_times m h ∷ eq_times m k ∷ eq_times m l ∷ []) (search reading_of) tt tt
@@ -244,11 +250,13 @@ module _ (net : Network) (flows new : List ℚ) (walk : List Step) (amount : ℚ
 
   into_source : (e : ℕ) (link : Link) → IsLink net e link → link.head ≡ net.source → number_at new e ≡ 0ℚ
   into_source e link p h = let z = sound.into_source e link p h in not_taken e z (λ t. t.holds.0.end_other
-      (sym t.holds.0.leads.ends ∙ ap (λ (d : Bool). end_of d t.holds.0.leads.link) (only_along e t z) ∙ ap (λ (l : Link). l.head) (same_link e t.holds.0.leads.link link (taken_link e t) p) ∙ h))
+      (sym t.holds.0.leads.ends ∙ ap (λ (d : Bool). end_of d t.holds.0.leads.link) (only_along e t z)
+          ∙ ap (λ (l : Link). l.head) (same_link e t.holds.0.leads.link link (taken_link e t) p) ∙ h))
 
   out_of_sink : (e : ℕ) (link : Link) → IsLink net e link → link.tail ≡ net.sink → number_at new e ≡ 0ℚ
   out_of_sink e link p h = let z = sound.out_of_sink e link p h in not_taken e z (λ t. t.holds.0.begin_other
-      (sym t.holds.0.leads.begins ∙ ap (λ (d : Bool). begin_of d t.holds.0.leads.link) (only_along e t z) ∙ ap (λ (l : Link). l.tail) (same_link e t.holds.0.leads.link link (taken_link e t) p) ∙ h))
+      (sym t.holds.0.leads.begins ∙ ap (λ (d : Bool). begin_of d t.holds.0.leads.link) (only_along e t z)
+          ∙ ap (λ (l : Link). l.tail) (same_link e t.holds.0.leads.link link (taken_link e t) p) ∙ h))
 
   pub IsSound-pushed : IsSound net new
   IsSound-pushed = record {
@@ -260,7 +268,9 @@ module _ (net : Network) (flows new : List ℚ) (walk : List Step) (amount : ℚ
 
   -- ---- value and cost
   value_more : (o i p q y z a b m : ℚ) → y ≡ o +ℚ p *ℚ m → z ≡ i +ℚ q *ℚ m → i ≡ 0ℚ → z ≡ 0ℚ → p -ℚ q ≡ a -ℚ b → a ≡ 1ℚ → b ≡ 0ℚ → y ≡ o +ℚ m
-  value_more o i p q y z a b m e f g h j k l = linear_eq (o ∷ i ∷ p ∷ q ∷ y ∷ z ∷ a ∷ b ∷ m ∷ []) (eq e ∷ eq f ∷ eq g ∷ eq h ∷ eq_times m j ∷ eq_times m k ∷ eq_times m l ∷ []) (search reading_of) tt tt
+  value_more o i p q y z a b m e f g h j k l =
+      linear_eq (o ∷ i ∷ p ∷ q ∷ y ∷ z ∷ a ∷ b ∷ m ∷ []) (eq e ∷ eq f ∷ eq g ∷ eq h ∷ eq_times m j ∷ eq_times m k ∷ eq_times m l ∷ [])
+      (search reading_of) tt tt
 
   none_in : (xs : List ℚ) → ((e : ℕ) (link : Link) → IsLink net e link → link.head ≡ net.source → number_at xs e ≡ 0ℚ) → sum_in net.links (number_at xs) net.source ≡ 0ℚ
   none_in xs h = sum_in-same net.links (number_at xs) (λ _. 0ℚ) net.source (λ e link p at. h e link p at) ∙ sum_in-none net.links net.source

@@ -16,7 +16,8 @@ no_step d = linear_le (d ∷ []) [] (search reading_of) tt
 one_step : (b c d l m : ℚ) → c ≤ℚ d +ℚ l → b ≤ℚ c +ℚ m → b ≤ℚ d +ℚ (l +ℚ m)
 one_step b c d l m h k = linear_le (b ∷ c ∷ d ∷ l ∷ m ∷ []) (le h ∷ le k ∷ []) (search reading_of) tt
 
-pub ArePotentials-walk : (net : Network) (flows : List ℚ) (At : ℕ → ℚ → Type 0) → ArePotentials net flows At → (walk : List Step) (v w : ℕ) (d : ℚ) → At v d → IsResidualWalk net flows walk v w
+pub ArePotentials-walk : (net : Network) (flows : List ℚ) (At : ℕ → ℚ → Type 0) → ArePotentials net flows At → (walk : List Step) (v w : ℕ) (d : ℚ) → At v d
+    → IsResidualWalk net flows walk v w
     → (c : ℚ) × At w c × (c ≤ℚ d +ℚ walk_length net walk)
 ArePotentials-walk net flows At fits [] v w d a p = (d, subst (λ (k : ℕ). At k d) p a, no_step d)
 ArePotentials-walk net flows At fits (step ∷ walk) v w d a p =
@@ -25,7 +26,8 @@ ArePotentials-walk net flows At fits (step ∷ walk) v w d a p =
     (r.0, r.1, one_step r.0 s.0 d (step_length net step) (walk_length net walk) s.2 r.2)
 
 -- so a walk between two nodes with potentials is at least as long as their difference
-pub ArePotentials-between : (net : Network) (flows : List ℚ) (At : ℕ → ℚ → Type 0) → ArePotentials net flows At → (walk : List Step) (v w : ℕ) (d c : ℚ) → At v d → At w c → IsResidualWalk net flows walk v w
+pub ArePotentials-between : (net : Network) (flows : List ℚ) (At : ℕ → ℚ → Type 0) → ArePotentials net flows At → (walk : List Step) (v w : ℕ) (d c : ℚ)
+    → At v d → At w c → IsResidualWalk net flows walk v w
     → c ≤ℚ d +ℚ walk_length net walk
 ArePotentials-between net flows At fits walk v w d c a b p =
     let r : (c : ℚ) × At w c × (c ≤ℚ d +ℚ walk_length net walk) = ArePotentials-walk net flows At fits walk v w d a p in

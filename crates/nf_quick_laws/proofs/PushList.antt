@@ -47,8 +47,11 @@ module _ (passes : Passing) (amount : ℚ) where
       (λ (w : (eqb step.link e ≡ false) × (step.link ≢ e)). number_at-else flows step.link e z w.1 ∙ none_moved _ amount _ (choose_not (eqb step.link e) _ _ w.0))
       (eqb_tells step.link e)
 
-  pub IsPushed-fold : (walk : List Step) (flows new : List ℚ) → EachStep (λ step. step.link < length flows) walk → fold_checked (push_step passes amount) flows walk ≡ Ok new → IsPushed flows walk amount new
-  IsPushed-fold [] flows new each e = subst (λ (k : List ℚ). IsPushed flows [] amount k) (same_Ok flows new e) (record { count = refl; flow = λ k. plus_zero_times (number_at flows k) amount })
+  pub IsPushed-fold : (walk : List Step) (flows new : List ℚ) → EachStep (λ step. step.link < length flows) walk
+      → fold_checked (push_step passes amount) flows walk ≡ Ok new → IsPushed flows walk amount new
+  IsPushed-fold [] flows new each e =
+      subst (λ (k : List ℚ). IsPushed flows [] amount k) (same_Ok flows new e)
+      (record { count = refl; flow = λ k. plus_zero_times (number_at flows k) amount })
   IsPushed-fold (step ∷ walk) flows new each e =
       let w : (mid : List ℚ) × (push_step passes amount flows step ≡ Ok mid) × (fold_checked (push_step passes amount) mid walk ≡ Ok new) =
       bind-ok (push_step passes amount flows step) (λ mid. fold_checked (push_step passes amount) mid walk) new e in
@@ -59,14 +62,16 @@ module _ (passes : Passing) (amount : ℚ) where
       let more : IsPushed w.0 walk amount new = IsPushed-fold walk w.0 new (each_same walk (length flows) (length w.0) (sym count) each.1) w.2 in
       record {
         count = more.count ∙ count;
-        flow = λ k. one_more _ _ _ _ _ amount (ap (λ (l : List ℚ). number_at l k) (sym mid_is) ∙ after_step flows step z.0 each.0 (checked-is passes (op_of step.forward) (number_at flows step.link) amount z.0 z.1) k)
+        flow = λ k. one_more _ _ _ _ _ amount (ap (λ (l : List ℚ). number_at l k) (sym mid_is)
+            ∙ after_step flows step z.0 each.0 (checked-is passes (op_of step.forward) (number_at flows step.link) amount z.0 z.1) k)
             (more.flow k);
       }
     where
       each_same : (walk : List Step) (m n : ℕ) → m ≡ n → EachStep (λ step. step.link < m) walk → EachStep (λ step. step.link < n) walk
       each_same walk m n e h = subst (λ (k : ℕ). EachStep (λ step. step.link < k) walk) e h
 
-  pub IsPushed-list : (walk : List Step) (flows new : List ℚ) → EachStep (λ step. step.link < length flows) walk → push_list passes walk amount flows ≡ Ok new → IsPushed flows walk amount new
+  pub IsPushed-list : (walk : List Step) (flows new : List ℚ) → EachStep (λ step. step.link < length flows) walk
+      → push_list passes walk amount flows ≡ Ok new → IsPushed flows walk amount new
   unfolding push_list
   IsPushed-list walk flows new each e = IsPushed-fold walk flows new each e
 
@@ -87,7 +92,8 @@ pub record IsRoomOf (net : Network) (flows : List ℚ) (walk : List Step) (least
   pub greatest : (other : ℚ) → IsWithin least other → HasRoomOn net flows other walk → other ≤ℚ room
   pub some : 0ℚ <ℚ room
 
-pub can_go_each : (net : Network) (flows : List ℚ) (walk : List Step) (v w : ℕ) → IsResidualWalk net flows walk v w → EachStep (λ step. (link : Link) × IsLink net step.link link × (can_go step.forward link.capacity (number_at flows step.link) ≡ true)) walk
+pub can_go_each : (net : Network) (flows : List ℚ) (walk : List Step) (v w : ℕ) → IsResidualWalk net flows walk v w
+    → EachStep (λ step. (link : Link) × IsLink net step.link link × (can_go step.forward link.capacity (number_at flows step.link) ≡ true)) walk
 can_go_each net flows [] v w p = tt
 can_go_each net flows (step ∷ walk) v w p = ((p.1.link, p.1.is_link, p.1.goes), can_go_each net flows walk p.0 w p.2)
 
@@ -210,7 +216,8 @@ module _ (passes : Passing) (net : Network) (flows : List ℚ) where
     some = r.some;
   }
 
-  pub RoomFound-fold : (walk : List Step) (least result : Option ℚ) → IsAboveNone least → EachStep (λ step. (link : Link) × IsLink net step.link link × (can_go step.forward link.capacity (number_at flows step.link) ≡ true)) walk
+  pub RoomFound-fold : (walk : List Step) (least result : Option ℚ) → IsAboveNone least
+      → EachStep (λ step. (link : Link) × IsLink net step.link link × (can_go step.forward link.capacity (number_at flows step.link) ≡ true)) walk
       → fold_checked (room_after passes net flows) least walk ≡ Ok result → RoomFound walk least result
   RoomFound-fold [] least result a each e = subst (λ (o : Option ℚ). RoomFound [] least o) (same_Ok least result e) (at_end least a)
   RoomFound-fold (step ∷ walk) least result a each e =
@@ -219,8 +226,10 @@ module _ (passes : Passing) (net : Network) (flows : List ℚ) where
       add_one (one_room least w.0 step each.0.0 a each.0.1 each.0.2 w.1) (λ above. RoomFound-fold walk w.0 result above each.1 w.2)
     where
       add_one : {mid : Option ℚ} → OneRoom net flows least step mid → (IsAboveNone mid → RoomFound walk mid result) → RoomFound (step ∷ walk) least result
-      add_one {mid} (is_free link p f u m) more = add_free step walk least result (link, p, f, u) (subst (λ (o : Option ℚ). RoomFound walk o result) m (more (subst IsAboveNone (sym m) a)))
-      add_one {mid} (is_limited m is h f g some) more = add_limited step walk least m result h f g (subst (λ (o : Option ℚ). RoomFound walk o result) is (more (subst IsAboveNone (sym is) some)))
+      add_one {mid} (is_free link p f u m) more = add_free step walk least result (link, p, f, u)
+          (subst (λ (o : Option ℚ). RoomFound walk o result) m (more (subst IsAboveNone (sym m) a)))
+      add_one {mid} (is_limited m is h f g some) more = add_limited step walk least m result h f g
+          (subst (λ (o : Option ℚ). RoomFound walk o result) is (more (subst IsAboveNone (sym is) some)))
 
 -- a residual walk along unbounded links is a walk of unbounded links
 pub unbounded_walk : (net : Network) (flows : List ℚ) (walk : List Step) (v w : ℕ) → IsResidualWalk net flows walk v w

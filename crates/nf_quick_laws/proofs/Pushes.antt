@@ -18,7 +18,8 @@ pub HasRoomOn-less : (net : Network) (flows : List ℚ) (a b : ℚ) (walk : List
 HasRoomOn-less net flows a b [] h r = tt
 HasRoomOn-less net flows a b (step ∷ walk) h r = ((λ link p. along_less step.forward link.capacity _ a b h (r.0 link p)), HasRoomOn-less net flows a b walk h r.1)
 
-pub links_within : (net : Network) (flows : List ℚ) (n : ℕ) (walk : List Step) (v w : ℕ) → n ≡ length net.links → IsResidualWalk net flows walk v w → EachStep (λ step. step.link < n) walk
+pub links_within : (net : Network) (flows : List ℚ) (n : ℕ) (walk : List Step) (v w : ℕ) → n ≡ length net.links → IsResidualWalk net flows walk v w
+    → EachStep (λ step. step.link < n) walk
 links_within net flows n [] v w e p = tt
 links_within net flows n (step ∷ walk) v w e p =
     (subst (λ (k : ℕ). step.link < k) (sym e) (slice_get_within net.links step.link p.1.link p.1.is_link), links_within net flows n walk p.0 w e p.2)

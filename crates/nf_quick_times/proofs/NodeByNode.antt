@@ -23,7 +23,9 @@ pub record TimesOn (passes : Passing) (time : ℚ) (from_source from_sink : List
 module _ (passes : Passing) (time : ℚ) (from_source from_sink : List (Option ℚ)) where
   pub times_first : (cut : List ℚ) → cut ≡ [] → TimesOn passes time from_source from_sink cut 0
   unfolding node_times_list
-  times_first cut none = record { same = ap (λ (l : List ℚ). with_front l (each (node_time_at passes time from_sink) (enumerate_from 0 from_source))) none ∙ first (each (node_time_at passes time from_sink) (enumerate_from 0 from_source)) }
+  times_first cut none =
+      record { same = ap (λ (l : List ℚ). with_front l (each (node_time_at passes time from_sink) (enumerate_from 0 from_source))) none
+      ∙ first (each (node_time_at passes time from_sink) (enumerate_from 0 from_source)) }
     where
       first : (r : Checked (List ℚ)) → with_front [] r ≡ r
       first (Ok ys) = refl
@@ -35,16 +37,20 @@ module _ (passes : Passing) (time : ℚ) (from_source from_sink : List (Option �
         (sym (ap (λ (l : List (Option ℚ)). with_front cut (each (node_time_at passes time from_sink) (enumerate_from k l))) (drop_all k from_source b)) ∙ on.same)
 
     module _ (here there : Option ℚ) (b : k < length from_source) (is : here ≡ get_or from_source k here) (also : there ≡ unwrap_or (slice_get from_sink k) None) where
-      split : with_front cut (each (node_time_at passes time from_sink) ((k, here) ∷ enumerate_from (k + 1) (drop (k + 1) from_source))) ≡ node_times_list passes time from_source from_sink
-      split = ap (λ (l : List (Option ℚ)). with_front cut (each (node_time_at passes time from_sink) (enumerate_from k l))) (sym (drop_more from_source k here b ∙ ap (λ (o : Option ℚ). o ∷ drop (k + 1) from_source) (sym is))) ∙ on.same
+      split : with_front cut (each (node_time_at passes time from_sink) ((k, here) ∷ enumerate_from (k + 1) (drop (k + 1) from_source)))
+          ≡ node_times_list passes time from_source from_sink
+      split = ap (λ (l : List (Option ℚ)). with_front cut (each (node_time_at passes time from_sink) (enumerate_from k l)))
+          (sym (drop_more from_source k here b ∙ ap (λ (o : Option ℚ). o ∷ drop (k + 1) from_source) (sym is))) ∙ on.same
 
       pub time_passes : (p : PassedAt ℚ) → Err p ≡ at_part Part.Quick (node_time passes time here there) → at_part Part.Quick (node_times_list passes time from_source from_sink) ≡ Err p
-      time_passes p e = each_stops Part.Quick (node_time_at passes time from_sink) cut (node_times_list passes time from_source from_sink) (k, here) (enumerate_from (k + 1) (drop (k + 1) from_source)) split p
+      time_passes p e = each_stops Part.Quick (node_time_at passes time from_sink) cut (node_times_list passes time from_source from_sink) (k, here)
+          (enumerate_from (k + 1) (drop (k + 1) from_source)) split p
           (ap (λ (o : Option ℚ). at_part Part.Quick (node_time passes time here o)) (sym also) ∙ sym e)
 
       pub times_more : (y : ℚ) → Ok y ≡ at_part Part.Quick (node_time passes time here there) → TimesOn passes time from_source from_sink (cut ++ y ∷ []) (k + 1)
       times_more y e = record {
-        same = each_goes Part.Quick (node_time_at passes time from_sink) cut (node_times_list passes time from_source from_sink) (k, here) (enumerate_from (k + 1) (drop (k + 1) from_source)) split y
+        same = each_goes Part.Quick (node_time_at passes time from_sink) cut (node_times_list passes time from_source from_sink) (k, here)
+            (enumerate_from (k + 1) (drop (k + 1) from_source)) split y
             (ap (λ (o : Option ℚ). at_part Part.Quick (node_time passes time here o)) (sym also) ∙ sym e);
       }
 
@@ -66,7 +72,8 @@ module _ (passes : Passing) (links : List Link) (cut : List ℚ) where
 
     module _ (link : Link) (is : slice_get links k ≡ Some link) where
       pub value_passes : (p : PassedAt ℚ) → Err p ≡ at_part Part.Quick (value_after passes cut value link) → Err p ≡ at_part Part.Quick (value_list passes links cut)
-      value_passes p e = fold_stops (value_after passes cut) links 0ℚ value k on link (slice_get_within links k link is) (sym (get_or_from_slice_get links k link link is)) p e ∙ ap (at_part Part.Quick) (sym whole)
+      value_passes p e = fold_stops (value_after passes cut) links 0ℚ value k on link (slice_get_within links k link is)
+          (sym (get_or_from_slice_get links k link link is)) p e ∙ ap (at_part Part.Quick) (sym whole)
 
       pub values_more : (next : ℚ) → Ok next ≡ at_part Part.Quick (value_after passes cut value link) → ValuesOn passes links cut next (k + 1)
       values_more next e = fold_more (value_after passes cut) links 0ℚ value k on link (slice_get_within links k link is) (sym (get_or_from_slice_get links k link link is)) next e

@@ -119,7 +119,8 @@ module _ (passes : Passing) (net : Network) (amount : ℚ) (good : ArePieces net
   none_of (Some next) e = absurd (cc)
 
   module _ (known : ℚ) (k : ℕ) (comes : Comes passes net amount known k) (piece : Piece) (is : slice_get net.pieces k ≡ Some piece) where
-    pub in_last_piece : None ≡ option_map (λ (p : Piece). p.start) (slice_get net.pieces (k + 1)) → departs passes supply_at amount 0ℚ net.pieces ≡ last_piece passes supply_at amount (lt_ℚ 0ℚ piece.rate) known piece
+    pub in_last_piece : None ≡ option_map (λ (p : Piece). p.start) (slice_get net.pieces (k + 1))
+        → departs passes supply_at amount 0ℚ net.pieces ≡ last_piece passes supply_at amount (lt_ℚ 0ℚ piece.rate) known piece
     in_last_piece e = last known k comes piece is (none_of (slice_get net.pieces (k + 1)) e)
 
     module _ (start : ℚ) (follows : Some start ≡ option_map (λ (p : Piece). p.start) (slice_get net.pieces (k + 1))) where
@@ -155,7 +156,8 @@ departure_least passes net amount good some found e =
     (ok_of_part (departure_list passes (checked_supply passes net) amount net.pieces) found e)
 
 -- For the amount 0.
-pub departure_of_none : (passes : Passing) (net : Network) (amount time : ℚ) → ArePieces net.pieces → 0ℚ ≤ℚ amount → le_ℚ amount 0ℚ ≡ true → time ≡ 0ℚ → IsDeparture net amount (Some time)
+pub departure_of_none : (passes : Passing) (net : Network) (amount time : ℚ) → ArePieces net.pieces → 0ℚ ≤ℚ amount → le_ℚ amount 0ℚ ≡ true → time ≡ 0ℚ
+    → IsDeparture net amount (Some time)
 unfolding departure_list
 departure_of_none passes net amount time good some t e = departure_least passes net amount good some (Some time)
     (ap (λ (b : Bool). at_part Part.Quick (departure_of passes (checked_supply passes net) amount b net.pieces)) t ∙ ap (λ (x : ℚ). Ok (Some x)) (sym e))
@@ -165,7 +167,9 @@ pub departure_found : (passes : Passing) (net : Network) (amount : ℚ) (r : Res
     → r ≡ at_part Part.Quick (departs passes (checked_supply passes net) amount 0ℚ net.pieces) → IfOk r (IsDeparture net amount)
 unfolding departure_list
 departure_found passes net amount r good some f e =
-    if_ok Part.Quick r (departs passes (checked_supply passes net) amount 0ℚ net.pieces) (IsDeparture net amount) e (λ found g. departure_least passes net amount good some found (listed found g))
+    if_ok Part.Quick r (departs passes (checked_supply passes net) amount 0ℚ net.pieces) (IsDeparture net amount) e
+        (λ found g. departure_least passes net amount good some found (listed found g))
   where
-    listed : (found : Option ℚ) → departs passes (checked_supply passes net) amount 0ℚ net.pieces ≡ Ok found → at_part Part.Quick (departure_list passes (checked_supply passes net) amount net.pieces) ≡ Ok found
+    listed : (found : Option ℚ) → departs passes (checked_supply passes net) amount 0ℚ net.pieces ≡ Ok found
+        → at_part Part.Quick (departure_list passes (checked_supply passes net) amount net.pieces) ≡ Ok found
     listed found g = ap (λ (b : Bool). at_part Part.Quick (departure_of passes (checked_supply passes net) amount b net.pieces)) f ∙ ap (at_part Part.Quick) g

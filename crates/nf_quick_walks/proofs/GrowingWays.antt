@@ -58,7 +58,8 @@ record Leading (ways : Ways) (link : Link) : Type 0 where
 is_leading : (ways : Ways) (link : Link) → leads_on ways link ≡ true → Leading ways link
 is_leading ways link e = parts link.capacity (way_at ways link.tail) (way_at ways link.head) refl refl refl e
   where
-    parts : (c : Option ℚ) (t h : Option (List ℕ)) → link.capacity ≡ c → way_at ways link.tail ≡ t → way_at ways link.head ≡ h → (is_none c && (is_some t && not (is_some h))) ≡ true → Leading ways link
+    parts : (c : Option ℚ) (t h : Option (List ℕ)) → link.capacity ≡ c → way_at ways link.tail ≡ t → way_at ways link.head ≡ h
+        → (is_none c && (is_some t && not (is_some h))) ≡ true → Leading ways link
     parts None (Some way) None p q r e = record { unbounded = p; way = way; tail = q; head = r }
     parts None (Some way) (Some other) p q r e = absurd (cc)
     parts None None h p q r e = absurd (cc)
@@ -69,7 +70,8 @@ leads ways link way p q r = ap (λ (c : Option ℚ). is_none c && (is_some (way_
     ∙ ap (λ (t : Option (List ℕ)). is_some t && not (is_some (way_at ways link.head))) q ∙ ap (λ (h : Option (List ℕ)). not (is_some h)) r
 
 -- ---- a walk extended by an unbounded link
-link_more : (net : Network) (walk : List ℕ) (v e : ℕ) (link : Link) → IsUnboundedWalk net walk v link.tail → IsLink net e link → link.capacity ≡ None → IsUnboundedWalk net (walk ++ e ∷ []) v link.head
+link_more : (net : Network) (walk : List ℕ) (v e : ℕ) (link : Link) → IsUnboundedWalk net walk v link.tail → IsLink net e link → link.capacity ≡ None
+    → IsUnboundedWalk net (walk ++ e ∷ []) v link.head
 link_more net [] v e link w is free = (link, is, free, sym w, refl)
 link_more net (f ∷ walk) v e link w is free = (w.0, w.1, w.2, w.3, link_more net walk w.0.head e link w.4 is free)
 
@@ -114,7 +116,8 @@ module _ (net : Network) (good : IsNetwork net) where
       pub ways_more : AreWays net (set ways at (Some longer))
       ways_more = subst (λ (i : ℕ). AreWays net (set ways i (Some longer))) (sym at_head) (record {
         count = length-set ways link.head (Some longer) ∙ are.count;
-        source = (are.source.0, at_other ways link.head net.source (Some longer) (λ (h : link.head ≡ net.source). no_some _ are.source.0 (ap (λ (v : ℕ). way_at ways v) (sym h) ∙ leading.head) are.source.1) ∙ are.source.1);
+        source = (are.source.0, at_other ways link.head net.source (Some longer)
+            (λ (h : link.head ≡ net.source). no_some _ are.source.0 (ap (λ (v : ℕ). way_at ways v) (sym h) ∙ leading.head) are.source.1) ∙ are.source.1);
         walks = λ v way f. ⊎_elim
             (λ (w : (eqb link.head v ≡ true) × (link.head ≡ v)). new v way w.1 f)
             (λ (w : (eqb link.head v ≡ false) × (link.head ≢ v)). are.walks v way (sym (at_other ways link.head v (Some longer) w.1) ∙ f))
@@ -123,13 +126,15 @@ module _ (net : Network) (good : IsNetwork net) where
         where
           new : (v : ℕ) (way : List ℕ) → link.head ≡ v → way_at (set ways link.head (Some longer)) v ≡ Some way → IsUnboundedWalk net way net.source v
           new v way same f =
-              let one : ◌≡◌ {A = Option (List ℕ)} (Some longer) (Some way) = sym (at_same ways link.head (Some longer) head_below) ∙ ap (λ (u : ℕ). way_at (set ways link.head (Some longer)) u) same ∙ f in
+              let one : ◌≡◌ {A = Option (List ℕ)} (Some longer) (Some way) = sym (at_same ways link.head (Some longer) head_below)
+                  ∙ ap (λ (u : ℕ). way_at (set ways link.head (Some longer)) u) same ∙ f in
               let w : longer ≡ way = cc in
               subst (λ (l : List ℕ). IsUnboundedWalk net l net.source v) w (subst (λ (u : ℕ). IsUnboundedWalk net longer net.source u) same is_longer)
 
   -- ---- if no link leads to a new node, all walks are known
   module _ (ways : Ways) (none : NoneLeadsOn net ways) where
-    next : (link : Link) (e v : ℕ) (way : List ℕ) → way_at ways v ≡ Some way → IsLink net e link → link.capacity ≡ None → link.tail ≡ v → (other : List ℕ) × (way_at ways link.head ≡ Some other)
+    next : (link : Link) (e v : ℕ) (way : List ℕ) → way_at ways v ≡ Some way → IsLink net e link → link.capacity ≡ None → link.tail ≡ v
+        → (other : List ℕ) × (way_at ways link.head ≡ Some other)
     next link e v way known is free begins = ⊎_elim
         (λ (h : way_at ways link.head ≡ None). absurd (not_both (leads_on ways link) (leads ways link way free (ap (λ (u : ℕ). way_at ways u) begins ∙ known) h) (none e link is)))
         (λ (h : (other : List ℕ) × (way_at ways link.head ≡ Some other)). h)

@@ -24,10 +24,12 @@ some_sum passes so_far rate all h k e =
     subst (λ (x : ℚ). 0ℚ <ℚ x) (sym (checked-is passes Sum so_far rate all (ok_of_part (checked passes Sum so_far rate) all (sym e)))) (nn_plus_ps so_far rate h k)
 
 -- ---- the next walk, from the shortest one
-module _ (passes : Passing) (net : Network) (amount : ℚ) (s : QuickStanding) (flows : List ℚ) (flows_are : flows ≡ s.flows) (found next : Option Walk) (is : next ≡ next_of passes net amount s found) where
+module _ (passes : Passing) (net : Network) (amount : ℚ) (s : QuickStanding) (flows : List ℚ) (flows_are : flows ≡ s.flows) (found next : Option Walk)
+    (is : next ≡ next_of passes net amount s found) where
   pub next_listed : at_part Part.Quick (shortest_list passes net flows) ≡ Ok found → at_part Part.Quick (next_list passes net amount s) ≡ Ok next
   next_listed e = ap (at_part Part.Quick)
-      (goes_on (shortest_list passes net s.flows) (λ o. Ok (next_of passes net amount s o)) found (ap (λ (l : List ℚ). at_part Part.Quick (shortest_list passes net l)) (sym flows_are) ∙ e)) ∙ ap Ok (sym is)
+      (goes_on (shortest_list passes net s.flows) (λ o. Ok (next_of passes net amount s o)) found
+          (ap (λ (l : List ℚ). at_part Part.Quick (shortest_list passes net l)) (sym flows_are) ∙ e)) ∙ ap Ok (sym is)
 
   if_early : (b : Bool) (walk : Walk) → IsShortestWalk net flows walk → IfSome (if b then Some walk else None) (IsShortestWalk net flows)
   if_early true walk h = h
@@ -59,11 +61,15 @@ module _ (passes : Passing) (net : Network) (amount : ℚ) (s t : QuickStanding)
   pub move_passes : (p : PassedAt ℚ) → Err p ≡ at_part Part.Quick moved → at_part Part.Quick (push_on passes net amount t v) ≡ Err p
   move_passes p e = ap (at_part Part.Quick) opened ∙ stopped moved (λ flows. timed >>= λ times. Ok (made flows times)) p (sym e)
 
-  pub time_passes : (flows : List ℚ) → Ok flows ≡ at_part Part.Quick moved → (p : PassedAt ℚ) → Err p ≡ at_part Part.Quick timed → at_part Part.Quick (push_on passes net amount t v) ≡ Err p
-  time_passes flows f p e = ap (at_part Part.Quick) (opened ∙ goes_on moved (λ flows. timed >>= λ times. Ok (made flows times)) flows (sym f)) ∙ stopped timed (λ times. Ok (made flows times)) p (sym e)
+  pub time_passes : (flows : List ℚ) → Ok flows ≡ at_part Part.Quick moved → (p : PassedAt ℚ) → Err p ≡ at_part Part.Quick timed
+      → at_part Part.Quick (push_on passes net amount t v) ≡ Err p
+  time_passes flows f p e =
+      ap (at_part Part.Quick) (opened ∙ goes_on moved (λ flows. timed >>= λ times. Ok (made flows times)) flows (sym f))
+      ∙ stopped timed (λ times. Ok (made flows times)) p (sym e)
 
   -- A push that succeeds.
-  pub push_made : (flows : List ℚ) → Ok flows ≡ at_part Part.Quick moved → (times u : Times) → Ok times ≡ at_part Part.Quick timed → u ≡ times → (pushed : List Augment) → pushed ≡ s.pushed ++ record { walk = v; amount = w.room } ∷ []
+  pub push_made : (flows : List ℚ) → Ok flows ≡ at_part Part.Quick moved → (times u : Times) → Ok times ≡ at_part Part.Quick timed → u ≡ times
+      → (pushed : List Augment) → pushed ≡ s.pushed ++ record { walk = v; amount = w.room } ∷ []
       → at_part Part.Quick (push_on passes net amount t v) ≡ Ok (record { flows = flows; pushed = pushed; rate = u.rate; cost = u.cost; time = Some u.time })
   push_made flows f times u e is pushed more =
       ap (at_part Part.Quick) (opened ∙ goes_on moved (λ flows. timed >>= λ times. Ok (made flows times)) flows (sym f) ∙ goes_on timed (λ times. Ok (made flows times)) times (sym e))

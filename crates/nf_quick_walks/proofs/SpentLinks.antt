@@ -30,12 +30,14 @@ looks_from links v flows zero h = looks_first links v flows
 looks_from links v flows (suc n) h =
     one_more (looks_from links v flows n (λ k link l e. h k link (omega arith) e)) (slice_get_cases links n).1
   where
-    one_more : LooksOn links v flows n → ((x : Link) × (n < length links) × (slice_get links n ≡ Some x) × (get_or links n x ≡ x)) ⊎ ((length links ≤ n) × (slice_get links n ≡ None)) → LooksOn links v flows (suc n)
+    one_more : LooksOn links v flows n → ((x : Link) × (n < length links) × (slice_get links n ≡ Some x) × (get_or links n x ≡ x)) ⊎ ((length links ≤ n)
+        × (slice_get links n ≡ None)) → LooksOn links v flows (suc n)
     one_more on (inl w) = subst (λ (m : ℕ). LooksOn links v flows m) (add-one n) (looks_more links v flows n on w.0 w.2 (h n w.0 (omega arith) w.2))
     one_more on (inr w) =
         let past : length links ≤ n = w.0 in
         let further : length links ≤ suc n = omega arith in
-        record { same = ap (λ (l : List Link). first_out (suc n) l v flows) (drop_all (suc n) links further) ∙ sym (ap (λ (l : List Link). first_out n l v flows) (drop_all n links past)) ∙ on.same }
+        record { same = ap (λ (l : List Link). first_out (suc n) l v flows) (drop_all (suc n) links further)
+            ∙ sym (ap (λ (l : List Link). first_out n l v flows) (drop_all n links past)) ∙ on.same }
 
 -- ---- the links before the first one with flow are spent
 abbrev head_or : Bool → ℕ → List Link → ℕ → List ℚ → Option ℕ
@@ -53,7 +55,8 @@ spent_before e (x ∷ links) v flows o f k link is h = by_test (is_out x v (numb
     same_link x y e = cc
 
     by_test : (t : Bool) → is_out x v (number_at flows e) ≡ t → (k : ℕ) → slice_get (x ∷ links) k ≡ Some link → e + k < unwrap_or o (e + length (x ∷ links))
-        → ((j : ℕ) → slice_get links j ≡ Some link → suc e + j < unwrap_or o (suc e + length links) → first_out (suc e) links v flows ≡ o → is_out link v (number_at flows (suc e + j)) ≡ false)
+        → ((j : ℕ) → slice_get links j ≡ Some link → suc e + j < unwrap_or o (suc e + length links) → first_out (suc e) links v flows ≡ o
+            → is_out link v (number_at flows (suc e + j)) ≡ false)
         → is_out link v (number_at flows (e + k)) ≡ false
     by_test true t k is h rest = absurd (here_only e k (unwrap_or o (e + length (x ∷ links))) h
         (ap (λ (p : Option ℕ). unwrap_or p (e + length (x ∷ links))) (sym f ∙ ap (λ (b : Bool). head_or b e links v flows) t)))
@@ -64,14 +67,16 @@ spent_before e (x ∷ links) v flows o f k link is h = by_test (is_out x v (numb
         let at : e + suc k ≡ suc e + k = omega arith in
         let long : e + length (x ∷ links) ≡ suc e + length links = omega arith in
         ap (λ (i : ℕ). is_out link v (number_at flows i)) at
-        ∙ rest k is (subst (λ (m : ℕ). suc e + k < unwrap_or o m) long (subst (λ (i : ℕ). i < unwrap_or o (e + length (x ∷ links))) at h)) (sym (ap (λ (b : Bool). head_or b e links v flows) t) ∙ f)
+        ∙ rest k is (subst (λ (m : ℕ). suc e + k < unwrap_or o m) long (subst (λ (i : ℕ). i < unwrap_or o (e + length (x ∷ links))) at h))
+            (sym (ap (λ (b : Bool). head_or b e links v flows) t) ∙ f)
 
 pub spent_up_to : (links : List Link) (v : ℕ) (flows : List ℚ) (o : Option ℕ) (n : ℕ) → o ≡ first_out 0 links v flows → n ≡ unwrap_or o (length links) → IsSpent links flows v n
 spent_up_to links v flows o n f e k link h is =
     let all : 0 + length links ≡ length links = omega arith in
     let at : 0 + k ≡ k = omega arith in
     ap (λ (i : ℕ). is_out link v (number_at flows i)) (sym at)
-    ∙ spent_before 0 links v flows o (sym f) k link is (subst (λ (i : ℕ). i < unwrap_or o (0 + length links)) (sym at) (subst (λ (m : ℕ). k < unwrap_or o m) (sym all) (subst (λ (m : ℕ). k < m) e h)))
+    ∙ spent_before 0 links v flows o (sym f) k link is (subst (λ (i : ℕ). i < unwrap_or o (0 + length links)) (sym at)
+        (subst (λ (m : ℕ). k < unwrap_or o m) (sym all) (subst (λ (m : ℕ). k < m) e h)))
 
 -- The first link found has flow.
 pub out_has_flow : (e : ℕ) (links : List Link) (v : ℕ) (flows : List ℚ) (n : ℕ) → first_out e links v flows ≡ Some n → lt_ℚ 0ℚ (number_at flows n) ≡ true
@@ -79,7 +84,8 @@ out_has_flow e [] v flows n f = absurd (cc)
 out_has_flow e (x ∷ links) v flows n f = by_test (is_out x v (number_at flows e)) refl (λ g. out_has_flow (suc e) links v flows n g)
   where
     by_test : (t : Bool) → is_out x v (number_at flows e) ≡ t → (first_out (suc e) links v flows ≡ Some n → lt_ℚ 0ℚ (number_at flows n) ≡ true) → lt_ℚ 0ℚ (number_at flows n) ≡ true
-    by_test true t rest = subst (λ (i : ℕ). lt_ℚ 0ℚ (number_at flows i) ≡ true) (same_number e n (sym (ap (λ (b : Bool). head_or b e links v flows) t) ∙ f)) (and_parts (x.tail == v) (lt_ℚ 0ℚ (number_at flows e)) t).1
+    by_test true t rest = subst (λ (i : ℕ). lt_ℚ 0ℚ (number_at flows i) ≡ true) (same_number e n (sym (ap (λ (b : Bool). head_or b e links v flows) t) ∙ f))
+        (and_parts (x.tail == v) (lt_ℚ 0ℚ (number_at flows e)) t).1
     by_test false t rest = rest (sym (ap (λ (b : Bool). head_or b e links v flows) t) ∙ f)
 
 -- ---- an entry that is written
@@ -90,7 +96,8 @@ set_cases (y ∷ xs) zero x (suc v) n e = inr e
 set_cases (y ∷ xs) (suc i) x zero n e = inr e
 set_cases (y ∷ xs) (suc i) x (suc v) n e = ⊎_elim (λ (w : (v ≡ i) × (n ≡ x)). inl (ap suc w.0, w.1)) (λ w. inr w) (set_cases xs i x v n e)
 
-pub spent_more : (links : List Link) (flows : List ℚ) (spent next : List ℕ) (v n : ℕ) → AreSpent links flows spent → IsSpent links flows v n → next ≡ set spent v n → AreSpent links flows next
+pub spent_more : (links : List Link) (flows : List ℚ) (spent next : List ℕ) (v n : ℕ) → AreSpent links flows spent → IsSpent links flows v n
+    → next ≡ set spent v n → AreSpent links flows next
 spent_more links flows spent next v n all one made u m e = ⊎_elim
     (λ (w : (u ≡ v) × (m ≡ n)). subst (λ (i : ℕ). IsSpent links flows i m) (sym w.0) (subst (λ (i : ℕ). IsSpent links flows v i) (sym w.1) one))
     (λ (w : slice_get spent u ≡ Some m). all u m w)
@@ -122,7 +129,8 @@ module _ (passes : Passing) (rate : ℚ) (flows : List ℚ) (k : ℕ) (spent : l
       ∙ ap (λ (l : List ℚ). number_at l k) (sym (same_Ok (set so_far i left.0) first.0 left.2))
       ∙ number_elsewhere so_far i k left.0 (λ same. not_both (lt_ℚ 0ℚ (number_at flows k)) (ap (λ (j : ℕ). lt_ℚ 0ℚ (number_at flows j)) same ∙ h.0) spent)
 
-pub spent_still : (passes : Passing) (rate : ℚ) (links : List Link) (flows new : List ℚ) (way spent : List ℕ) → HaveFlow flows way → Ok new ≡ at_part Part.Quick (take_list passes rate way flows) → AreSpent links flows spent → AreSpent links new spent
+pub spent_still : (passes : Passing) (rate : ℚ) (links : List Link) (flows new : List ℚ) (way spent : List ℕ) → HaveFlow flows way
+    → Ok new ≡ at_part Part.Quick (take_list passes rate way flows) → AreSpent links flows spent → AreSpent links new spent
 spent_still passes rate links flows new way spent h e all v n at k link l is = by_flow (lt_ℚ 0ℚ (number_at flows k)) refl
   where
     was : is_out link v (number_at flows k) ≡ false

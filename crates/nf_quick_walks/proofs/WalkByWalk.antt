@@ -23,7 +23,9 @@ use Rattle.nf_quick_walks.specs.Spent.{is_out}
 
 -- ---- the flows of the links, with one more
 pub flow_more : (all so_far next : List ℚ) (k : ℕ) (x : ℚ) → k < length all → so_far ≡ take k all → x ≡ number_at all k → next ≡ so_far ++ x ∷ [] → next ≡ take (k + 1) all
-flow_more all so_far next k x h e is made = made ∙ ap (λ (y : ℚ). so_far ++ y ∷ []) (is ∙ unwrap_or-slice_get all k 0ℚ) ∙ ap (λ (l : List ℚ). l ++ get_or all k 0ℚ ∷ []) e ∙ sym (take_more all k 0ℚ h)
+flow_more all so_far next k x h e is made =
+    made ∙ ap (λ (y : ℚ). so_far ++ y ∷ []) (is ∙ unwrap_or-slice_get all k 0ℚ) ∙ ap (λ (l : List ℚ). l ++ get_or all k 0ℚ ∷ []) e
+    ∙ sym (take_more all k 0ℚ h)
 
 -- ---- the first link out: the remaining links give the result of all links
 pub record LooksOn (links : List Link) (v : ℕ) (flows : List ℚ) (k : ℕ) : Type 0 where
@@ -90,7 +92,8 @@ module _ (net : Network) (flows : List ℚ) where
         within = all_with (λ (e : ℕ). e < length net.links) way e leads.within h;
       }
 
-    pub way_goes : (b : k < net.nodes) (e : ℕ) (link : Link) (next : List ℕ) (head : ℕ) → Some e ≡ first_out 0 net.links node flows → IsLink net e link → e < length net.links → next ≡ way ++ e ∷ [] → head ≡ link.head
+    pub way_goes : (b : k < net.nodes) (e : ℕ) (link : Link) (next : List ℕ) (head : ℕ) → Some e ≡ first_out 0 net.links node flows → IsLink net e link
+        → e < length net.links → next ≡ way ++ e ∷ [] → head ≡ link.head
         → LeadsOut net flows next head (k + 1)
     way_goes b e link next head f is h made there = subst (λ (v : ℕ). LeadsOut net flows next v (k + 1)) (sym there)
         (subst (λ (w : List ℕ). LeadsOut net flows w link.head (k + 1)) (sym made) (way_more b e link (sym f) is h))
@@ -104,7 +107,8 @@ module _ (passes : Passing) (net : Network) (all : List ℚ) where
   pub takes_first : (walks : List Fed) (flows : List ℚ) → walks ≡ [] → flows ≡ all → length flows ≡ length net.links → TakesOn passes net all walks flows 0
   takes_first walks flows none same count = subst (λ (w : List Fed). TakesOn passes net all w flows 0) (sym none) (record {
     same = first (walks_off passes (length net.links - 0) net flows)
-        ∙ let left : length net.links - 0 ≡ length net.links = omega arith in ap (λ (i : ℕ). walks_off passes i net flows) left ∙ ap (λ (l : List ℚ). walks_off passes (length net.links) net l) same;
+        ∙ let left : length net.links - 0 ≡ length net.links = omega arith in
+            ap (λ (i : ℕ). walks_off passes i net flows) left ∙ ap (λ (l : List ℚ). walks_off passes (length net.links) net l) same;
     count = count;
   })
     where
@@ -126,7 +130,8 @@ module _ (passes : Passing) (net : Network) (all : List ℚ) where
           ap (λ (w : List ℕ). with_front walks (walk_and passes later w flows)) is ∙ sym (ap (λ (i : ℕ). with_front walks (walks_off passes i net flows)) more) ∙ on.same
 
       pub none_left : way ≡ [] → at_part Part.Quick (walks_off passes (length net.links) net all) ≡ Ok walks
-      none_left none = front_ends Part.Quick walks (walks_off passes (length net.links) net all) (sym (ap (λ (w : List ℕ). with_front walks (walk_and passes later w flows)) none) ∙ split)
+      none_left none = front_ends Part.Quick walks (walks_off passes (length net.links) net all)
+          (sym (ap (λ (w : List ℕ). with_front walks (walk_and passes later w flows)) none) ∙ split)
 
       module _ (some : way ≡ [] → ⊥) where
         abbrev rate : ℚ
@@ -138,7 +143,9 @@ module _ (passes : Passing) (net : Network) (all : List ℚ) where
         abbrev onward : List ℚ → Checked (List Fed)
         onward next = later next >>= λ rest. Ok (fed ∷ rest)
 
-        by_way : (w : List ℕ) → (w ≡ [] → ⊥) → walk_and passes later w flows ≡ (take_list passes (least_along flows None w) w flows >>= λ next. later next >>= λ rest. Ok (record { rate = least_along flows None w; walk = w } ∷ rest))
+        by_way : (w : List ℕ) → (w ≡ [] → ⊥) → walk_and passes later w flows
+            ≡ (take_list passes (least_along flows None w) w flows >>= λ next. later next >>= λ rest. Ok
+            (record { rate = least_along flows None w; walk = w } ∷ rest))
         by_way [] n = absurd (n refl)
         by_way (e ∷ walk) n = refl
 
@@ -146,9 +153,11 @@ module _ (passes : Passing) (net : Network) (all : List ℚ) where
         whole = ap (with_front walks) (sym (by_way way some)) ∙ split
 
         pub take_passes : (p : PassedAt ℚ) → Err p ≡ at_part Part.Quick (take_list passes rate way flows) → at_part Part.Quick (walks_off passes (length net.links) net all) ≡ Err p
-        take_passes p e = ap (at_part Part.Quick) (sym whole) ∙ front_err Part.Quick walks (take_list passes rate way flows >>= onward) p (stopped (take_list passes rate way flows) onward p (sym e))
+        take_passes p e = ap (at_part Part.Quick) (sym whole) ∙ front_err Part.Quick walks (take_list passes rate way flows >>= onward) p
+            (stopped (take_list passes rate way flows) onward p (sym e))
 
-        pub takes_more : (next : List ℚ) (taken : Fed) (new : List Fed) → Ok next ≡ at_part Part.Quick (take_list passes rate way flows) → length next ≡ length flows → taken ≡ fed → new ≡ walks ++ taken ∷ []
+        pub takes_more : (next : List ℚ) (taken : Fed) (new : List Fed) → Ok next ≡ at_part Part.Quick (take_list passes rate way flows)
+            → length next ≡ length flows → taken ≡ fed → new ≡ walks ++ taken ∷ []
             → TakesOn passes net all new next (k + 1)
         takes_more next taken new e n is made = record {
           same = ap (λ (w : List Fed). with_front w (later next)) (made ∙ ap (λ (f : Fed). walks ++ f ∷ []) is)

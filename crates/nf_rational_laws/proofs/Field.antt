@@ -15,7 +15,9 @@ pub +ℚ_comm : (x y : ℚ) → x +ℚ y ≡ y +ℚ x
 +ℚ_comm x y = plus_comm' _ _ _ _ (Is-self x) (Is-self y)
 
 plus_assoc' : {x y z : ℚ} (n d m e k f : ℤ) → Is x n d → Is y m e → Is z k f → (x +ℚ y) +ℚ z ≡ x +ℚ (y +ℚ z)
-plus_assoc' n d m e k f p q r = Is-same _ _ _ _ (Is-plus _ _ k f (Is-plus n d m e p q) r) (Is-plus n d _ _ p (Is-plus m e k f q r)) (ring ints_ring (n ∷ d ∷ m ∷ e ∷ k ∷ f ∷ []) (search reading depth 30) tt)
+plus_assoc' n d m e k f p q r =
+    Is-same _ _ _ _ (Is-plus _ _ k f (Is-plus n d m e p q) r) (Is-plus n d _ _ p (Is-plus m e k f q r))
+    (ring ints_ring (n ∷ d ∷ m ∷ e ∷ k ∷ f ∷ []) (search reading depth 30) tt)
 
 pub +ℚ_assoc : (x y z : ℚ) → (x +ℚ y) +ℚ z ≡ x +ℚ (y +ℚ z)
 +ℚ_assoc x y z = plus_assoc' _ _ _ _ _ _ (Is-self x) (Is-self y) (Is-self z)
@@ -33,7 +35,9 @@ pub *ℚ_comm : (x y : ℚ) → x *ℚ y ≡ y *ℚ x
 *ℚ_comm x y = times_comm' _ _ _ _ (Is-self x) (Is-self y)
 
 times_assoc' : {x y z : ℚ} (n d m e k f : ℤ) → Is x n d → Is y m e → Is z k f → (x *ℚ y) *ℚ z ≡ x *ℚ (y *ℚ z)
-times_assoc' n d m e k f p q r = Is-same _ _ _ _ (Is-times _ _ k f (Is-times n d m e p q) r) (Is-times n d _ _ p (Is-times m e k f q r)) (ring ints_ring (n ∷ d ∷ m ∷ e ∷ k ∷ f ∷ []) (search reading depth 30) tt)
+times_assoc' n d m e k f p q r =
+    Is-same _ _ _ _ (Is-times _ _ k f (Is-times n d m e p q) r) (Is-times n d _ _ p (Is-times m e k f q r))
+    (ring ints_ring (n ∷ d ∷ m ∷ e ∷ k ∷ f ∷ []) (search reading depth 30) tt)
 
 pub *ℚ_assoc : (x y z : ℚ) → (x *ℚ y) *ℚ z ≡ x *ℚ (y *ℚ z)
 *ℚ_assoc x y z = times_assoc' _ _ _ _ _ _ (Is-self x) (Is-self y) (Is-self z)
@@ -51,7 +55,9 @@ pub zero-*ℚ : (x : ℚ) → 0ℚ *ℚ x ≡ 0ℚ
 zero-*ℚ x = zero_times' _ _ (Is-self x)
 
 distributes' : {x y z : ℚ} (n d m e k f : ℤ) → Is x n d → Is y m e → Is z k f → x *ℚ (y +ℚ z) ≡ x *ℚ y +ℚ x *ℚ z
-distributes' n d m e k f p q r = Is-same _ _ _ _ (Is-times n d _ _ p (Is-plus m e k f q r)) (Is-plus _ _ _ _ (Is-times n d m e p q) (Is-times n d k f p r)) (ring ints_ring (n ∷ d ∷ m ∷ e ∷ k ∷ f ∷ []) (search reading depth 30) tt)
+distributes' n d m e k f p q r =
+    Is-same _ _ _ _ (Is-times n d _ _ p (Is-plus m e k f q r)) (Is-plus _ _ _ _ (Is-times n d m e p q) (Is-times n d k f p r))
+    (ring ints_ring (n ∷ d ∷ m ∷ e ∷ k ∷ f ∷ []) (search reading depth 30) tt)
 
 pub *ℚ-+ℚ : (x y z : ℚ) → x *ℚ (y +ℚ z) ≡ x *ℚ y +ℚ x *ℚ z
 *ℚ-+ℚ x y z = distributes' _ _ _ _ _ _ (Is-self x) (Is-self y) (Is-self z)

@@ -82,7 +82,9 @@ one_ps ρ k_eq m p h t = absurd t
 total_nn : (ρ : List ℚ) (rs : List Row) (ms : List ℤ) → Holds ρ rs → T (valid rs ms) → 0ℚ ≤ℚ value rationals ρ (total rs ms)
 total_nn ρ [] ms h t = ≤ℚ_of_same 0ℚ 0ℚ refl
 total_nn ρ (r ∷ rs) [] h t = ≤ℚ_of_same 0ℚ 0ℚ refl
-total_nn ρ (row k p ∷ rs) (m ∷ ms) h t = joined_nn ρ m p (total rs ms) (one_nn ρ k m p h.0 (and_left (allowed k m) (valid rs ms) t)) (total_nn ρ rs ms h.1 (and_right (allowed k m) (valid rs ms) t))
+total_nn ρ (row k p ∷ rs) (m ∷ ms) h t =
+    joined_nn ρ m p (total rs ms) (one_nn ρ k m p h.0 (and_left (allowed k m) (valid rs ms) t))
+    (total_nn ρ rs ms h.1 (and_right (allowed k m) (valid rs ms) t))
 
 total_ps : (ρ : List ℚ) (rs : List Row) (ms : List ℤ) → Holds ρ rs → T (valid rs ms) → T (strict rs ms) → 0ℚ <ℚ value rationals ρ (total rs ms)
 total_ps ρ [] ms h t u = absurd u
@@ -91,7 +93,8 @@ total_ps ρ (row k p ∷ rs) (m ∷ ms) h t u =
     along_ps _ _ (sym (join-is rationals ρ (scale m [] p) (total rs ms)))
     (⊎_elim
     (λ (v : T (sharp k m)). ps_plus _ _ (along_ps _ _ (sym (scaled ρ m p)) (one_ps ρ k m p h.0 v)) (total_nn ρ rs ms h.1 (and_right (allowed k m) (valid rs ms) t)))
-    (λ (v : T (strict rs ms)). nn_plus_ps _ _ (along_nn _ _ (sym (scaled ρ m p)) (one_nn ρ k m p h.0 (and_left (allowed k m) (valid rs ms) t))) (total_ps ρ rs ms h.1 (and_right (allowed k m) (valid rs ms) t) v))
+    (λ (v : T (strict rs ms)). nn_plus_ps _ _ (along_nn _ _ (sym (scaled ρ m p)) (one_nn ρ k m p h.0 (and_left (allowed k m) (valid rs ms) t)))
+        (total_ps ρ rs ms h.1 (and_right (allowed k m) (valid rs ms) t) v))
     (or_cases (sharp k m) (strict rs ms) u))
 
 minus_plus : (x : ℚ) → whole (negsuc 0) *ℚ x +ℚ x ≡ 0ℚ
@@ -316,16 +319,21 @@ refuted rs = contradicts rs (multipliers rs)
 pub linear_false : (ρ : List ℚ) (fs : List Fact) (w : ReadFacts ρ fs) → T (refuted (rows_of ρ fs w)) → ⊥
 linear_false ρ fs w t = refute ρ (rows_of ρ fs w) (multipliers (rows_of ρ fs w)) (rows_hold ρ fs w) t
 
-pub linear_le : (ρ : List ℚ) (fs : List Fact) {x y : ℚ} (w : (Reads rationals ρ x × Reads rationals ρ y) × ReadFacts ρ fs) → T (refuted (row k_lt (gap w.0.1 w.0.0) ∷ rows_of ρ fs w.1)) → x ≤ℚ y
+pub linear_le : (ρ : List ℚ) (fs : List Fact) {x y : ℚ} (w : (Reads rationals ρ x × Reads rationals ρ y) × ReadFacts ρ fs)
+    → T (refuted (row k_lt (gap w.0.1 w.0.0) ∷ rows_of ρ fs w.1)) → x ≤ℚ y
 linear_le ρ fs {x} {y} w t = ⊎_elim
-    (λ (h : y <ℚ x). absurd (refute ρ (row k_lt (gap w.0.1 w.0.0) ∷ rows_of ρ fs w.1) (multipliers (row k_lt (gap w.0.1 w.0.0) ∷ rows_of ρ fs w.1)) (along_ps _ _ (gap-is w.0.1 w.0.0) (less_ps y x h), rows_hold ρ fs w.1) t))
+    (λ (h : y <ℚ x). absurd (refute ρ (row k_lt (gap w.0.1 w.0.0) ∷ rows_of ρ fs w.1) (multipliers (row k_lt (gap w.0.1 w.0.0) ∷ rows_of ρ fs w.1))
+        (along_ps _ _ (gap-is w.0.1 w.0.0) (less_ps y x h), rows_hold ρ fs w.1) t))
     (λ (h : x ≤ℚ y). h) (lt_or_le_ℚ y x)
 
-pub linear_lt : (ρ : List ℚ) (fs : List Fact) {x y : ℚ} (w : (Reads rationals ρ x × Reads rationals ρ y) × ReadFacts ρ fs) → T (refuted (row k_le (gap w.0.1 w.0.0) ∷ rows_of ρ fs w.1)) → x <ℚ y
+pub linear_lt : (ρ : List ℚ) (fs : List Fact) {x y : ℚ} (w : (Reads rationals ρ x × Reads rationals ρ y) × ReadFacts ρ fs)
+    → T (refuted (row k_le (gap w.0.1 w.0.0) ∷ rows_of ρ fs w.1)) → x <ℚ y
 linear_lt ρ fs {x} {y} w t = ⊎_elim
     (λ (h : x <ℚ y). h)
-    (λ (h : y ≤ℚ x). absurd (refute ρ (row k_le (gap w.0.1 w.0.0) ∷ rows_of ρ fs w.1) (multipliers (row k_le (gap w.0.1 w.0.0) ∷ rows_of ρ fs w.1)) (along_nn _ _ (gap-is w.0.1 w.0.0) (less_nn y x h), rows_hold ρ fs w.1) t))
+    (λ (h : y ≤ℚ x). absurd (refute ρ (row k_le (gap w.0.1 w.0.0) ∷ rows_of ρ fs w.1) (multipliers (row k_le (gap w.0.1 w.0.0) ∷ rows_of ρ fs w.1))
+        (along_nn _ _ (gap-is w.0.1 w.0.0) (less_nn y x h), rows_hold ρ fs w.1) t))
     (lt_or_le_ℚ x y)
 
-pub linear_eq : (ρ : List ℚ) (fs : List Fact) {x y : ℚ} (w : (Reads rationals ρ x × Reads rationals ρ y) × ReadFacts ρ fs) → T (refuted (row k_lt (gap w.0.1 w.0.0) ∷ rows_of ρ fs w.1)) → T (refuted (row k_lt (gap w.0.0 w.0.1) ∷ rows_of ρ fs w.1)) → x ≡ y
+pub linear_eq : (ρ : List ℚ) (fs : List Fact) {x y : ℚ} (w : (Reads rationals ρ x × Reads rationals ρ y) × ReadFacts ρ fs)
+    → T (refuted (row k_lt (gap w.0.1 w.0.0) ∷ rows_of ρ fs w.1)) → T (refuted (row k_lt (gap w.0.0 w.0.1) ∷ rows_of ρ fs w.1)) → x ≡ y
 linear_eq ρ fs {x} {y} w t u = ≤ℚ_antisymm x y (linear_le ρ fs w t) (linear_le ρ fs {x = y} {y = x} ((w.0.1, w.0.0), w.1) u)

@@ -105,7 +105,9 @@ nn_of_ps : (a : ℤ) → pos 0 <ℤ a → pos 0 ≤ℤ a
 nn_of_ps a h = omega (arith, ints)
 
 nn_plus' : {x y : ℚ} (n d m e : ℤ) → Is x n d → Is y m e → 0ℚ ≤ℚ x → 0ℚ ≤ℚ y → 0ℚ ≤ℚ x +ℚ y
-nn_plus' n d m e p q h k = nn_in _ _ (Is-plus n d m e p q) (nn-sum (n *ℤ e) (m *ℤ d) (nn-times n e (nn_out n d p h) (nn_of_ps e q.some)) (nn-times m d (nn_out m e q k) (nn_of_ps d p.some)))
+nn_plus' n d m e p q h k =
+    nn_in _ _ (Is-plus n d m e p q) (nn-sum (n *ℤ e) (m *ℤ d) (nn-times n e (nn_out n d p h) (nn_of_ps e q.some))
+    (nn-times m d (nn_out m e q k) (nn_of_ps d p.some)))
 
 pub nn_plus : (x y : ℚ) → 0ℚ ≤ℚ x → 0ℚ ≤ℚ y → 0ℚ ≤ℚ x +ℚ y
 nn_plus x y h k = nn_plus' _ _ _ _ (Is-self x) (Is-self y) h k
@@ -136,7 +138,9 @@ ps_whole n = ps_in (pos (suc n)) (pos 1) (Is-whole (pos (suc n))) (omega (arith,
 
 -- ---- one order or the other, and never both
 pub lt_or_le_ℚ : (x y : ℚ) → (x <ℚ y) ⊎ (y ≤ℚ x)
-lt_or_le_ℚ x y = ⊎_elim (λ (h : (x.num *ℤ pos y.den) <ℤ (y.num *ℤ pos x.den)). inl (record { lt = h })) (λ (h : (y.num *ℤ pos x.den) ≤ℤ (x.num *ℤ pos y.den)). inr (record { le = h })) (lt_or_le (x.num *ℤ pos y.den) (y.num *ℤ pos x.den))
+lt_or_le_ℚ x y =
+    ⊎_elim (λ (h : (x.num *ℤ pos y.den) <ℤ (y.num *ℤ pos x.den)). inl (record { lt = h }))
+    (λ (h : (y.num *ℤ pos x.den) ≤ℤ (x.num *ℤ pos y.den)). inr (record { le = h })) (lt_or_le (x.num *ℤ pos y.den) (y.num *ℤ pos x.den))
 
 pub <ℚ_irrefl : (x : ℚ) → x <ℚ x → ⊥
 <ℚ_irrefl x h = clash_ℤ h.lt (refl_le (x.num *ℤ pos x.den))

@@ -40,4 +40,6 @@ identity x y z = ring rationals (x ∷ y ∷ z ∷ []) (search reading depth 30)
 
 -- a quotient is an atom with its equation: here 1/2
 middle : (a b : ℚ) → a <ℚ b → a <ℚ (a +ℚ b) *ℚ inv_ℚ (whole (pos 2))
-middle a b h = linear_lt (a ∷ b ∷ inv_ℚ (whole (pos 2)) ∷ []) (lt h ∷ eq_times a (ps_times_inv (whole (pos 2)) (ps_whole 1)) ∷ eq_times b (ps_times_inv (whole (pos 2)) (ps_whole 1)) ∷ []) (search reading_of) tt
+middle a b h =
+    linear_lt (a ∷ b ∷ inv_ℚ (whole (pos 2)) ∷ []) (lt h ∷ eq_times a (ps_times_inv (whole (pos 2)) (ps_whole 1)) ∷ eq_times b
+    (ps_times_inv (whole (pos 2)) (ps_whole 1)) ∷ []) (search reading_of) tt

@@ -106,7 +106,8 @@ pub record Ends (n : Named) (words : List (List ℕ)) (draft left : ReportDraft)
   pub words_are : words ≡ codes "end" ∷ []
   pub read : AllByRecursion IsRead (with_current draft.done draft.current)
 
-curve_goes_on : (n : Named) (kind : Kind) (draft : ReportDraft) (next : Option (List (List ℕ))) (words : List (List ℕ)) (left : ReportDraft) → IsKept n (Some (key_word kind ∷ words)) draft
+curve_goes_on : (n : Named) (kind : Kind) (draft : ReportDraft) (next : Option (List (List ℕ))) (words : List (List ℕ)) (left : ReportDraft)
+    → IsKept n (Some (key_word kind ∷ words)) draft
     → LineKept n next (key_word kind ∷ words) draft left → GoesOn n next (key_word kind ∷ words) draft left
 curve_goes_on n kind draft next words left h l =
     let none : state_lines_of n.link_names draft.states ≡ [] = no_states h.phase in
@@ -201,7 +202,8 @@ line_word OfEnd = codes "end"
 abbrev Steps : Named → Option (List (List ℕ)) → List (List ℕ) → ReportDraft → ReportDraft → Type 0
 Steps n next words draft left = GoesOn n next words draft left ⊎ Ends n words draft left
 
-kind_steps : (n : Named) (kind : LineKind) (draft : ReportDraft) (next : Option (List (List ℕ))) (words : List (List ℕ)) (left : ReportDraft) → IsKept n (Some (line_word kind ∷ words)) draft
+kind_steps : (n : Named) (kind : LineKind) (draft : ReportDraft) (next : Option (List (List ℕ))) (words : List (List ℕ)) (left : ReportDraft)
+    → IsKept n (Some (line_word kind ∷ words)) draft
     → line_of_kind n draft next words kind ≡ Ok left → Steps n next (line_word kind ∷ words) draft left
 kind_steps n (OfCurve OfLabel) draft next words left h e = inl (curve_goes_on n OfLabel draft next words left h (curve_kept n OfLabel draft next words left h.curves e))
 kind_steps n (OfCurve OfNever) draft next words left h e = inl (curve_goes_on n OfNever draft next words left h (curve_kept n OfNever draft next words left h.curves e))
@@ -215,7 +217,8 @@ never_named : (b : Bool) → AllByRecursion (λ (named : List ℕ × LineKind). 
 never_named true = tt
 never_named false = (refl, tt)
 
-line_steps : (n : Named) (draft : ReportDraft) (next : Option (List (List ℕ))) (words : List (List ℕ)) (left : ReportDraft) → IsKept n (Some words) draft → body_line n draft next words ≡ Ok left → Steps n next words draft left
+line_steps : (n : Named) (draft : ReportDraft) (next : Option (List (List ℕ))) (words : List (List ℕ)) (left : ReportDraft) → IsKept n (Some words) draft
+    → body_line n draft next words ≡ Ok left → Steps n next words draft left
 line_steps n draft next [] left h e = absurd (no_err P3 left e)
 line_steps n draft next (key ∷ words) left h e =
     let w = both_ok (or_rule P5 (line_kind n.version key)) _ left e in
@@ -237,7 +240,8 @@ pub record Finished (n : Named) (draft last : ReportDraft) (lines : List (List (
   pub no_full : NoFull n last.states
   pub lines_are : lines_of n draft ++ lines ≡ flat_map curve_lines last.done ++ state_lines_of n.link_names last.states ++ end_lines
 
-pub in_stage : (n : Named) (draft : ReportDraft) (next : Option (List (List ℕ))) (words : List (List ℕ)) (left : ReportDraft) (stage : Stage) → draft.stage ≡ stage → report_line n draft true next words ≡ Ok left
+pub in_stage : (n : Named) (draft : ReportDraft) (next : Option (List (List ℕ))) (words : List (List ℕ)) (left : ReportDraft) (stage : Stage)
+    → draft.stage ≡ stage → report_line n draft true next words ≡ Ok left
     → staged_line n draft next words stage ≡ Ok left
 in_stage n draft next [] left stage s e = absurd (no_err P3 left e)
 in_stage n draft next (word ∷ words) left stage s e = subst (λ (stage : Stage). staged_line n draft next (word ∷ words) stage ≡ Ok left) s e
@@ -246,16 +250,19 @@ nothing_behind : (r : Result ReportDraft ReportRule) (left : ReportDraft) → no
 nothing_behind (Ok draft) left e = no_err P14 left e
 nothing_behind (Err rule) left e = no_err rule left e
 
-pub body_kept : (n : Named) (draft last : ReportDraft) (lines : List (List (List ℕ))) → draft.stage ≡ InBody → last.stage ≡ AtEnd → IsKept n (next_of lines None) draft → Reads n draft lines None last
+pub body_kept : (n : Named) (draft last : ReportDraft) (lines : List (List (List ℕ))) → draft.stage ≡ InBody → last.stage ≡ AtEnd
+    → IsKept n (next_of lines None) draft → Reads n draft lines None last
     → Finished n draft last lines
 body_kept n draft last [] s t h r = absurd (no (sym s ∙ ap (λ d. d.stage) r ∙ t))
   where
     no : InBody ≡ AtEnd → ⊥
     no e = absurd (cc)
 body_kept n draft last (words ∷ lines) s t h r =
-    finish (line_steps n draft (next_of lines None) words r.0 h (in_stage n draft (next_of lines None) words r.0 InBody s r.1)) lines refl (λ stage kept. body_kept n r.0 last lines stage t kept r.2)
+    finish (line_steps n draft (next_of lines None) words r.0 h (in_stage n draft (next_of lines None) words r.0 InBody s r.1)) lines refl
+        (λ stage kept. body_kept n r.0 last lines stage t kept r.2)
   where
-    finish : Steps n (next_of lines None) words draft r.0 → (rest : List (List (List ℕ))) → lines ≡ rest → (r.0.stage ≡ InBody → IsKept n (next_of lines None) r.0 → Finished n r.0 last lines) → Finished n draft last (words ∷ lines)
+    finish : Steps n (next_of lines None) words draft r.0 → (rest : List (List (List ℕ))) → lines ≡ rest
+        → (r.0.stage ≡ InBody → IsKept n (next_of lines None) r.0 → Finished n r.0 last lines) → Finished n draft last (words ∷ lines)
     finish (inl g) rest same more =
         let f = more (g.stage ∙ s) g.kept in
         record {
@@ -275,7 +282,8 @@ body_kept n draft last (words ∷ lines) s t h r =
           horizon = refl;
           reached = refl;
           stop = refl;
-          in_order = sym (append-nil (keys_of (with_current draft.done draft.current))) ∙ ap (λ keys. keys_of (with_current draft.done draft.current) ++ keys) (sym g.keys) ∙ h.curves.in_order;
+          in_order = sym (append-nil (keys_of (with_current draft.done draft.current)))
+              ∙ ap (λ keys. keys_of (with_current draft.done draft.current) ++ keys) (sym g.keys) ∙ h.curves.in_order;
           read = g.read;
           count = h.count;
           no_full = h.no_full;

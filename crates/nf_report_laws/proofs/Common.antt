@@ -23,9 +23,15 @@ pub use Rattle.nf_rational.specs.Signs.{is_same}
 pub use Rattle.nf_rational_laws.proofs.Results.{not_both, same_Ok}
 pub use Rattle.nf_rational_laws.proofs.SignTests.{same_of_test, test_of_same}
 pub use Rattle.nf_rational_laws.proofs.Tests.{less_of_test, lt_of_test, not_less_of_test, test_of_le, test_of_less, test_of_not_less}
-pub use Rattle.nf_report_def.specs.ReportCauses.{CauseKind, IsDone, IsNoPattern, IsPassed, IsPatterns, IsPhases, cause_in, cause_kind, cause_of_kind, done_cause, first_named, if_printed, nopattern_cause, op_of, or_rule, part_of, passed_cause, patterns_cause, phases_cause, place_in, printed_number, some_place}
+pub use Rattle.nf_report_def.specs.ReportCauses.{CauseKind, IsDone, IsNoPattern, IsPassed, IsPatterns, IsPhases, cause_in, cause_kind, cause_of_kind,
+    done_cause, first_named, if_printed, nopattern_cause, op_of, or_rule, part_of, passed_cause, patterns_cause, phases_cause, place_in, printed_number,
+    some_place}
 pub use Rattle.nf_report_def.specs.ReportFile.{ReportBroken, curves_of, in_report_line, next_words, points_read, report_in, report_lines_from, traces_read}
-pub use Rattle.nf_report_def.specs.ReportLines.{AtCause, AtEnd, AtHorizon, AtReached, AtVersion, CurveKey, InBody, Kind, LineKind, OfCurve, OfEnd, OfInflow, OfLabel, OfNever, OfOutflow, OfQueue, OfState, Opened, ReadCurve, ReportDraft, Stage, are_alike, begins_with, begun, behind, body_line, capacity_at, capacity_of, cause_line, comes_after, curve_keys, empty_report, end_line, has_all, horizon_line, is_key, is_version, key_of, key_word, line_kind, line_of_kind, never_kinds, never_line, nothing_more, number_alone, opened, point_line, point_numbers, rate_word, reached_line, report_line, some_rate, staged_line, state_in, state_of_link, trace_line, with_current, with_point, with_rate}
+pub use Rattle.nf_report_def.specs.ReportLines.{AtCause, AtEnd, AtHorizon, AtReached, AtVersion, CurveKey, InBody, Kind, LineKind, OfCurve, OfEnd, OfInflow,
+    OfLabel, OfNever, OfOutflow, OfQueue, OfState, Opened, ReadCurve, ReportDraft, Stage, are_alike, begins_with, begun, behind, body_line, capacity_at,
+    capacity_of, cause_line, comes_after, curve_keys, empty_report, end_line, has_all, horizon_line, is_key, is_version, key_of, key_word, line_kind,
+    line_of_kind, never_kinds, never_line, nothing_more, number_alone, opened, point_line, point_numbers, rate_word, reached_line, report_line, some_rate,
+    staged_line, state_in, state_of_link, trace_line, with_current, with_point, with_rate}
 pub use Rattle.nf_report_def.specs.declared.ReportRule.{ReportRule}
 pub use Rattle.nf_report_def.specs.declared.ReportRule.TheVariants.{P10, P11, P12, P13, P14, P3, P4, P5, P6, P7, P8, P9}
 pub use Rattle.nf_report_laws.specs.Readable.{AreFractionPoints, IsCount, IsCountOrNone, IsFractionOrNone, IsFractionPoint, IsFractionTrace, IsReadable, IsReadableCause}

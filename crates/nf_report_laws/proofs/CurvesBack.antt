@@ -32,14 +32,16 @@ curve_in_time (p ∷ points) h = (is_zero_time p.0 h.0, rising p points h.1)
 abbrev opened_curve : Kind → Name → List Point → List ℚ → List ReadCurve → List CurveKey → Opened
 opened_curve kind name points rates done keys = record { curve = record { key = key_of kind name; points = points; rates = rates }; done = done; keys = keys }
 
-point_put : (kind : Kind) (draft : ReportDraft) (name : Name) (o : Opened) (p : Point) → opened draft kind name draft.current ≡ Ok o → IsFractionPoint p → comes_after (last_or None o.curve.points) p.0 ≡ true
+point_put : (kind : Kind) (draft : ReportDraft) (name : Name) (o : Opened) (p : Point) → opened draft kind name draft.current ≡ Ok o → IsFractionPoint p
+    → comes_after (last_or None o.curve.points) p.0 ≡ true
     → point_line kind draft (name ∷ printed p.0 ∷ printed p.1 ∷ []) ≡ Ok (with_point draft o p o.curve.rates)
 point_put kind draft name o p e h t =
     ap (λ r. r >>= λ o. (point_numbers (printed p.0) (printed p.1) >>= λ p. if comes_after (last_or None o.curve.points) p.0 then Ok (with_point draft o p o.curve.rates) else Err P11)) e
     ∙ ap (λ r. r >>= λ p. if comes_after (last_or None o.curve.points) p.0 then Ok (with_point draft o p o.curve.rates) else Err P11) (numbers_back p h)
     ∙ ap (λ (b : Bool). if b then Ok (with_point draft o p o.curve.rates) else Err P11) t
 
-trace_put : (kind : Kind) (draft : ReportDraft) (next : Option (List (List ℕ))) (name : Name) (o : Opened) (p : Point) (rate : Option ℚ) → opened draft kind name draft.current ≡ Ok o → IsFractionPoint p → IsFractionOrNone rate
+trace_put : (kind : Kind) (draft : ReportDraft) (next : Option (List (List ℕ))) (name : Name) (o : Opened) (p : Point) (rate : Option ℚ)
+    → opened draft kind name draft.current ≡ Ok o → IsFractionPoint p → IsFractionOrNone rate
     → comes_after (last_or None o.curve.points) p.0 ≡ true → are_alike (is_none rate) (begins_with (key_word kind) name next) ≡ false
     → trace_line kind draft next (name ∷ printed p.0 ∷ printed p.1 ∷ rate_text rate ∷ []) ≡ Ok (with_point draft o p (with_rate o.curve.rates rate))
 trace_put kind draft next name o p rate e h k t a =
@@ -81,38 +83,50 @@ module _ (n : Named) (d : ReportDraft) where
       → opened (in_body done current (key_of kind name ∷ keys)) kind name current ≡ Ok (opened_curve kind name [] [] (with_current done current) keys)
   opens done None keys kind name h = begins done keys kind name
   opens done (Some c) keys kind name h =
-      ap (λ (b : Bool). if b then Ok (record { curve = c; done = done; keys = key_of kind name ∷ keys }) else begun (done ++ c ∷ []) kind name (key_of kind name ∷ keys)) (other_key kind name c.key h)
+      ap (λ (b : Bool). if b then Ok (record { curve = c; done = done; keys = key_of kind name ∷ keys }) else begun (done ++ c ∷ []) kind name
+          (key_of kind name ∷ keys)) (other_key kind name c.key h)
       ∙ begins (done ++ c ∷ []) keys kind name
 
-  points_read : (kind : Kind) (name : Name) → Says kind (λ _. point_line kind) → (done : List ReadCurve) (current : Option ReadCurve) (keys : List CurveKey) (front : List Point) (rates : List ℚ) (after_done : List ReadCurve) (after_keys : List CurveKey)
+  points_read : (kind : Kind) (name : Name) → Says kind (λ _. point_line kind)
+      → (done : List ReadCurve) (current : Option ReadCurve) (keys : List CurveKey) (front : List Point) (rates : List ℚ) (after_done : List ReadCurve)
+      (after_keys : List CurveKey)
       (p : Point) (points : List Point) (after : Option (List (List ℕ)))
       → opened (in_body done current keys) kind name current ≡ Ok (opened_curve kind name front rates after_done after_keys)
       → InTime (last_or None front) (p ∷ points) → AreFractionPoints (p ∷ points)
-      → Reads n (in_body done current keys) (point_lines (key_word kind) name (p ∷ points)) after (in_body after_done (Some (record { key = key_of kind name; points = front ++ p ∷ points; rates = rates })) after_keys)
+      → Reads n (in_body done current keys) (point_lines (key_word kind) name (p ∷ points)) after
+          (in_body after_done (Some (record { key = key_of kind name; points = front ++ p ∷ points; rates = rates })) after_keys)
   points_read kind name says done current keys front rates after_done after_keys p [] after e t h = (
     in_body after_done (Some (record { key = key_of kind name; points = front ++ p ∷ []; rates = rates })) after_keys,
-    says done current keys after (name ∷ printed p.0 ∷ printed p.1 ∷ []) ∙ point_put kind (in_body done current keys) name (opened_curve kind name front rates after_done after_keys) p e h.0 t.0,
+    says done current keys after (name ∷ printed p.0 ∷ printed p.1 ∷ []) ∙ point_put kind (in_body done current keys) name
+        (opened_curve kind name front rates after_done after_keys) p e h.0 t.0,
     refl,
   )
   points_read kind name says done current keys front rates after_done after_keys p (q ∷ points) after e t h =
       let c : ReadCurve = record { key = key_of kind name; points = front ++ p ∷ []; rates = rates } in (
         in_body after_done (Some c) after_keys,
-        says done current keys (next_of (point_lines (key_word kind) name (q ∷ points)) after) (name ∷ printed p.0 ∷ printed p.1 ∷ []) ∙ point_put kind (in_body done current keys) name (opened_curve kind name front rates after_done after_keys) p e h.0 t.0,
-        subst (λ (ps : List Point). Reads n (in_body after_done (Some c) after_keys) (point_lines (key_word kind) name (q ∷ points)) after (in_body after_done (Some (record { key = key_of kind name; points = ps; rates = rates })) after_keys))
+        says done current keys (next_of (point_lines (key_word kind) name (q ∷ points)) after) (name ∷ printed p.0 ∷ printed p.1 ∷ [])
+            ∙ point_put kind (in_body done current keys) name (opened_curve kind name front rates after_done after_keys) p e h.0 t.0,
+        subst (λ (ps : List Point). Reads n (in_body after_done (Some c) after_keys) (point_lines (key_word kind) name (q ∷ points)) after
+            (in_body after_done (Some (record { key = key_of kind name; points = ps; rates = rates })) after_keys))
             (append_assoc front (p ∷ []) (q ∷ points))
             (points_read kind name says after_done (Some c) after_keys (front ++ p ∷ []) rates after_done after_keys q points after (goes_on after_done after_keys kind name [] [] c refl)
             (subst (λ (o : Option Point). InTime o (q ∷ points)) (sym (last-append None front p)) t.1) h.1),
       )
 
-  trace_goes_on : (key name : List ℕ) (p : Point) (points : List Point) (rates : List ℚ) (after : Option (List (List ℕ))) → begins_with key name (next_of (trace_lines key name (p ∷ points) rates) after) ≡ true
+  trace_goes_on : (key name : List ℕ) (p : Point) (points : List Point) (rates : List ℚ) (after : Option (List (List ℕ)))
+      → begins_with key name (next_of (trace_lines key name (p ∷ points) rates) after) ≡ true
   trace_goes_on key name p points [] after = and_from (bytes_eq key key) (bytes_eq name name) (bytes_eq-self key) (bytes_eq-self name)
   trace_goes_on key name p points (rate ∷ rates) after = and_from (bytes_eq key key) (bytes_eq name name) (bytes_eq-self key) (bytes_eq-self name)
 
-  traces_read : (kind : Kind) (name : Name) → Says kind (λ next draft. trace_line kind draft next) → (done : List ReadCurve) (current : Option ReadCurve) (keys : List CurveKey) (front : List Point) (before : List ℚ) (after_done : List ReadCurve) (after_keys : List CurveKey)
+  traces_read : (kind : Kind) (name : Name) → Says kind (λ next draft. trace_line kind draft next)
+      → (done : List ReadCurve) (current : Option ReadCurve) (keys : List CurveKey) (front : List Point) (before : List ℚ) (after_done : List ReadCurve)
+      (after_keys : List CurveKey)
       (p : Point) (points : List Point) (rates : List ℚ) (after : Option (List (List ℕ)))
       → opened (in_body done current keys) kind name current ≡ Ok (opened_curve kind name front before after_done after_keys)
-      → InTime (last_or None front) (p ∷ points) → AreFractionPoints (p ∷ points) → AllByRecursion IsFraction rates → length points ≡ length rates → begins_with (key_word kind) name after ≡ false
-      → Reads n (in_body done current keys) (trace_lines (key_word kind) name (p ∷ points) rates) after (in_body after_done (Some (record { key = key_of kind name; points = front ++ p ∷ points; rates = before ++ rates })) after_keys)
+      → InTime (last_or None front) (p ∷ points) → AreFractionPoints (p ∷ points) → AllByRecursion IsFraction rates → length points ≡ length rates
+          → begins_with (key_word kind) name after ≡ false
+      → Reads n (in_body done current keys) (trace_lines (key_word kind) name (p ∷ points) rates) after
+          (in_body after_done (Some (record { key = key_of kind name; points = front ++ p ∷ points; rates = before ++ rates })) after_keys)
   traces_read kind name says done current keys front before after_done after_keys p [] [] after e t h r c last = (
     in_body after_done (Some (record { key = key_of kind name; points = front ++ p ∷ []; rates = before })) after_keys,
     says done current keys after (name ∷ printed p.0 ∷ printed p.1 ∷ codes "-" ∷ []) ∙ trace_put kind (in_body done current keys) after name (opened_curve kind name front before after_done after_keys) p None e h.0 tt t.0 last,
@@ -125,12 +139,16 @@ module _ (n : Named) (d : ReportDraft) where
       let next = next_of (trace_lines (key_word kind) name (q ∷ points) rates) after in (
         in_body after_done (Some curve) after_keys,
         says done current keys next (name ∷ printed p.0 ∷ printed p.1 ∷ printed rate ∷ [])
-            ∙ trace_put kind (in_body done current keys) next name (opened_curve kind name front before after_done after_keys) p (Some rate) e h.0 r.0 t.0 (ap not (trace_goes_on (key_word kind) name q points rates after)),
-        subst (λ (rs : List ℚ). Reads n (in_body after_done (Some curve) after_keys) (trace_lines (key_word kind) name (q ∷ points) rates) after (in_body after_done (Some (record { key = key_of kind name; points = front ++ p ∷ q ∷ points; rates = rs })) after_keys))
+            ∙ trace_put kind (in_body done current keys) next name (opened_curve kind name front before after_done after_keys) p (Some rate) e h.0 r.0 t.0
+                (ap not (trace_goes_on (key_word kind) name q points rates after)),
+        subst (λ (rs : List ℚ). Reads n (in_body after_done (Some curve) after_keys) (trace_lines (key_word kind) name (q ∷ points) rates) after
+            (in_body after_done (Some (record { key = key_of kind name; points = front ++ p ∷ q ∷ points; rates = rs })) after_keys))
             (append_assoc before (rate ∷ []) rates)
-            (subst (λ (ps : List Point). Reads n (in_body after_done (Some curve) after_keys) (trace_lines (key_word kind) name (q ∷ points) rates) after (in_body after_done (Some (record { key = key_of kind name; points = ps; rates = before ++ rate ∷ [] ++ rates })) after_keys))
+            (subst (λ (ps : List Point). Reads n (in_body after_done (Some curve) after_keys) (trace_lines (key_word kind) name (q ∷ points) rates) after
+                (in_body after_done (Some (record { key = key_of kind name; points = ps; rates = before ++ rate ∷ [] ++ rates })) after_keys))
             (append_assoc front (p ∷ []) (q ∷ points))
-            (traces_read kind name says after_done (Some curve) after_keys (front ++ p ∷ []) (before ++ rate ∷ []) after_done after_keys q points rates after (goes_on after_done after_keys kind name [] [] curve refl)
+            (traces_read kind name says after_done (Some curve) after_keys (front ++ p ∷ [])
+                (before ++ rate ∷ []) after_done after_keys q points rates after (goes_on after_done after_keys kind name [] [] curve refl)
             (subst (λ (o : Option Point). InTime o (q ∷ points)) (sym (last-append None front p)) t.1) h.1 r.1 (omega arith) last)),
       )
 
@@ -165,7 +183,8 @@ left_current c kind = Some c
 abbrev read_of : Kind → Name → List Point → List ℚ → ReadCurve
 read_of kind name points rates = record { key = key_of kind name; points = points; rates = rates }
 
-left_is : (done : List ReadCurve) (current : Option ReadCurve) (c : ReadCurve) (kind : Kind) → with_current (left_done done current c kind) (left_current c kind) ≡ with_current done current ++ c ∷ []
+left_is : (done : List ReadCurve) (current : Option ReadCurve) (c : ReadCurve) (kind : Kind)
+    → with_current (left_done done current c kind) (left_current c kind) ≡ with_current done current ++ c ∷ []
 left_is done current c OfLabel = refl
 left_is done current c OfNever = refl
 left_is done current c OfInflow = refl
@@ -177,7 +196,8 @@ abbrev pub IsAllowed : ℕ → Kind → Type 0
 IsAllowed version OfNever = (version == 1) ≡ false
 IsAllowed version kind = Unit {0}
 
-kind_read : (n : Named) (d : ReportDraft) (kind : Kind) (name : Name) (points : List Point) (rates : List ℚ) (done : List ReadCurve) (current : Option ReadCurve) (keys : List CurveKey) (after : Option (List (List ℕ)))
+kind_read : (n : Named) (d : ReportDraft) (kind : Kind) (name : Name) (points : List Point) (rates : List ℚ) (done : List ReadCurve)
+    (current : Option ReadCurve) (keys : List CurveKey) (after : Option (List (List ℕ)))
     → IsOfKind kind points rates → IsAllowed n.version kind → IsOther n d current (key_of kind name) → begins_with (key_word kind) name after ≡ false
     → Reads n (in_body n d done current (key_of kind name ∷ keys)) (lines_of_kind kind name points rates) after
     (in_body n d (left_done done current (read_of kind name points rates) kind) (left_current (read_of kind name points rates) kind) keys)
@@ -205,7 +225,8 @@ kind_read n d OfQueue name (p ∷ points) rates done current keys after h v o b 
 
 -- ---- all curves
 -- the first line of a curve has its key
-kind_begins : (kind : Kind) (name : Name) (points : List Point) (rates : List ℚ) (key other : List ℕ) (more : List (List (List ℕ))) (after : Option (List (List ℕ))) → IsOfKind kind points rates
+kind_begins : (kind : Kind) (name : Name) (points : List Point) (rates : List ℚ) (key other : List ℕ) (more : List (List (List ℕ)))
+    (after : Option (List (List ℕ))) → IsOfKind kind points rates
     → begins_with key other (next_of (lines_of_kind kind name points rates ++ more) after) ≡ (bytes_eq (key_word kind) key && bytes_eq name other)
 kind_begins OfLabel name [] rates key other more after h = absurd (h.0.0)
 kind_begins OfLabel name (p ∷ points) rates key other more after h = refl
@@ -255,8 +276,10 @@ curves_read n d (c ∷ curves) done current before after h v o a b =
       w.0,
       w.1,
       w.2 ∙ ap (λ l. l ++ curves) (left_is done current c kind) ∙ append_assoc (with_current done current) (c ∷ []) curves,
-      reads-append n (in_body n d done current (c.key ∷ keys_of curves)) (in_body n d next_done next (keys_of curves)) (in_body n d w.0 w.1 []) (curve_lines c) (flat_map curve_lines curves) after
-          (kind_read n d kind c.key.name c.points c.rates done current (keys_of curves) (next_of (flat_map curve_lines curves) after) h.0 v.0 (o c.key a.0) (goes_not_on c curves after h.1 a.1 b))
+      reads-append n (in_body n d done current (c.key ∷ keys_of curves)) (in_body n d next_done next (keys_of curves)) (in_body n d w.0 w.1 [])
+          (curve_lines c) (flat_map curve_lines curves) after
+          (kind_read n d kind c.key.name c.points c.rates done current (keys_of curves) (next_of (flat_map curve_lines curves) after) h.0 v.0 (o c.key a.0)
+              (goes_not_on c curves after h.1 a.1 b))
           w.3,
     )
   where

@@ -49,10 +49,13 @@ IsOpen next None = Unit {0}
 IsOpen next (Some c) = IsOpenKind c.key.kind c.key.name next c.points c.rates
 
 trace_closes : (b : Bool) (points : List Point) (rates : List ℚ) → IsOpenTrace b points rates → b ≡ false → IsReadTrace (record { points = points; rates = rates })
-trace_closes b points rates h e = record { curve = h.curve; points = h.fractions; rates = h.rate_fractions; count = subst (λ (b : Bool). Counts b (length points) (length rates)) e h.count }
+trace_closes b points rates h e =
+    record { curve = h.curve; points = h.fractions; rates = h.rate_fractions; count =
+    subst (λ (b : Bool). Counts b (length points) (length rates)) e h.count }
 
 -- it is read where the next line is of another one
-closes : (kind : Kind) (name : Name) (next : Option (List (List ℕ))) (points : List Point) (rates : List ℚ) → IsOpenKind kind name next points rates → begins_with (key_word kind) name next ≡ false → IsOfKind kind points rates
+closes : (kind : Kind) (name : Name) (next : Option (List (List ℕ))) (points : List Point) (rates : List ℚ) → IsOpenKind kind name next points rates
+    → begins_with (key_word kind) name next ≡ false → IsOfKind kind points rates
 closes OfLabel name next points rates h e = h
 closes OfNever name next points rates h e = absurd h
 closes OfInflow name next points rates h e = trace_closes (begins_with (codes "inflow") name next) points rates h e
@@ -110,9 +113,12 @@ nothing_yet OfOutflow h = record { in_time = tt; fractions = tt; rate_fractions 
 nothing_yet OfQueue h = record { in_time = tt; fractions = tt; no_rates = refl }
 
 trace_so_far : (b : Bool) (points : List Point) (rates : List ℚ) → IsOpenTrace b points rates → b ≡ true → IsTraceFront points rates
-trace_so_far b points rates h e = record { in_time = curve_in_time points h.curve; fractions = h.fractions; rate_fractions = h.rate_fractions; count = subst (λ (b : Bool). Counts b (length points) (length rates)) e h.count }
+trace_so_far b points rates h e =
+    record { in_time = curve_in_time points h.curve; fractions = h.fractions; rate_fractions = h.rate_fractions; count =
+    subst (λ (b : Bool). Counts b (length points) (length rates)) e h.count }
 
-so_far : (kind : Kind) (name : Name) (next : Option (List (List ℕ))) (points : List Point) (rates : List ℚ) → IsOpenKind kind name next points rates → begins_with (key_word kind) name next ≡ true → IsFront kind points rates
+so_far : (kind : Kind) (name : Name) (next : Option (List (List ℕ))) (points : List Point) (rates : List ℚ) → IsOpenKind kind name next points rates
+    → begins_with (key_word kind) name next ≡ true → IsFront kind points rates
 so_far OfLabel name next points rates h e = record { in_time = curve_in_time points h.0.0; fractions = h.0.1; no_rates = h.1 }
 so_far OfNever name next points rates h e = h
 so_far OfInflow name next points rates h e = trace_so_far (begins_with (codes "inflow") name next) points rates h e
@@ -134,9 +140,11 @@ begun_is n kind name all (key ∷ keys) o e =
     let w = where_true (is_key kind name key) P7 (Ok (record { curve = record { key = key; points = []; rates = [] }; done = all; keys = keys })) o e in
     let same = same_Ok (record { curve = record { key = key; points = []; rates = [] }; done = all; keys = keys }) o w.1 in
     let k = key_same kind name key w.0 in
-    (sym (ap (λ (o : Opened). o.curve) same) ∙ (λ i. record { key = k i; points = []; rates = [] }), sym (ap (λ (o : Opened). o.done) same), (λ i. k i ∷ ap (λ (o : Opened). o.keys) same i))
+    (sym (ap (λ (o : Opened). o.curve) same) ∙ (λ i. record { key = k i; points = []; rates = [] }), sym (ap (λ (o : Opened). o.done) same),
+        (λ i. k i ∷ ap (λ (o : Opened). o.keys) same i))
 
-begins_opened : (n : Named) (kind : Kind) (name : Name) (done : List ReadCurve) (current : Option ReadCurve) (keys : List CurveKey) (o : Opened) → HasPoints kind → keys_of (with_current done current) ++ keys ≡ curve_keys n
+begins_opened : (n : Named) (kind : Kind) (name : Name) (done : List ReadCurve) (current : Option ReadCurve) (keys : List CurveKey) (o : Opened)
+    → HasPoints kind → keys_of (with_current done current) ++ keys ≡ curve_keys n
     → AllByRecursion IsRead (with_current done current) → begun (with_current done current) kind name keys ≡ Ok o → IsOpened n kind name done current keys o
 begins_opened n kind name done current keys o some order read e =
     let all = with_current done current in
@@ -144,7 +152,8 @@ begins_opened n kind name done current keys o some order read e =
     let empty : ReadCurve = record { key = key_of kind name; points = []; rates = [] } in
     record {
       key = ap (λ (c : ReadCurve). c.key) w.0;
-      in_order = (λ i. keys_of (w.1 i ++ w.0 i ∷ []) ++ o.keys) ∙ ap (λ l. l ++ o.keys) (map-append (λ curve. curve.key) all (empty ∷ [])) ∙ append_assoc (keys_of all) (key_of kind name ∷ []) o.keys
+      in_order = (λ i. keys_of (w.1 i ++ w.0 i ∷ []) ++ o.keys) ∙ ap (λ l. l ++ o.keys) (map-append (λ curve. curve.key) all (empty ∷ []))
+          ∙ append_assoc (keys_of all) (key_of kind name ∷ []) o.keys
           ∙ ap (λ l. keys_of all ++ l) (sym w.2) ∙ order;
       read = subst (AllByRecursion IsRead) (sym w.1) read;
       front = subst (λ (c : ReadCurve). IsFront kind c.points c.rates) (sym w.0) (nothing_yet kind some);
@@ -162,12 +171,14 @@ opened_is n kind name rest draft None o some h e = begins_opened n kind name dra
 opened_is n kind name rest draft (Some c) o some h e = go (is_key kind name c.key) refl e
   where
     turned : is_key kind name c.key ≡ false → begins_with (key_word c.key.kind) c.key.name (Some (key_word kind ∷ name ∷ rest)) ≡ false
-    turned f = other_key c.key.kind c.key.name (key_of kind name) (λ same. not_both (is_key kind name c.key) (subst (λ (k : CurveKey). is_key kind name k ≡ true) same (key_self kind name)) f)
+    turned f = other_key c.key.kind c.key.name (key_of kind name) (λ same. not_both (is_key kind name c.key)
+        (subst (λ (k : CurveKey). is_key kind name k ≡ true) same (key_self kind name)) f)
 
     no : Some c ≡ None → ⊥
     no e = absurd (cc)
 
-    go : (b : Bool) → is_key kind name c.key ≡ b → (if b then Ok (record { curve = c; done = draft.done; keys = draft.keys }) else begun (draft.done ++ c ∷ []) kind name draft.keys) ≡ Ok o
+    go : (b : Bool) → is_key kind name c.key ≡ b → (if b then Ok (record { curve = c; done = draft.done; keys = draft.keys }) else begun
+        (draft.done ++ c ∷ []) kind name draft.keys) ≡ Ok o
         → IsOpened n kind name draft.done (Some c) draft.keys o
     go true f g =
         let k = key_same kind name c.key f in
@@ -175,12 +186,16 @@ opened_is n kind name rest draft (Some c) o some h e = go (is_key kind name c.ke
           key = k;
           in_order = h.in_order;
           read = h.read;
-          front = so_far kind name (Some (key_word kind ∷ name ∷ rest)) c.points c.rates (subst (λ (key : CurveKey). IsOpenKind key.kind key.name (Some (key_word kind ∷ name ∷ rest)) c.points c.rates) k h.open_) (key_self kind name);
+          front = so_far kind name (Some (key_word kind ∷ name ∷ rest)) c.points c.rates
+              (subst (λ (key : CurveKey). IsOpenKind key.kind key.name (Some (key_word kind ∷ name ∷ rest)) c.points c.rates) k h.open_)
+              (key_self kind name);
           lines = refl;
           more = λ w. no w.0;
         })
     go false f g = begins_opened n kind name draft.done (Some c) draft.keys o some h.in_order
-        (all_closed draft.done (Some c) (Some (key_word kind ∷ name ∷ rest)) h.read h.open_ (λ d same. subst (λ (c : ReadCurve). begins_with (key_word c.key.kind) c.key.name (Some (key_word kind ∷ name ∷ rest)) ≡ false) (some_same same) (turned f))) g
+        (all_closed draft.done (Some c) (Some (key_word kind ∷ name ∷ rest)) h.read h.open_
+            (λ d same. subst (λ (c : ReadCurve). begins_with (key_word c.key.kind) c.key.name (Some (key_word kind ∷ name ∷ rest)) ≡ false) (some_same same)
+            (turned f))) g
       where
         some_same : {d : ReadCurve} → ◌≡◌ {A = Option ReadCurve} (Some c) (Some d) → c ≡ d
         some_same e = cc
@@ -203,7 +218,8 @@ put_on : (n : Named) (next : Option (List (List ℕ))) (words : List (List ℕ))
 put_on n next words draft kind name o p rates h k e =
     let c : ReadCurve = record { key = o.curve.key; points = o.curve.points ++ p ∷ []; rates = rates } in
     let here : curve_lines o.curve ++ words ∷ [] ≡ curve_lines c =
-    subst (λ (key : CurveKey). lines_of_kind key.kind key.name o.curve.points o.curve.rates ++ words ∷ [] ≡ lines_of_kind key.kind key.name (o.curve.points ++ p ∷ []) rates) (sym h.key) (sym e) in
+    subst (λ (key : CurveKey). lines_of_kind key.kind key.name o.curve.points o.curve.rates ++ words ∷ [] ≡ lines_of_kind key.kind key.name
+        (o.curve.points ++ p ∷ []) rates) (sym h.key) (sym e) in
     record {
       done = o.done;
       current = Some c;
@@ -214,13 +230,16 @@ put_on n next words draft kind name o p rates h k e =
         read = h.read;
         open_ = subst (λ (key : CurveKey). IsOpenKind key.kind key.name next (o.curve.points ++ p ∷ []) rates) (sym h.key) k;
       };
-      lines = ap (λ l. l ++ words ∷ []) (h.lines ∙ flat_map-append curve_lines o.done (o.curve ∷ [])) ∙ append_assoc (flat_map curve_lines o.done) (curve_lines o.curve ++ []) (words ∷ [])
-          ∙ ap (λ l. flat_map curve_lines o.done ++ (l ++ words ∷ [])) (append-nil (curve_lines o.curve)) ∙ ap (λ l. flat_map curve_lines o.done ++ l) (here ∙ sym (append-nil (curve_lines c)))
+      lines = ap (λ l. l ++ words ∷ []) (h.lines ∙ flat_map-append curve_lines o.done (o.curve ∷ []))
+          ∙ append_assoc (flat_map curve_lines o.done) (curve_lines o.curve ++ []) (words ∷ [])
+          ∙ ap (λ l. flat_map curve_lines o.done ++ (l ++ words ∷ [])) (append-nil (curve_lines o.curve))
+              ∙ ap (λ l. flat_map curve_lines o.done ++ l) (here ∙ sym (append-nil (curve_lines c)))
           ∙ sym (flat_map-append curve_lines o.done (c ∷ []));
       more = h.more;
     }
 
-point_lines_more : (key name : List ℕ) (points : List Point) (p : Point) → point_lines key name (points ++ p ∷ []) ≡ point_lines key name points ++ (key ∷ name ∷ printed p.0 ∷ printed p.1 ∷ []) ∷ []
+point_lines_more : (key name : List ℕ) (points : List Point) (p : Point)
+    → point_lines key name (points ++ p ∷ []) ≡ point_lines key name points ++ (key ∷ name ∷ printed p.0 ∷ printed p.1 ∷ []) ∷ []
 point_lines_more key name [] p = refl
 point_lines_more key name (q ∷ points) p = ap (λ l. (key ∷ name ∷ printed q.0 ∷ printed q.1 ∷ []) ∷ l) (point_lines_more key name points p)
 
@@ -230,8 +249,10 @@ trace_lines_more key name [] [] p None e = refl
 trace_lines_more key name [] [] p (Some rate) e = refl
 trace_lines_more key name [] (r ∷ rates) p rate e = absurd (omega arith)
 trace_lines_more key name (q ∷ points) [] p rate e = absurd (omega arith)
-trace_lines_more key name (q ∷ points) (r ∷ rates) p None e = ap (λ l. (key ∷ name ∷ printed q.0 ∷ printed q.1 ∷ printed r ∷ []) ∷ l) (trace_lines_more key name points rates p None (omega arith))
-trace_lines_more key name (q ∷ points) (r ∷ rates) p (Some rate) e = ap (λ l. (key ∷ name ∷ printed q.0 ∷ printed q.1 ∷ printed r ∷ []) ∷ l) (trace_lines_more key name points rates p (Some rate) (omega arith))
+trace_lines_more key name (q ∷ points) (r ∷ rates) p None e =
+    ap (λ l. (key ∷ name ∷ printed q.0 ∷ printed q.1 ∷ printed r ∷ []) ∷ l) (trace_lines_more key name points rates p None (omega arith))
+trace_lines_more key name (q ∷ points) (r ∷ rates) p (Some rate) e =
+    ap (λ l. (key ∷ name ∷ printed q.0 ∷ printed q.1 ∷ printed r ∷ []) ∷ l) (trace_lines_more key name points rates p (Some rate) (omega arith))
 
 line_two : (key name time value : List ℕ) (p : Point) → ArePrinted time value p → (key ∷ name ∷ printed p.0 ∷ printed p.1 ∷ []) ≡ (key ∷ name ∷ time ∷ value ∷ [])
 line_two key name time value p a = λ i. key ∷ name ∷ sym a.time_is i ∷ sym a.value_is i ∷ []
@@ -261,7 +282,8 @@ point_kept n kind has front open_ lines draft next (name ∷ time ∷ value ∷ 
     ∙ (λ i. sym (lines name o.curve.points o.curve.rates) i ++ line_two (key_word kind) name time value p a i ∷ [])))
 point_kept n kind has front open_ lines draft next (a ∷ b ∷ c ∷ d ∷ words) left h e = absurd (no_err P6 left e)
 
-count_more : (points : List Point) (rates : List ℚ) (p : Point) (rate : Option ℚ) (b : Bool) → length points ≡ length rates → are_alike (is_none rate) b ≡ false → Counts b (length (points ++ p ∷ [])) (length (with_rate rates rate))
+count_more : (points : List Point) (rates : List ℚ) (p : Point) (rate : Option ℚ) (b : Bool) → length points ≡ length rates
+    → are_alike (is_none rate) b ≡ false → Counts b (length (points ++ p ∷ [])) (length (with_rate rates rate))
 count_more points rates p None true c e = absurd (cc)
 count_more points rates p None false c e = let long : length (points ++ p ∷ []) ≡ length points + 1 = length-append points (p ∷ []) in omega arith
 count_more points rates p (Some rate) true c e =
@@ -274,7 +296,8 @@ rates_more rates None h k = h
 rates_more rates (Some rate) h k = every_append IsFraction rates (rate ∷ []) h (k, tt)
 
 trace_kept : (n : Named) (kind : Kind) → HasPoints kind → ((points : List Point) (rates : List ℚ) → IsFront kind points rates → IsTraceFront points rates)
-    → ((name : Name) (next : Option (List (List ℕ))) (points : List Point) (rates : List ℚ) → IsOpenTrace (begins_with (key_word kind) name next) points rates → IsOpenKind kind name next points rates)
+    → ((name : Name) (next : Option (List (List ℕ))) (points : List Point) (rates : List ℚ)
+        → IsOpenTrace (begins_with (key_word kind) name next) points rates → IsOpenKind kind name next points rates)
     → ((name : Name) (points : List Point) (rates : List ℚ) → lines_of_kind kind name points rates ≡ trace_lines (key_word kind) name points rates)
     → (draft : ReportDraft) (next : Option (List (List ℕ))) (words : List (List ℕ)) (left : ReportDraft) → AreKept n (Some (key_word kind ∷ words)) draft.done draft.current draft.keys
     → trace_line kind draft next words ≡ Ok left → LineKept n next (key_word kind ∷ words) draft left
@@ -291,7 +314,9 @@ trace_kept n kind has front open_ lines draft next (name ∷ time ∷ value ∷ 
     let u = both_ok (rate_word rate) _ left v.next in
     let r = u.between in
     let b = rate_is rate r u.first in
-    let t = where_false (not (comes_after (last_or None o.curve.points) p.0)) P11 (if are_alike (is_none r) (begins_with (key_word kind) name next) then Err P12 else Ok (with_point draft o p (with_rate o.curve.rates r))) left u.next in
+    let t = where_false (not (comes_after (last_or None o.curve.points) p.0)) P11
+        (if are_alike (is_none r) (begins_with (key_word kind) name next) then Err P12 else Ok (with_point draft o p (with_rate o.curve.rates r))) left
+        u.next in
     let s = where_false (are_alike (is_none r) (begins_with (key_word kind) name next)) P12 (Ok (with_point draft o p (with_rate o.curve.rates r))) left t.1 in
     let k = opened_is n kind name (time ∷ value ∷ rate ∷ []) draft draft.current o has h w.first in
     let f = front o.curve.points o.curve.rates k.front in
@@ -331,7 +356,8 @@ never_kept n draft next (name ∷ []) left h e =
       keys = o.keys;
       is = sym (same_Ok _ left w.next) ∙ (λ i. record draft { done = k.1 i ++ k.0 i ∷ []; current = None; keys = o.keys });
       kept = record {
-        in_order = ap (λ l. l ++ o.keys) (map-append (λ curve. curve.key) all (c ∷ [])) ∙ append_assoc (keys_of all) (key_of OfNever name ∷ []) o.keys ∙ ap (λ l. keys_of all ++ l) (sym k.2) ∙ h.in_order;
+        in_order = ap (λ l. l ++ o.keys) (map-append (λ curve. curve.key) all (c ∷ [])) ∙ append_assoc (keys_of all) (key_of OfNever name ∷ []) o.keys
+            ∙ ap (λ l. keys_of all ++ l) (sym k.2) ∙ h.in_order;
         read = every_append IsRead all (c ∷ []) read ((refl, refl), tt);
         open_ = tt;
       };
@@ -353,8 +379,10 @@ curve_line OfQueue draft next words = point_line OfQueue draft words
 
 pub curve_kept : (n : Named) (kind : Kind) (draft : ReportDraft) (next : Option (List (List ℕ))) (words : List (List ℕ)) (left : ReportDraft)
     → AreKept n (Some (key_word kind ∷ words)) draft.done draft.current draft.keys → curve_line kind draft next words ≡ Ok left → LineKept n next (key_word kind ∷ words) draft left
-curve_kept n OfLabel draft next words left h e = point_kept n OfLabel tt (λ points rates f. f) (λ name next points rates r s. (r, s)) (λ name points rates. refl) draft next words left h e
+curve_kept n OfLabel draft next words left h e =
+    point_kept n OfLabel tt (λ points rates f. f) (λ name next points rates r s. (r, s)) (λ name points rates. refl) draft next words left h e
 curve_kept n OfNever draft next words left h e = never_kept n draft next words left h e
 curve_kept n OfInflow draft next words left h e = trace_kept n OfInflow tt (λ points rates f. f) (λ name next points rates f. f) (λ name points rates. refl) draft next words left h e
 curve_kept n OfOutflow draft next words left h e = trace_kept n OfOutflow tt (λ points rates f. f) (λ name next points rates f. f) (λ name points rates. refl) draft next words left h e
-curve_kept n OfQueue draft next words left h e = point_kept n OfQueue tt (λ points rates f. f) (λ name next points rates r s. (r, s)) (λ name points rates. refl) draft next words left h e
+curve_kept n OfQueue draft next words left h e =
+    point_kept n OfQueue tt (λ points rates f. f) (λ name next points rates r s. (r, s)) (λ name points rates. refl) draft next words left h e

@@ -147,7 +147,8 @@ head_is n last (l1 ∷ rest1) t r =
           reads = subst (λ (d : ReportDraft). Reads n d rest None last) k.is r.2;
         }
 
-    third : (horizon : ℚ) (l2 : List (List ℕ)) (rest : List (List (List ℕ))) → IsFraction horizon → Reads n (record (empty_report n) { stage = AtReached; horizon = horizon }) rest None last
+    third : (horizon : ℚ) (l2 : List (List ℕ)) (rest : List (List (List ℕ))) → IsFraction horizon
+        → Reads n (record (empty_report n) { stage = AtReached; horizon = horizon }) rest None last
         → l1 ≡ codes "report" ∷ digits_of n.version ∷ [] → l2 ≡ codes "horizon" ∷ printed horizon ∷ [] → HeadIs n (l1 ∷ l2 ∷ rest) last
     third horizon l2 [] f r w1 w2 = absurd (no_end n (record (empty_report n) { stage = AtReached; horizon = horizon }) last (λ e. absurd (cc)) r t)
     third horizon l2 (l3 ∷ rest) f r w1 w2 =

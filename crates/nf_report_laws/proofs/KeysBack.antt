@@ -20,7 +20,8 @@ never_keys (name ∷ names) = ap (λ l. key_of OfNever name ∷ l) (never_keys n
 abbrev pub link_keys : List Name → List CurveKey
 link_keys names = flat_map (λ name. key_of OfInflow name ∷ key_of OfOutflow name ∷ key_of OfQueue name ∷ []) names
 
-the_link_keys : (names : List Name) (inflows outflows : List Trace) (queues : List (List Point)) → length inflows ≡ length names → length outflows ≡ length names → length queues ≡ length names
+the_link_keys : (names : List Name) (inflows outflows : List Trace) (queues : List (List Point)) → length inflows ≡ length names
+    → length outflows ≡ length names → length queues ≡ length names
     → keys_of (link_curves names inflows outflows queues) ≡ link_keys names
 the_link_keys [] inflows outflows queues e f g = refl
 the_link_keys (name ∷ names) [] outflows queues e f g = absurd (omega arith)
@@ -35,7 +36,8 @@ keys_from n flow h =
     let b = never_curves n.idle_nodes in
     let c = link_curves n.link_names flow.inflows flow.outflows flow.queues in
     map-append (λ curve. curve.key) (a ++ b) c ∙ ap (λ l. l ++ keys_of c) (map-append (λ curve. curve.key) a b)
-    ∙ (λ i. label_keys n.node_names flow.labels h.label_count i ++ never_keys n.idle_nodes i ++ the_link_keys n.link_names flow.inflows flow.outflows flow.queues h.inflow_count h.outflow_count h.queue_count i)
+    ∙ (λ i. label_keys n.node_names flow.labels h.label_count i ++ never_keys n.idle_nodes i ++ the_link_keys n.link_names flow.inflows flow.outflows
+        flow.queues h.inflow_count h.outflow_count h.queue_count i)
 
 -- ---- neighbours
 apart : (kind : Kind) (x y : Name) → bytes_eq x y ≡ false → key_of kind x ≡ key_of kind y → ⊥
@@ -75,11 +77,13 @@ unfolding IsDistinct
 distinct_right [] ys d = d
 distinct_right (x ∷ xs) ys d = distinct_right xs ys d.1
 
-nevers_adjacent : (before : Option CurveKey) (idle names : List Name) → IsDistinct bytes_eq idle → ((name : Name) → Differ before (key_of OfNever name)) → ((name : Name) → Differ before (key_of OfInflow name))
+nevers_adjacent : (before : Option CurveKey) (idle names : List Name) → IsDistinct bytes_eq idle → ((name : Name) → Differ before (key_of OfNever name))
+    → ((name : Name) → Differ before (key_of OfInflow name))
     → Adjacent before (map (key_of OfNever) idle ++ link_keys names)
 nevers_adjacent before [] names d h k = links_adjacent before names k
 nevers_adjacent before (x ∷ idle) names d h k =
-    (h x, names_adjacent OfNever x idle (link_keys names) d (λ y. links_adjacent (Some (key_of OfNever y)) names (λ name. other_kind (key_of OfNever y) (key_of OfInflow name) (λ e. absurd (omega arith)))))
+    (h x, names_adjacent OfNever x idle (link_keys names) d (λ y. links_adjacent (Some (key_of OfNever y)) names
+        (λ name. other_kind (key_of OfNever y) (key_of OfInflow name) (λ e. absurd (omega arith)))))
 
 all_adjacent : (nodes idle names : List Name) → IsDistinct bytes_eq (nodes ++ idle) → Adjacent None (map (key_of OfLabel) nodes ++ (map (key_of OfNever) idle ++ link_keys names))
 all_adjacent [] idle names d = nevers_adjacent None idle names d (λ name. tt) (λ name. tt)
@@ -105,7 +109,8 @@ nevers_are : (names : List Name) → AllByRecursion IsRead (never_curves names)
 nevers_are [] = tt
 nevers_are (name ∷ names) = ((refl, refl), nevers_are names)
 
-links_are : (names : List Name) (inflows outflows : List Trace) (queues : List (List Point)) → AllByRecursion IsReadTrace inflows → AllByRecursion IsReadTrace outflows → AllByRecursion IsReadPoints queues
+links_are : (names : List Name) (inflows outflows : List Trace) (queues : List (List Point)) → AllByRecursion IsReadTrace inflows
+    → AllByRecursion IsReadTrace outflows → AllByRecursion IsReadPoints queues
     → AllByRecursion IsRead (link_curves names inflows outflows queues)
 links_are [] inflows outflows queues h k l = tt
 links_are (name ∷ names) [] outflows queues h k l = tt
@@ -128,7 +133,8 @@ labels_allowed version [] labels = tt
 labels_allowed version (name ∷ names) [] = tt
 labels_allowed version (name ∷ names) (points ∷ labels) = (tt, labels_allowed version names labels)
 
-links_allowed : (version : ℕ) (names : List Name) (inflows outflows : List Trace) (queues : List (List Point)) → AllByRecursion (Allowed version) (link_curves names inflows outflows queues)
+links_allowed : (version : ℕ) (names : List Name) (inflows outflows : List Trace) (queues : List (List Point))
+    → AllByRecursion (Allowed version) (link_curves names inflows outflows queues)
 links_allowed version [] inflows outflows queues = tt
 links_allowed version (name ∷ names) [] outflows queues = tt
 links_allowed version (name ∷ names) (i ∷ inflows) [] queues = tt
@@ -148,5 +154,6 @@ idle_allowed n h false e = nevers_allowed n.version n.idle_nodes e
 pub curves_allowed : (n : Named) (flow : Flow) → IsNamed n → AllByRecursion (λ c. IsAllowed n.version c.key.kind) (curves_from n flow)
 curves_allowed n flow h =
     every_append (Allowed n.version) (label_curves n.node_names flow.labels ++ never_curves n.idle_nodes) (link_curves n.link_names flow.inflows flow.outflows flow.queues)
-    (every_append (Allowed n.version) (label_curves n.node_names flow.labels) (never_curves n.idle_nodes) (labels_allowed n.version n.node_names flow.labels) (idle_allowed n h (n.version == 1) refl))
+    (every_append (Allowed n.version) (label_curves n.node_names flow.labels) (never_curves n.idle_nodes)
+        (labels_allowed n.version n.node_names flow.labels) (idle_allowed n h (n.version == 1) refl))
     (links_allowed n.version n.link_names flow.inflows flow.outflows flow.queues)

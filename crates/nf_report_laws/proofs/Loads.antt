@@ -23,7 +23,8 @@ record IsGood (n : ℕ) (draft : LoadsDraft) : Type 0 where
   pub many : length draft.pieces ≡ n
 
 -- ---- a line
-entry_kept : (n : ℕ) (draft : LoadsDraft) (entry : LoadEntry) (next : LoadsDraft) → IsGood n draft → unless_rule (load_rule_of draft entry) (load_after draft entry) ≡ Ok next → IsGood n next
+entry_kept : (n : ℕ) (draft : LoadsDraft) (entry : LoadEntry) (next : LoadsDraft) → IsGood n draft
+    → unless_rule (load_rule_of draft entry) (load_after draft entry) ≡ Ok next → IsGood n next
 entry_kept n draft End next g e = subst (λ (d : LoadsDraft). IsGood n d) (same_Ok _ _ e) (record { all = g.all; many = g.many })
 entry_kept n draft (Rate link piece) next g e =
     let w = no_rule (load_rule_of draft (Rate link piece)) (load_after draft (Rate link piece)) next e in
@@ -48,7 +49,8 @@ none_yet (name ∷ names) = let w = none_yet names in ((tt, w.0), ap suc w.1)
 ended_is : (draft : LoadsDraft) (pieces : List (List Piece)) → if_ended draft ≡ Ok pieces → draft.pieces ≡ pieces
 ended_is draft pieces e = same_Ok _ _ (where_true draft.ended (record { rule = L12; line = 0 }) (Ok draft.pieces) pieces e).1
 
-pub loads-pieces : (n : Named) (text : List ℕ) (pieces : List (List Piece)) → loads_in n text ≡ Ok pieces → (length pieces ≡ length n.link_names) × ((e : ℕ) → ArePieces (pieces_at pieces e))
+pub loads-pieces : (n : Named) (text : List ℕ) (pieces : List (List Piece)) → loads_in n text ≡ Ok pieces
+    → (length pieces ≡ length n.link_names) × ((e : ℕ) → ArePieces (pieces_at pieces e))
 unfolding loads_in
 loads-pieces n text pieces e =
     let w = file_is (loads_frame n) text pieces e in

@@ -122,4 +122,5 @@ rate_is word rate e = go (bytes_eq word (codes "-")) refl e
     go true k f = subst (λ (r : Option ℚ). (word ≡ rate_text r) × IsFractionOrNone r) (same_Ok None rate f) (same_names word (codes "-") k, tt)
     go false k f =
         let w = both_ok (or_rule P8 (printed_number word)) some_rate rate f in
-        subst (λ (r : Option ℚ). (word ≡ rate_text r) × IsFractionOrNone r) (same_Ok (Some w.between) rate w.next) (number_is word w.between (or_ok P8 (printed_number word) w.between w.first))
+        subst (λ (r : Option ℚ). (word ≡ rate_text r) × IsFractionOrNone r) (same_Ok (Some w.between) rate w.next)
+            (number_is word w.between (or_ok P8 (printed_number word) w.between w.first))

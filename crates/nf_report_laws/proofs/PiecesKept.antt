@@ -14,7 +14,8 @@ abbrev pub GoOn : Option Piece → List Piece → Type 0
 GoOn before [] = Unit {0}
 GoOn before (p ∷ rest) = (0ℚ ≤ℚ p.start) × (0ℚ ≤ℚ p.rate) × After before p × GoOn (Some p) rest
 
-go_on_more : (before : Option Piece) (xs : List Piece) (piece : Piece) → GoOn before xs → 0ℚ ≤ℚ piece.start → 0ℚ ≤ℚ piece.rate → After (last_or before xs) piece → GoOn before (xs ++ piece ∷ [])
+go_on_more : (before : Option Piece) (xs : List Piece) (piece : Piece) → GoOn before xs → 0ℚ ≤ℚ piece.start → 0ℚ ≤ℚ piece.rate
+    → After (last_or before xs) piece → GoOn before (xs ++ piece ∷ [])
 go_on_more before [] piece w h k a = (h, k, a, tt)
 go_on_more before (x ∷ xs) piece w h k a = (w.0, w.1, w.2, go_on_more (Some x) xs piece w.3 h k a)
 
@@ -31,7 +32,9 @@ rise_of before (x ∷ y ∷ xs) zero piece next w is then_ =
 rise_of before (x ∷ y ∷ xs) (suc i) piece next w is then_ = rise_of (Some x) (y ∷ xs) i piece next w.3 is then_
 
 pub go_on_pieces : (xs : List Piece) → GoOn None xs → ArePieces xs
-go_on_pieces xs w = record { starts = λ i p is. (starts_of None xs i p w is).0; rise = λ i p q is then_. rise_of None xs i p q w is then_; rates = λ i p is. (starts_of None xs i p w is).1 }
+go_on_pieces xs w =
+    record { starts = λ i p is. (starts_of None xs i p w is).0; rise = λ i p q is then_. rise_of None xs i p q w is then_; rates =
+    λ i p is. (starts_of None xs i p w is).1 }
 
 after_it : (piece : Piece) (before : Option Piece) → is_not_after piece.start before ≡ false → After before piece
 after_it piece None e = tt

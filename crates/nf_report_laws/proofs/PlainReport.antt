@@ -96,23 +96,28 @@ point_short key name [] k m h = tt
 point_short key name (p ∷ points) k m h =
     (record { each = (k, (m, (short_number p.0 h.0.0, (short_number p.1 h.0.1, tt)))); few = omega arith }, point_short key name points k m h.1)
 
-trace_short : (key name : List ℕ) (points : List Point) (rates : List ℚ) → IsShortWord key → IsShortWord name → AreFractionPoints points → AllByRecursion IsFraction rates → AllByRecursion IsShortLine (trace_lines key name points rates)
+trace_short : (key name : List ℕ) (points : List Point) (rates : List ℚ) → IsShortWord key → IsShortWord name → AreFractionPoints points
+    → AllByRecursion IsFraction rates → AllByRecursion IsShortLine (trace_lines key name points rates)
 trace_short key name [] rates k m h r = tt
 trace_short key name (p ∷ points) [] k m h r =
     (record { each = (k, (m, (short_number p.0 h.0.0, (short_number p.1 h.0.1, (short_key (codes "-") refl refl refl, tt))))); few = omega arith }, trace_short key name points [] k m h.1 r)
 trace_short key name (p ∷ points) (rate ∷ rates) k m h r =
     (record { each = (k, (m, (short_number p.0 h.0.0, (short_number p.1 h.0.1, (short_number rate r.0, tt))))); few = omega arith }, trace_short key name points rates k m h.1 r.1)
 
-kind_short : (kind : Kind) (name : Name) (points : List Point) (rates : List ℚ) → is_name name ≡ true → IsOfKind kind points rates → AllByRecursion IsShortLine (lines_of_kind kind name points rates)
+kind_short : (kind : Kind) (name : Name) (points : List Point) (rates : List ℚ) → is_name name ≡ true → IsOfKind kind points rates
+    → AllByRecursion IsShortLine (lines_of_kind kind name points rates)
 kind_short OfLabel name points rates e h = point_short (codes "label") name points (short_key (codes "label") refl refl refl) (short_name name e) h.0.1
 kind_short OfNever name points rates e h = (record { each = (short_key (codes "never") refl refl refl, (short_name name e, tt)); few = omega arith }, tt)
 kind_short OfInflow name points rates e h = trace_short (codes "inflow") name points rates (short_key (codes "inflow") refl refl refl) (short_name name e) h.points h.rates
 kind_short OfOutflow name points rates e h = trace_short (codes "outflow") name points rates (short_key (codes "outflow") refl refl refl) (short_name name e) h.points h.rates
 kind_short OfQueue name points rates e h = point_short (codes "queue") name points (short_key (codes "queue") refl refl refl) (short_name name e) h.0.1
 
-pub curves_short : (curves : List ReadCurve) → AllByRecursion IsRead curves → AllByRecursion (λ c. is_name c.key.name ≡ true) curves → AllByRecursion IsShortLine (flat_map curve_lines curves)
+pub curves_short : (curves : List ReadCurve) → AllByRecursion IsRead curves → AllByRecursion (λ c. is_name c.key.name ≡ true) curves
+    → AllByRecursion IsShortLine (flat_map curve_lines curves)
 curves_short [] h m = tt
-curves_short (c ∷ curves) h m = every_append IsShortLine (curve_lines c) (flat_map curve_lines curves) (kind_short c.key.kind c.key.name c.points c.rates m.0 h.0) (curves_short curves h.1 m.1)
+curves_short (c ∷ curves) h m =
+    every_append IsShortLine (curve_lines c) (flat_map curve_lines curves) (kind_short c.key.kind c.key.name c.points c.rates m.0 h.0)
+    (curves_short curves h.1 m.1)
 
 pub states_short : (names : List Name) (pattern : Pattern) → AllByRecursion (λ name. is_name name ≡ true) names → AllByRecursion IsShortLine (state_lines_of names pattern)
 states_short [] pattern h = tt
@@ -124,7 +129,8 @@ states_short (name ∷ names) (Some state ∷ pattern) h =
 pub end_short : AllByRecursion IsShortLine end_lines
 end_short = (record { each = (short_key (codes "end") refl refl refl, tt); few = omega arith }, tt)
 
-pub head_short : (version : ℕ) (horizon reached : ℚ) (stop : Option (Cause ℚ)) (rest : List (List (List ℕ))) → IsCount version → IsFraction horizon → IsFraction reached → IsReadableCause stop
+pub head_short : (version : ℕ) (horizon reached : ℚ) (stop : Option (Cause ℚ)) (rest : List (List (List ℕ))) → IsCount version → IsFraction horizon
+    → IsFraction reached → IsReadableCause stop
     → AllByRecursion IsShortLine rest → AllByRecursion IsShortLine (head_lines version horizon reached (cause_words stop) rest)
 head_short version horizon reached stop rest v h r c k =
     let few : length (cause_words stop) ≤ 7 = cause_length stop in (

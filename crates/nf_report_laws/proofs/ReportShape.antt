@@ -137,7 +137,8 @@ abbrev pub head_lines : ℕ → ℚ → ℚ → List (List ℕ) → List (List (
 head_lines version horizon reached cause rest =
     (codes "report" ∷ digits_of version ∷ []) ∷ (codes "horizon" ∷ printed horizon ∷ []) ∷ (codes "reached" ∷ printed reached ∷ []) ∷ (codes "cause" ∷ cause) ∷ rest
 
-pub lines_by_curves : (n : Named) (report : Report) → AreRead n report.flow → length n.node_names ≡ n.net.nodes → length n.link_names ≡ length n.net.links → length report.last ≡ length n.net.links
+pub lines_by_curves : (n : Named) (report : Report) → AreRead n report.flow → length n.node_names ≡ n.net.nodes → length n.link_names ≡ length n.net.links
+    → length report.last ≡ length n.net.links
     → report_lines n report ≡ head_lines n.version report.horizon report.flow.reached (cause_words report.stop)
     (flat_map curve_lines (curves_from n report.flow) ++ state_lines_of n.link_names report.last ++ end_lines)
 lines_by_curves n report h nodes links states =
@@ -180,7 +181,8 @@ the_labels [] (points ∷ labels) e = absurd (omega arith)
 the_labels (name ∷ names) [] e = refl
 the_labels (name ∷ names) (points ∷ labels) e = ap (λ l. points ∷ l) (the_labels names labels (omega arith))
 
-the_inflows : (names : List Name) (inflows outflows : List Trace) (queues : List (List Point)) → length inflows ≡ length names → length outflows ≡ length names → length queues ≡ length names
+the_inflows : (names : List Name) (inflows outflows : List Trace) (queues : List (List Point)) → length inflows ≡ length names
+    → length outflows ≡ length names → length queues ≡ length names
     → traces_read OfInflow (link_curves names inflows outflows queues) ≡ inflows
 the_inflows [] [] outflows queues e f g = refl
 the_inflows [] (i ∷ inflows) outflows queues e f g = absurd (omega arith)
@@ -189,7 +191,8 @@ the_inflows (name ∷ names) (i ∷ inflows) [] queues e f g = absurd (omega ari
 the_inflows (name ∷ names) (i ∷ inflows) (o ∷ outflows) [] e f g = absurd (omega arith)
 the_inflows (name ∷ names) (i ∷ inflows) (o ∷ outflows) (q ∷ queues) e f g = ap (λ l. i ∷ l) (the_inflows names inflows outflows queues (omega arith) (omega arith) (omega arith))
 
-the_outflows : (names : List Name) (inflows outflows : List Trace) (queues : List (List Point)) → length inflows ≡ length names → length outflows ≡ length names → length queues ≡ length names
+the_outflows : (names : List Name) (inflows outflows : List Trace) (queues : List (List Point)) → length inflows ≡ length names
+    → length outflows ≡ length names → length queues ≡ length names
     → traces_read OfOutflow (link_curves names inflows outflows queues) ≡ outflows
 the_outflows [] inflows [] queues e f g = refl
 the_outflows [] inflows (o ∷ outflows) queues e f g = absurd (omega arith)
@@ -198,7 +201,8 @@ the_outflows (name ∷ names) (i ∷ inflows) [] queues e f g = absurd (omega ar
 the_outflows (name ∷ names) (i ∷ inflows) (o ∷ outflows) [] e f g = absurd (omega arith)
 the_outflows (name ∷ names) (i ∷ inflows) (o ∷ outflows) (q ∷ queues) e f g = ap (λ l. o ∷ l) (the_outflows names inflows outflows queues (omega arith) (omega arith) (omega arith))
 
-the_queues : (names : List Name) (inflows outflows : List Trace) (queues : List (List Point)) → length inflows ≡ length names → length outflows ≡ length names → length queues ≡ length names
+the_queues : (names : List Name) (inflows outflows : List Trace) (queues : List (List Point)) → length inflows ≡ length names
+    → length outflows ≡ length names → length queues ≡ length names
     → points_read OfQueue (link_curves names inflows outflows queues) ≡ queues
 the_queues [] inflows outflows [] e f g = refl
 the_queues [] inflows outflows (q ∷ queues) e f g = absurd (omega arith)
@@ -225,7 +229,8 @@ gives_flow n flow h =
     let of_links : (kind : Kind) → bytes_eq (codes "label") (key_word kind) ≡ false → bytes_eq (codes "never") (key_word kind) ≡ false → curves_of kind (a ++ b ++ c) ≡ curves_of kind c =
     λ kind e f. parts kind ∙ (λ i. no_label kind n.node_names flow.labels e i ++ no_never kind n.idle_nodes f i ++ curves_of kind c) in
     record {
-      labels = ap (map (λ curve. curve.points)) (parts OfLabel ∙ (λ i. curves_of OfLabel a ++ no_never OfLabel n.idle_nodes refl i ++ no_link n.link_names flow.inflows flow.outflows flow.queues i) ∙ append-nil (curves_of OfLabel a ++ []) ∙ append-nil (curves_of OfLabel a))
+      labels = ap (map (λ curve. curve.points)) (parts OfLabel ∙ (λ i. curves_of OfLabel a ++ no_never OfLabel n.idle_nodes refl i ++ no_link n.link_names
+          flow.inflows flow.outflows flow.queues i) ∙ append-nil (curves_of OfLabel a ++ []) ∙ append-nil (curves_of OfLabel a))
           ∙ the_labels n.node_names flow.labels h.label_count;
       inflows = ap (map (λ curve. record { points = curve.points; rates = curve.rates })) (of_links OfInflow refl refl)
           ∙ the_inflows n.link_names flow.inflows flow.outflows flow.queues h.inflow_count h.outflow_count h.queue_count;

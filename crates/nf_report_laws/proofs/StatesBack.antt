@@ -57,7 +57,8 @@ module _ (n : Named) (horizon reached : ℚ) (stop : Option (Cause ℚ)) where
       Ok (in_states (with_current done current) None (suc (p i)) (set states (p i) (Some state))))))
       ∙ (λ i. if le-ltb e k low i then Err P7 else (allowed i >>= λ state. Ok (in_states (with_current done current) None (suc e) (set states e (Some state)))))
 
-  pub record AfterStates (done : List ReadCurve) (current : Option ReadCurve) (k : ℕ) (from : Pattern) (lines : List (List (List ℕ))) (after : Option (List (List ℕ))) (pattern : Pattern) : Type 0 where
+  pub record AfterStates (done : List ReadCurve) (current : Option ReadCurve) (k : ℕ) (from : Pattern) (lines : List (List (List ℕ)))
+      (after : Option (List (List ℕ))) (pattern : Pattern) : Type 0 where
     pub last_done : List ReadCurve
     pub last : Option ReadCurve
     pub last_state : ℕ
@@ -75,16 +76,19 @@ module _ (n : Named) (horizon reached : ℚ) (stop : Option (Cause ℚ)) where
       let more = append_assoc front (None ∷ []) pattern in
       let long : length (front ++ None ∷ []) ≡ length front + 1 = length-append front (None ∷ []) in
       let names_long : length (names_front ++ name ∷ []) ≡ length names_front + 1 = length-append names_front (name ∷ []) in
-      let w = states_read (names_front ++ name ∷ []) names (front ++ None ∷ []) pattern done current k after (e ∙ sym (append_assoc names_front (name ∷ []) names)) d (omega arith) (omega arith) (omega arith)
+      let w = states_read (names_front ++ name ∷ []) names (front ++ None ∷ []) pattern done current k after
+          (e ∙ sym (append_assoc names_front (name ∷ []) names)) d (omega arith) (omega arith) (omega arith)
       (subst (λ (p : Pattern). (e : ℕ) (state : State) → HasState p e state → state_of_link (capacity_at n.net.links e) state ≡ Ok state) (sym more) allowed) in
-      subst (λ (p : Pattern). AfterStates done current k p (state_lines_of names pattern) after (front ++ None ∷ pattern)) (append_assoc front (None ∷ []) (replicate (length names) None))
+      subst (λ (p : Pattern). AfterStates done current k p (state_lines_of names pattern) after (front ++ None ∷ pattern))
+          (append_assoc front (None ∷ []) (replicate (length names) None))
       (subst (λ (p : Pattern). AfterStates done current k (front ++ None ∷ [] ++ replicate (length names) None) (state_lines_of names pattern) after p) more w)
   states_read names_front (name ∷ names) front (Some state ∷ pattern) done current k after e d c f low allowed =
       let more = append_assoc front (Some state ∷ []) pattern in
       let place = length front in
       let long : length (front ++ Some state ∷ []) ≡ length front + 1 = length-append front (Some state ∷ []) in
       let names_long : length (names_front ++ name ∷ []) ≡ length names_front + 1 = length-append names_front (name ∷ []) in
-      let w = states_read (names_front ++ name ∷ []) names (front ++ Some state ∷ []) pattern (with_current done current) None (suc place) after (e ∙ sym (append_assoc names_front (name ∷ []) names)) d (omega arith) (omega arith) (omega arith)
+      let w = states_read (names_front ++ name ∷ []) names (front ++ Some state ∷ []) pattern (with_current done current) None (suc place) after
+          (e ∙ sym (append_assoc names_front (name ∷ []) names)) d (omega arith) (omega arith) (omega arith)
       (subst (λ (p : Pattern). (e : ℕ) (state : State) → HasState p e state → state_of_link (capacity_at n.net.links e) state ≡ Ok state) (sym more) allowed) in
       let here = place_front names_front name names (subst (IsDistinct bytes_eq) e d) in
       let at : place_of n.link_names name ≡ place = ap (λ names. place_of names name) e ∙ here ∙ sym c in
@@ -100,7 +104,9 @@ module _ (n : Named) (horizon reached : ℚ) (stop : Option (Cause ℚ)) where
           state_put done current k (front ++ None ∷ replicate (length names) None) name state place (next_of (state_lines_of names pattern) after)
               (ap (λ names. has_name names name) e ∙ has_front names_front name names) at low (allowed place state (at_front front (Some state) pattern))
               ∙ ap (λ (p : Pattern). Ok (in_states (with_current done current) None (suc place) p)) from,
-          subst (λ (p : Pattern). Reads n (in_states (with_current done current) None (suc place) (front ++ Some state ∷ [] ++ replicate (length names) None)) (state_lines_of names pattern) after (in_states w.last_done w.last w.last_state p)) more w.reads,
+          subst (λ (p : Pattern). Reads n (in_states (with_current done current) None (suc place)
+              (front ++ Some state ∷ [] ++ replicate (length names) None)) (state_lines_of names pattern) after
+              (in_states w.last_done w.last w.last_state p)) more w.reads,
         );
       }
 

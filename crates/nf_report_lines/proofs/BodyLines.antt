@@ -25,7 +25,8 @@ module _ (n : Named) (draft : ReportDraft) (next : Option (List (List ℕ))) (wo
       ap (body_line n draft next) (first_word words some)
       ∙ ap (λ (k : Option LineKind). or_rule P5 k >>= λ kind. line_of_kind n draft next (drop 1 words) kind) (sym (e ∙ (λ i. line_kind (ev i) (ew i))))
 
-  pub of_kind : (kind this : code.LineKind) → Some (seen_line_kind kind) ≡ line_kind version word → kind ≡ this → body_line n draft next words ≡ line_of_kind n draft next (drop 1 words) (seen_line_kind this)
+  pub of_kind : (kind this : code.LineKind) → Some (seen_line_kind kind) ≡ line_kind version word → kind ≡ this
+      → body_line n draft next words ≡ line_of_kind n draft next (drop 1 words) (seen_line_kind this)
   of_kind kind this e is = by_kind (Some (seen_line_kind this)) (sym (ap (λ (k : code.LineKind). Some (seen_line_kind k)) is) ∙ e)
 
   pub of_none : None ≡ line_kind version word → body_line n draft next words ≡ Err P5
@@ -40,7 +41,8 @@ point_count draft kind (key ∷ a ∷ b ∷ []) lt ne = refl
 point_count draft kind (key ∷ a ∷ b ∷ c ∷ []) lt ne = absurd (ne refl)
 point_count draft kind (key ∷ a ∷ b ∷ c ∷ d ∷ words) lt ne = refl
 
-pub trace_count : (draft : ReportDraft) (kind : Kind) (next : Option (List (List ℕ))) (words : List (List ℕ)) → 0 < length words → length words ≢ 5 → trace_line kind draft next (drop 1 words) ≡ Err P6
+pub trace_count : (draft : ReportDraft) (kind : Kind) (next : Option (List (List ℕ))) (words : List (List ℕ)) → 0 < length words → length words ≢ 5
+    → trace_line kind draft next (drop 1 words) ≡ Err P6
 trace_count draft kind next [] lt ne = absurd (omega arith)
 trace_count draft kind next (key ∷ []) lt ne = refl
 trace_count draft kind next (key ∷ a ∷ []) lt ne = refl
@@ -70,7 +72,8 @@ module _ (draft : ReportDraft) (kind : Kind) (words : List (List ℕ)) (name tim
         (cond (are_alike (is_none r) (begins_with (key_word kind) name next)) (Err P12)
         (Ok (with_point draft o p (with_rate o.curve.rates r))))
 
-    pub rated_by : (o : Result Opened ReportRule) → opened draft kind name draft.current ≡ o → (t y : Result ℚ ReportRule) → or_rule P8 (printed_number time) ≡ t → or_rule P8 (printed_number value) ≡ y
+    pub rated_by : (o : Result Opened ReportRule) → opened draft kind name draft.current ≡ o → (t y : Result ℚ ReportRule)
+        → or_rule P8 (printed_number time) ≡ t → or_rule P8 (printed_number value) ≡ y
         → trace_line kind draft next (drop 1 words) ≡ by_rated o t y
     rated_by o eo t y et ey = ap (trace_line kind draft next) is ∙ (λ i. by_rated (eo i) (et i) (ey i))
 
@@ -93,7 +96,8 @@ module _ (draft : ReportDraft) (kind : Kind) (next : Option (List (List ℕ))) (
   pub rate_wrong : (rule : ReportRule) → rate_word rate ≡ Err rule → trace_line kind draft next (drop 1 words) ≡ Err rule
   rate_wrong rule e = trace_is ∙ ap by_rate e
 
-  pub rated_out : (r : Option ℚ) (a b : Bool) → rate_word rate ≡ Ok r → comes_after (last_or None o.curve.points) t ≡ a → are_alike (is_none r) (begins_with (key_word kind) name next) ≡ b
+  pub rated_out : (r : Option ℚ) (a b : Bool) → rate_word rate ≡ Ok r → comes_after (last_or None o.curve.points) t ≡ a
+      → are_alike (is_none r) (begins_with (key_word kind) name next) ≡ b
       → trace_line kind draft next (drop 1 words) ≡ by_tests r a b
   rated_out r a b e ea eb = trace_is ∙ ap by_rate e ∙ (λ i. by_tests r (ea i) (eb i))
 
@@ -104,7 +108,8 @@ none_is (Some q) true e = absurd (cc)
 none_is (Some q) false e = refl
 
 -- ---- the state of a link
-goes_wrong : {A B C : Type 0} (read : Result A ReportRule) (f : A → Result B ReportRule) (g : B → Result C ReportRule) (rule : ReportRule) → (read >>= f) ≡ Err rule → (read >>= λ x. f x >>= g) ≡ Err rule
+goes_wrong : {A B C : Type 0} (read : Result A ReportRule) (f : A → Result B ReportRule) (g : B → Result C ReportRule) (rule : ReportRule)
+    → (read >>= f) ≡ Err rule → (read >>= λ x. f x >>= g) ≡ Err rule
 goes_wrong (Ok x) f g rule e = ap (λ r. r >>= g) e
 goes_wrong (Err other) f g rule e = let same : other ≡ rule = cc in ap (λ (r : ReportRule). Err r) same
 
@@ -119,7 +124,8 @@ state_count n draft (key ∷ a ∷ []) lt ne = refl
 state_count n draft (key ∷ a ∷ b ∷ []) lt ne = absurd (ne refl)
 state_count n draft (key ∷ a ∷ b ∷ c ∷ words) lt ne = refl
 
-module _ (n : Named) (draft : ReportDraft) (words : List (List ℕ)) (name word : List ℕ) (is : drop 1 words ≡ name ∷ word ∷ []) (link : ℕ) (named : IsNameAt n.link_names name link) (late : draft.next_state ≤ link) where
+module _ (n : Named) (draft : ReportDraft) (words : List (List ℕ)) (name word : List ℕ) (is : drop 1 words ≡ name ∷ word ∷ []) (link : ℕ)
+    (named : IsNameAt n.link_names name link) (late : draft.next_state ≤ link) where
   abbrev put : ℕ → State → Result ReportDraft ReportRule
   put e state = if has_all draft.keys
       then Ok (record draft { done = with_current draft.done draft.current; current = None; next_state = suc e; states = set draft.states e (Some state) })
@@ -136,10 +142,12 @@ module _ (n : Named) (draft : ReportDraft) (words : List (List ℕ)) (name word 
       ∙ goes_wrong (or_rule P9 (state_in word)) (state_of_link (capacity_at n.net.links link)) (put link) rule e
 
   pub state_out : (state : State) (b : Bool) → state_read (capacity_at n.net.links link) word ≡ Ok state → has_all draft.keys ≡ b
-      → state_line n draft (drop 1 words) ≡ (if b then Ok (record draft { done = with_current draft.done draft.current; current = None; next_state = suc link; states = set draft.states link (Some state) }) else Err P13)
+      → state_line n draft (drop 1 words) ≡ (if b then Ok (record draft { done = with_current draft.done draft.current; current = None; next_state =
+          suc link; states = set draft.states link (Some state) }) else Err P13)
   state_out state b e eb =
       ap (state_line n draft) is
       ∙ (λ i. by_link (named.there i) (named.is_place i) (nat_lt (named.is_place i) draft.next_state))
       ∙ ap (by_link true link) (le-ltb link draft.next_state late)
       ∙ goes_on (or_rule P9 (state_in word)) (state_of_link (capacity_at n.net.links link)) (put link) state e
-      ∙ ap (λ (b : Bool). if b then Ok (record draft { done = with_current draft.done draft.current; current = None; next_state = suc link; states = set draft.states link (Some state) }) else Err P13) eb
+      ∙ ap (λ (b : Bool). if b then Ok (record draft { done = with_current draft.done draft.current; current = None; next_state = suc link; states =
+          set draft.states link (Some state) }) else Err P13) eb

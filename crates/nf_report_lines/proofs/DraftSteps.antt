@@ -53,7 +53,8 @@ begun_test done kind name [] (suc k) = refl
 begun_test done kind name (key ∷ keys) zero = refl
 begun_test done kind name (key ∷ keys) (suc k) = begun_test done kind name keys k
 
-same_test : (keys : List CurveKey) (k : ℕ) (other : CurveKey) (kind : lines.Kind) (name : Name) → k < length keys → is_key kind name (unwrap_or (slice_get keys k) other) ≡ is_some_key kind name (slice_get keys k)
+same_test : (keys : List CurveKey) (k : ℕ) (other : CurveKey) (kind : lines.Kind) (name : Name) → k < length keys
+    → is_key kind name (unwrap_or (slice_get keys k) other) ≡ is_some_key kind name (slice_get keys k)
 same_test [] k other kind name lt = absurd (omega arith)
 same_test (key ∷ keys) zero other kind name lt = refl
 same_test (key ∷ keys) (suc k) other kind name lt = same_test keys k other kind name (omega arith)
@@ -67,7 +68,8 @@ seen_done-push n k (c ∷ curves) curve =
     ap (λ (l : List ReadCurve). seen_curve (key_at n k) c ∷ l) (seen_done-push n (k + 1) curves curve
     ∙ ap (λ (i : ℕ). seen_done n (k + 1) curves ++ seen_curve (key_at n i) curve ∷ []) e)
 
-pub pushed : (n : Named) (curves : List (Option Trace)) (curve : Option Trace) → seen_done n 0 (curves ++ curve ∷ []) ≡ seen_done n 0 curves ++ seen_curve (key_at n (length curves)) curve ∷ []
+pub pushed : (n : Named) (curves : List (Option Trace)) (curve : Option Trace)
+    → seen_done n 0 (curves ++ curve ∷ []) ≡ seen_done n 0 curves ++ seen_curve (key_at n (length curves)) curve ∷ []
 pushed n curves curve =
     let e : 0 + length curves ≡ length curves = omega arith in
     seen_done-push n 0 curves curve ∙ ap (λ (i : ℕ). seen_done n 0 curves ++ seen_curve (key_at n i) curve ∷ []) e
@@ -94,13 +96,15 @@ module _ (n : Named) (d : Draft) where
   closed_is curves current trace whole some none points rates e =
       let len : length curves ≡ length d.done.items + 1 = ap (λ (l : List (Option Trace)). length l) e ∙ length-append d.done.items (Some whole ∷ []) in
       (λ i. seen_with n d (e i) (none i))
-      ∙ (λ i. record (seen_with n d (d.done.items ++ Some whole ∷ []) None) { done = pushed n d.done.items (Some whole) i; keys = drop ((sym (ap (λ (l : List (Option Trace)). length l) e) ∙ len) i) (curve_keys n) })
+      ∙ (λ i. record (seen_with n d (d.done.items ++ Some whole ∷ []) None) { done = pushed n d.done.items (Some whole) i; keys =
+          drop ((sym (ap (λ (l : List (Option Trace)). length l) e) ∙ len) i) (curve_keys n) })
       ∙ (λ i. record (closed (seen_with n d d.done.items (Some trace))) {
         done = seen_done n 0 d.done.items ++ record { key = key_at n (length d.done.items); points = points i; rates = rates i } ∷ [];
       })
       ∙ ap (λ (o : Option Trace). closed (seen_with n d d.done.items o)) (sym some)
 
-  module _ (next : Draft) (seen : seen_draft n next ≡ closed (seen_draft n d)) (none : next.current ≡ None) (many : length next.done.items ≡ begun_count d) (more : begun_count d < length (curve_keys n)) where
+  module _ (next : Draft) (seen : seen_draft n next ≡ closed (seen_draft n d)) (none : next.current ≡ None) (many : length next.done.items ≡ begun_count d)
+      (more : begun_count d < length (curve_keys n)) where
     keys_here : drop (begun_count d) (curve_keys n) ≡ key_at n (begun_count d) ∷ drop (begun_count d + 1) (curve_keys n)
     keys_here = keys_from (curve_keys n) (begun_count d) (key_of lines.OfNever []) more
 
@@ -125,7 +129,8 @@ module _ (n : Named) (d : Draft) where
     never_is curves e =
         let len : length curves ≡ begun_count d + 1 = ap (λ (l : List (Option Trace)). length l) e ∙ length-append next.done.items (None ∷ []) ∙ ap (λ (k : ℕ). k + 1) many in
         (λ i. seen_with n next curves (none i))
-        ∙ (λ i. record (seen_with n next curves None) { done = (ap (λ (l : List (Option Trace)). seen_done n 0 l) e ∙ pushed n next.done.items None) i; keys = drop (len i) (curve_keys n) })
+        ∙ (λ i. record (seen_with n next curves None) { done = (ap (λ (l : List (Option Trace)). seen_done n 0 l) e ∙ pushed n next.done.items None)
+            i; keys = drop (len i) (curve_keys n) })
         ∙ ap (λ (r : ReportDraft). record r {
           done = r.done ++ seen_curve (key_at n (length next.done.items)) None ∷ [];
           current = None;
@@ -145,7 +150,8 @@ opens n d kind name current = opened (seen_with n d d.done.items current) kind n
 
 module _ (n : Named) (d : Draft) (within : IsWithinNetwork n d) (kind : lines.Kind) (name : Name) where
   -- none is being read
-  pub begins_first : d.current ≡ None → is_some_key kind name (key_of_number n (length d.done.items)) ≡ true → opened (seen_draft n d) kind name (seen_draft n d).current ≡ Ok (opened_by (seen_draft n d) Begins)
+  pub begins_first : d.current ≡ None → is_some_key kind name (key_of_number n (length d.done.items)) ≡ true
+      → opened (seen_draft n d) kind name (seen_draft n d).current ≡ Ok (opened_by (seen_draft n d) Begins)
   begins_first none e =
       subst (λ (o : Option Trace). opens n d kind name o ≡ Ok (opened_by (seen_with n d d.done.items o) Begins)) (sym none)
       (begun_test (seen_done n 0 d.done.items) kind name (curve_keys n) (length d.done.items)
@@ -160,7 +166,8 @@ module _ (n : Named) (d : Draft) (within : IsWithinNetwork n d) (kind : lines.Ki
   -- one is
   module _ (trace : Trace) (some : d.current ≡ Some trace) where
     fewer : length d.done.items < length (curve_keys n)
-    fewer = let h : with_open (length d.done.items) (Some trace) ≤ length (curve_keys n) = subst (λ (o : Option Trace). with_open (length d.done.items) o ≤ length (curve_keys n)) some within.curves in omega (arith, h)
+    fewer = let h : with_open (length d.done.items) (Some trace) ≤ length (curve_keys n) =
+        subst (λ (o : Option Trace). with_open (length d.done.items) o ≤ length (curve_keys n)) some within.curves in omega (arith, h)
 
     abbrev by_test : Bool → Result Opened ReportRule
     by_test b = cond b
@@ -178,7 +185,8 @@ module _ (n : Named) (d : Draft) (within : IsWithinNetwork n d) (kind : lines.Ki
           ∙ begun_test (seen_done n 0 d.done.items ++ seen_curve (key_at n (length d.done.items)) (Some trace) ∷ []) kind name (curve_keys n) (length d.done.items + 1)
           ∙ ap (λ (t : Bool). cond t (Ok (opened_by (seen_with n d d.done.items (Some trace)) Begins)) (Err P7)) e
 
-      pub begins_next : is_some_key kind name (key_of_number n (length d.done.items + 1)) ≡ true → opened (seen_draft n d) kind name (seen_draft n d).current ≡ Ok (opened_by (seen_draft n d) Begins)
+      pub begins_next : is_some_key kind name (key_of_number n (length d.done.items + 1)) ≡ true
+          → opened (seen_draft n d) kind name (seen_draft n d).current ≡ Ok (opened_by (seen_draft n d) Begins)
       begins_next e = subst (λ (o : Option Trace). opens n d kind name o ≡ Ok (opened_by (seen_with n d d.done.items o) Begins)) (sym some) (next_test true e)
 
       pub other_curve : is_some_key kind name (key_of_number n (length d.done.items + 1)) ≡ false → opened (seen_draft n d) kind name (seen_draft n d).current ≡ Err P7
@@ -196,14 +204,16 @@ module _ (n : Named) (d : Draft) (words : List (List ℕ)) (two : length words �
       ∙ ap by_begun (begun_test (with_current (seen_draft n d).done (seen_draft n d).current) lines.OfNever (word_at words 1) (curve_keys n) (begun_count d)
       ∙ ap (λ (t : Bool). cond t (Ok (begun_by (with_current (seen_draft n d).done (seen_draft n d).current) (seen_draft n d).keys)) (Err P7)) e)
 
-  pub never_there : is_some_key lines.OfNever (word_at words 1) (key_of_number n (begun_count d)) ≡ true → lines.never_line (seen_draft n d) (drop 1 words) ≡ Ok (drafted n (seen_draft n d) Never)
+  pub never_there : is_some_key lines.OfNever (word_at words 1) (key_of_number n (begun_count d)) ≡ true
+      → lines.never_line (seen_draft n d) (drop 1 words) ≡ Ok (drafted n (seen_draft n d) Never)
   never_there e = never_test true e
 
   pub never_elsewhere : is_some_key lines.OfNever (word_at words 1) (key_of_number n (begun_count d)) ≡ false → lines.never_line (seen_draft n d) (drop 1 words) ≡ Err P7
   never_elsewhere e = never_test false e
 
 -- ---- what is kept
-pub nothing_read : (n : Named) (horizon reached : ℚ) (done : List (Option Trace)) (states : List (Option State)) → horizon ≡ 0ℚ → reached ≡ 0ℚ → done ≡ [] → states ≡ replicate (length n.link_names) None
+pub nothing_read : (n : Named) (horizon reached : ℚ) (done : List (Option Trace)) (states : List (Option State)) → horizon ≡ 0ℚ → reached ≡ 0ℚ → done ≡ []
+    → states ≡ replicate (length n.link_names) None
     → record {
       stage = lines.AtVersion;
       horizon = horizon;
@@ -230,7 +240,8 @@ done_few n d within = by_current d.current within.curves
     by_current (Some trace) h = omega (arith, h)
 
 -- ---- only idle nodes have no curve
-none_behind : (curves : List (Option Trace)) (curve : Option Trace) (i : ℕ) → slice_get (curves ++ curve ∷ []) i ≡ Some None → (slice_get curves i ≡ Some None) ⊎ ((i ≡ length curves) × (curve ≡ None))
+none_behind : (curves : List (Option Trace)) (curve : Option Trace) (i : ℕ) → slice_get (curves ++ curve ∷ []) i ≡ Some None
+    → (slice_get curves i ≡ Some None) ⊎ ((i ≡ length curves) × (curve ≡ None))
 none_behind [] curve zero e = inr (refl, same curve e)
   where
     same : (c : Option Trace) → ◌≡◌ {A = Option (Option Trace)} (Some c) (Some None) → c ≡ None
@@ -252,7 +263,8 @@ idle_kept n curves all trace same h i e = ⊎_elim
     some_none : Some trace ≡ None → ⊥
     some_none e = cc
 
-pub idle_passed : (n : Named) (curves all : List (Option Trace)) → all ≡ curves ++ None ∷ [] → (key_at n (length curves)).kind ≡ lines.OfNever → LacksIdleOnly n curves → LacksIdleOnly n all
+pub idle_passed : (n : Named) (curves all : List (Option Trace)) → all ≡ curves ++ None ∷ [] → (key_at n (length curves)).kind ≡ lines.OfNever
+    → LacksIdleOnly n curves → LacksIdleOnly n all
 idle_passed n curves all same is h i e = ⊎_elim
     (λ (w : slice_get curves i ≡ Some None). h i w)
     (λ (w : (i ≡ length curves) × (◌≡◌ {A = Option Trace} None None)). subst (λ (k : ℕ). (key_at n k).kind ≡ lines.OfNever) (sym w.0) is)
@@ -286,7 +298,8 @@ never_next [] k name e = absurd (cc)
 never_next (key ∷ keys) zero name e = never_by_word key.kind (bytes_eq key.name name) e
 never_next (key ∷ keys) (suc k) name e = never_next keys k name e
 
-pub with_state : (n : Named) (d e : Draft) (link next : ℕ) (state : State) (states : List (Option State)) → seen_draft n e ≡ closed (seen_draft n d) → next ≡ suc link → states ≡ set d.states link (Some state)
+pub with_state : (n : Named) (d e : Draft) (link next : ℕ) (state : State) (states : List (Option State)) → seen_draft n e ≡ closed (seen_draft n d)
+    → next ≡ suc link → states ≡ set d.states link (Some state)
     → record (seen_draft n e) { next_state = next; states = states } ≡ drafted n (seen_draft n d) (OfLink link state)
 with_state n d e link next state states h i s =
     ap (λ (r : ReportDraft). record r { next_state = next; states = states }) h

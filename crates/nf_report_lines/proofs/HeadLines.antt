@@ -105,7 +105,8 @@ module _ (draft : ReportDraft) (words : Words) (lt : 0 < length words) where
     pub horizon_fails : (rule : ReportRule) → number_alone (drop 1 words) ≡ Err rule → horizon_line draft words ≡ Err rule
     horizon_fails rule e = horizon_by (Err rule) e
 
-    pub horizon_read : (horizon : ℚ) (b : Bool) → number_alone (drop 1 words) ≡ Ok horizon → lt_ℚ horizon 0ℚ ≡ b → horizon_line draft words ≡ cond b (Err P10) (Ok (record draft { stage = AtReached; horizon = horizon }))
+    pub horizon_read : (horizon : ℚ) (b : Bool) → number_alone (drop 1 words) ≡ Ok horizon → lt_ℚ horizon 0ℚ ≡ b
+        → horizon_line draft words ≡ cond b (Err P10) (Ok (record draft { stage = AtReached; horizon = horizon }))
     unfolding by_horizon
     horizon_read horizon b e t = horizon_by (Ok horizon) e ∙ ap (λ (b : Bool). cond b (Err P10) (Ok (record draft { stage = AtReached; horizon = horizon }))) t
 

@@ -23,7 +23,8 @@ before_links n = map (key_of lines.OfLabel) n.node_names ++ map (key_of lines.Of
 pub length_curve_keys : (n : Named) → length (curve_keys n) ≡ length n.node_names + length n.idle_nodes + 3 * length n.link_names
 length_curve_keys n =
     let a : length (curve_keys n) ≡ length (before_links n) + length (link_keys n.link_names) = length-append (before_links n) (link_keys n.link_names) in
-    let b : length (before_links n) ≡ length (map (key_of lines.OfLabel) n.node_names) + length (map (key_of lines.OfNever) n.idle_nodes) = length-append (map (key_of lines.OfLabel) n.node_names) (map (key_of lines.OfNever) n.idle_nodes) in
+    let b : length (before_links n) ≡ length (map (key_of lines.OfLabel) n.node_names) + length (map (key_of lines.OfNever) n.idle_nodes) =
+        length-append (map (key_of lines.OfLabel) n.node_names) (map (key_of lines.OfNever) n.idle_nodes) in
     let d : length (map (key_of lines.OfLabel) n.node_names) ≡ length n.node_names = length-map n.node_names (key_of lines.OfLabel) in
     let e : length (map (key_of lines.OfNever) n.idle_nodes) ≡ length n.idle_nodes = length-map n.idle_nodes (key_of lines.OfNever) in
     let f = length_link_keys n.link_names in

@@ -19,7 +19,8 @@ use Rattle.nf_report_def.specs.ReportCauses.{if_printed, printed_number}
 take_next : (bytes : List ℕ) (place : ℕ) → place < length bytes → take (place + 1) bytes ≡ take place bytes ++ get_or bytes place 0 ∷ []
 take_next bytes place within = let next : place + 1 ≡ suc place = omega arith in ap (λ (n : ℕ). take n bytes) next ∙ take-suc bytes place 0 within
 
-pub digits_on : (bytes : List ℕ) (place : ℕ) → place < length bytes → are_digits (take place bytes) ≡ true → is_ascii_digit (get_or bytes place 0) ≡ true → are_digits (take (place + 1) bytes) ≡ true
+pub digits_on : (bytes : List ℕ) (place : ℕ) → place < length bytes → are_digits (take place bytes) ≡ true → is_ascii_digit (get_or bytes place 0) ≡ true
+    → are_digits (take (place + 1) bytes) ≡ true
 digits_on bytes place within are is = ap are_digits (take_next bytes place within) ∙ are_digits-append (take place bytes) (get_or bytes place 0 ∷ []) are (and_from _ _ is refl)
 
 pub value_on : (bytes : List ℕ) (place n : ℕ) → place < length bytes → value_of (take place bytes) ≡ n → value_of (take (place + 1) bytes) ≡ 10 * n + (get_or bytes place 0 - 48)
@@ -31,7 +32,8 @@ pub whole_is : (word : List ℕ) (n end : ℕ) → end ≡ length word → take 
 unfolding printed_parts
 whole_is word n end all is = sym (take_all end word (omega arith)) ∙ is
 
-pub ratio_is : (word rest : List ℕ) (n d end rest_end : ℕ) → end < length word → get_or word end 0 ≡ 47 → take end word ≡ digits_of n → rest ≡ drop (end + 1) word → length rest ≤ rest_end
+pub ratio_is : (word rest : List ℕ) (n d end rest_end : ℕ) → end < length word → get_or word end 0 ≡ 47 → take end word ≡ digits_of n
+    → rest ≡ drop (end + 1) word → length rest ≤ rest_end
     → take rest_end rest ≡ digits_of d → (d ≡ 1 → ⊥) → word ≡ printed_parts (pos n) d
 unfolding printed_parts
 ratio_is word rest n d end rest_end within is_slash is_num is_rest all is_den more =
@@ -39,7 +41,8 @@ ratio_is word rest n d end rest_end within is_slash is_num is_rest all is_den mo
     let back : drop end word ≡ 47 ∷ digits_of d = drop_more word end 0 within ∙ ap (λ (c : ℕ). c ∷ drop (end + 1) word) is_slash ∙ ap (λ ds. 47 ∷ ds) den in
     sym (take-append-drop end word) ∙ ap (λ ds. ds ++ drop end word) is_num ∙ ap (λ ds. digits_of n ++ ds) back ∙ sym (cond-false _ _ _ (ne_eqb d 1 more))
 
-either_form : (b : Bool) (n : ℕ) (ds : List ℕ) → 45 ∷ (if b then signed_digits_of (pos (suc n)) else signed_digits_of (pos (suc n)) ++ ds) ≡ (if b then signed_digits_of (negsuc n) else signed_digits_of (negsuc n) ++ ds)
+either_form : (b : Bool) (n : ℕ) (ds : List ℕ) → 45 ∷ (if b then signed_digits_of (pos (suc n)) else signed_digits_of (pos (suc n)) ++ ds)
+    ≡ (if b then signed_digits_of (negsuc n) else signed_digits_of (negsuc n) ++ ds)
 either_form true n ds = refl
 either_form false n ds = refl
 
@@ -48,7 +51,8 @@ unfolding printed_parts
 negative_parts zero d some = absurd (some refl)
 negative_parts (suc n) d some = either_form (d == 1) n (47 ∷ digits_of d)
 
-pub negative_is : (word rest : List ℕ) (n d : ℕ) → 0 < length word → get_or word 0 0 ≡ 45 → rest ≡ drop 1 word → rest ≡ printed_parts (pos n) d → 0 < n → word ≡ printed_parts (neg_ℤ (pos n)) d
+pub negative_is : (word rest : List ℕ) (n d : ℕ) → 0 < length word → get_or word 0 0 ≡ 45 → rest ≡ drop 1 word → rest ≡ printed_parts (pos n) d → 0 < n
+    → word ≡ printed_parts (neg_ℤ (pos n)) d
 negative_is word rest n d within is_minus is_rest is some =
     drop_more word 0 0 within ∙ ap (λ (c : ℕ). c ∷ drop 1 word) is_minus ∙ ap (λ ds. 45 ∷ ds) (sym is_rest ∙ is) ∙ negative_parts n d (λ none. omega arith)
 

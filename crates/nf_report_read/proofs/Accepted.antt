@@ -27,7 +27,8 @@ module _ (n : Named) (text : List ℕ) (named : IsNamed n) where
   its_text (Ok report) e = (report_kept n text (seen_report report) named e).2
   its_text (Err fault) e = tt
 
-  pub all_read : (result : Result Report (FileFault ReportRule)) → Answers n text result → (report : formats.Report) → IsWellFormed n.net report → IsReadable report → text ≡ report_text n report → ReturnsReport report result
+  pub all_read : (result : Result Report (FileFault ReportRule)) → Answers n text result → (report : formats.Report) → IsWellFormed n.net report
+      → IsReadable report → text ≡ report_text n report → ReturnsReport report result
   all_read (Ok read) e report well readable is =
       let same : report_in n text ≡ Ok report = ap (report_in n) is ∙ report_back n report named (fit n report named well readable) in
       same_Ok (seen_report read) report (sym e ∙ same)

@@ -64,7 +64,8 @@ module _ (before after : List TextLine) where
   next_ends None is fine = fine ∙ is
   next_ends (Some line) is fine = tt
 
-  pub next_behind : (next : Option ReadLine) → MatchOption next (before ≡ []) (λ line. map read_line before ≡ line ∷ map read_line after) → words_behind next ≡ next_words (map read_line before)
+  pub next_behind : (next : Option ReadLine) → MatchOption next (before ≡ []) (λ line. map read_line before ≡ line ∷ map read_line after)
+      → words_behind next ≡ next_words (map read_line before)
   next_behind None is = sym (ap (λ (l : List TextLine). next_words (map read_line l)) is)
   next_behind (Some line) is = sym (ap next_words is)
 
@@ -82,18 +83,21 @@ module _ (n : Named) (draft : ReportDraft) (line : ReadLine) (rest : List ReadLi
   abbrev read_with : Option (List (List ℕ)) → Result ReportDraft ReportBroken
   read_with words = in_report_line line.number (report_line n draft line.plain words line.words)
 
-  pub line_adds : (words : Option (List (List ℕ))) (next : ReportDraft) → words ≡ next_words rest → read_with words ≡ Ok next → report_lines_from n draft (line ∷ rest) ≡ report_lines_from n next rest
+  pub line_adds : (words : Option (List (List ℕ))) (next : ReportDraft) → words ≡ next_words rest → read_with words ≡ Ok next
+      → report_lines_from n draft (line ∷ rest) ≡ report_lines_from n next rest
   line_adds words next same e =
       ap (λ (w : Option (List (List ℕ))). read_with w >>= λ d. report_lines_from n d rest) (sym same)
       ∙ ap (λ (r : Result ReportDraft ReportBroken). r >>= λ d. report_lines_from n d rest) e
 
-  pub line_breaks : (words : Option (List (List ℕ))) (broken : ReportBroken) → words ≡ next_words rest → read_with words ≡ Err broken → report_lines_from n draft (line ∷ rest) ≡ Err broken
+  pub line_breaks : (words : Option (List (List ℕ))) (broken : ReportBroken) → words ≡ next_words rest → read_with words ≡ Err broken
+      → report_lines_from n draft (line ∷ rest) ≡ Err broken
   line_breaks words broken same e =
       ap (λ (w : Option (List (List ℕ))). read_with w >>= λ d. report_lines_from n d rest) (sym same)
       ∙ ap (λ (r : Result ReportDraft ReportBroken). r >>= λ d. report_lines_from n d rest) e
 
 -- ---- faults come first
-pub fault_breaks : (o : Option LineFault) (broken : ReportBroken) (read : Result formats.Report ReportBroken) → option_map as_report_rule o ≡ Some broken → report_by_bytes o read ≡ Err broken
+pub fault_breaks : (o : Option LineFault) (broken : ReportBroken) (read : Result formats.Report ReportBroken) → option_map as_report_rule o ≡ Some broken
+    → report_by_bytes o read ≡ Err broken
 fault_breaks None broken read e = absurd (cc)
 fault_breaks (Some fault) broken read e = let same : as_report_rule fault ≡ broken = cc in ap (λ (b : ReportBroken). Err b) same
 
@@ -120,7 +124,8 @@ module _ (n : Named) (text : List ℕ) where
         by_lines ∙ no_fault (first_fault text) (closed_by (report_lines_from n (empty_report n) (first ∷ rest))) fine
         ∙ ap closed_by e
 
-    pub text_breaks : (faults : Option LineFault) (broken : ReportBroken) → first_fault text ≡ faults → report_by_bytes faults (closed_by (report_lines_from n (empty_report n) (first ∷ rest))) ≡ Err broken → report_in n text ≡ Err broken
+    pub text_breaks : (faults : Option LineFault) (broken : ReportBroken) → first_fault text ≡ faults
+        → report_by_bytes faults (closed_by (report_lines_from n (empty_report n) (first ∷ rest))) ≡ Err broken → report_in n text ≡ Err broken
     text_breaks faults broken same e =
         by_lines ∙ ap (λ (o : Option LineFault). report_by_bytes o (closed_by (report_lines_from n (empty_report n) (first ∷ rest)))) same ∙ e
 
@@ -136,7 +141,8 @@ module _ (n : Named) (text : List ℕ) (before after : List TextLine) (all : bef
   pub no_line : line ≡ None → report_in n text ≡ Err (record { rule = P4; line = 1 })
   no_line none = empty_text n text (sym all ∙ subst (λ (o : Option ReadLine). MatchOption o (before ≡ []) (λ l. map read_line before ≡ l ∷ map read_line after)) none is)
 
-  module _ (fine : MatchOption line (after ≡ before) (λ l. first_fault_of before ≡ first_fault_of after)) (first : ReadLine) (some : line ≡ Some first) (draft : ReportDraft) (empty : draft ≡ empty_report n) where
+  module _ (fine : MatchOption line (after ≡ before) (λ l. first_fault_of before ≡ first_fault_of after)) (first : ReadLine) (some : line ≡ Some first)
+      (draft : ReportDraft) (empty : draft ≡ empty_report n) where
     lines_are : read_lines text ≡ first ∷ map read_line after
     lines_are = ap (map read_line) (sym all) ∙ subst (λ (o : Option ReadLine). MatchOption o (before ≡ []) (λ l. map read_line before ≡ l ∷ map read_line after)) some is
 

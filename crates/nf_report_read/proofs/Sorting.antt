@@ -84,8 +84,10 @@ module _ (curves : List ReadCurve) (key : CurveKey) (trace : Trace) (old now : S
   label_put k e = record {
     all_labels = ap (map (λ c. c.points)) e ∙ map-append (λ c. c.points) old.labels.items (trace.curve ∷ [])
         ∙ with_it (λ (c : ReadCurve). c.points) lines.OfLabel curves here _ are.all_labels (tells lines.OfLabel lines.OfLabel true k refl);
-    all_inflows = without_it (λ (c : ReadCurve). record { points = c.points; rates = c.rates }) lines.OfInflow curves here _ are.all_inflows (tells lines.OfLabel lines.OfInflow false k refl);
-    all_outflows = without_it (λ (c : ReadCurve). record { points = c.points; rates = c.rates }) lines.OfOutflow curves here _ are.all_outflows (tells lines.OfLabel lines.OfOutflow false k refl);
+    all_inflows = without_it (λ (c : ReadCurve). record { points = c.points; rates = c.rates }) lines.OfInflow curves here _ are.all_inflows
+        (tells lines.OfLabel lines.OfInflow false k refl);
+    all_outflows = without_it (λ (c : ReadCurve). record { points = c.points; rates = c.rates }) lines.OfOutflow curves here _ are.all_outflows
+        (tells lines.OfLabel lines.OfOutflow false k refl);
     all_queues = without_it (λ (c : ReadCurve). c.points) lines.OfQueue curves here _ are.all_queues (tells lines.OfLabel lines.OfQueue false k refl);
   }
 
@@ -95,7 +97,8 @@ module _ (curves : List ReadCurve) (key : CurveKey) (trace : Trace) (old now : S
     all_labels = without_it (λ (c : ReadCurve). c.points) lines.OfLabel curves here _ are.all_labels (tells lines.OfInflow lines.OfLabel false k refl);
     all_inflows = ap (map trace_of) e ∙ map-append trace_of old.inflows.items (trace ∷ [])
         ∙ with_it (λ (c : ReadCurve). record { points = c.points; rates = c.rates }) lines.OfInflow curves here _ are.all_inflows (tells lines.OfInflow lines.OfInflow true k refl);
-    all_outflows = without_it (λ (c : ReadCurve). record { points = c.points; rates = c.rates }) lines.OfOutflow curves here _ are.all_outflows (tells lines.OfInflow lines.OfOutflow false k refl);
+    all_outflows = without_it (λ (c : ReadCurve). record { points = c.points; rates = c.rates }) lines.OfOutflow curves here _ are.all_outflows
+        (tells lines.OfInflow lines.OfOutflow false k refl);
     all_queues = without_it (λ (c : ReadCurve). c.points) lines.OfQueue curves here _ are.all_queues (tells lines.OfInflow lines.OfQueue false k refl);
   }
 
@@ -103,7 +106,8 @@ module _ (curves : List ReadCurve) (key : CurveKey) (trace : Trace) (old now : S
       → AreSorted (curves ++ here ∷ []) (record { labels = old.labels; inflows = old.inflows; outflows = now.outflows; queues = old.queues })
   outflow_put k e = record {
     all_labels = without_it (λ (c : ReadCurve). c.points) lines.OfLabel curves here _ are.all_labels (tells lines.OfOutflow lines.OfLabel false k refl);
-    all_inflows = without_it (λ (c : ReadCurve). record { points = c.points; rates = c.rates }) lines.OfInflow curves here _ are.all_inflows (tells lines.OfOutflow lines.OfInflow false k refl);
+    all_inflows = without_it (λ (c : ReadCurve). record { points = c.points; rates = c.rates }) lines.OfInflow curves here _ are.all_inflows
+        (tells lines.OfOutflow lines.OfInflow false k refl);
     all_outflows = ap (map trace_of) e ∙ map-append trace_of old.outflows.items (trace ∷ [])
         ∙ with_it (λ (c : ReadCurve). record { points = c.points; rates = c.rates }) lines.OfOutflow curves here _ are.all_outflows (tells lines.OfOutflow lines.OfOutflow true k refl);
     all_queues = without_it (λ (c : ReadCurve). c.points) lines.OfQueue curves here _ are.all_queues (tells lines.OfOutflow lines.OfQueue false k refl);
@@ -113,8 +117,10 @@ module _ (curves : List ReadCurve) (key : CurveKey) (trace : Trace) (old now : S
       → AreSorted (curves ++ here ∷ []) (record { labels = old.labels; inflows = old.inflows; outflows = old.outflows; queues = now.queues })
   queue_put k e = record {
     all_labels = without_it (λ (c : ReadCurve). c.points) lines.OfLabel curves here _ are.all_labels (tells lines.OfQueue lines.OfLabel false k refl);
-    all_inflows = without_it (λ (c : ReadCurve). record { points = c.points; rates = c.rates }) lines.OfInflow curves here _ are.all_inflows (tells lines.OfQueue lines.OfInflow false k refl);
-    all_outflows = without_it (λ (c : ReadCurve). record { points = c.points; rates = c.rates }) lines.OfOutflow curves here _ are.all_outflows (tells lines.OfQueue lines.OfOutflow false k refl);
+    all_inflows = without_it (λ (c : ReadCurve). record { points = c.points; rates = c.rates }) lines.OfInflow curves here _ are.all_inflows
+        (tells lines.OfQueue lines.OfInflow false k refl);
+    all_outflows = without_it (λ (c : ReadCurve). record { points = c.points; rates = c.rates }) lines.OfOutflow curves here _ are.all_outflows
+        (tells lines.OfQueue lines.OfOutflow false k refl);
     all_queues = ap (map (λ c. c.points)) e ∙ map-append (λ c. c.points) old.queues.items (trace.curve ∷ [])
         ∙ with_it (λ (c : ReadCurve). c.points) lines.OfQueue curves here _ are.all_queues (tells lines.OfQueue lines.OfQueue true k refl);
   }

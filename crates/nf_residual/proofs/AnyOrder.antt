@@ -60,7 +60,8 @@ better_than known way = by_test (is_better way known) refl
     by_test false e = IsAtMost-refl known
 
 -- ---- one offer
-offer_stays : (full so_far : Known) (v : ℕ) (way old : Reach) → v < length so_far → known_at full v ≡ Some old → IsAtMost old way → IsAsGood full so_far → IsAsGood full (offered so_far v way)
+offer_stays : (full so_far : Known) (v : ℕ) (way old : Reach) → v < length so_far → known_at full v ≡ Some old → IsAtMost old way → IsAsGood full so_far
+    → IsAsGood full (offered so_far v way)
 offer_stays full so_far v way old h at less good w other is = by_node (eqb_tells w v)
   where
     by_node : ((eqb w v ≡ true) × (w ≡ v)) ⊎ ((eqb w v ≡ false) × (w ≢ v)) → (best : Reach) × (known_at full w ≡ Some best) × IsAtMost best other
@@ -80,7 +81,8 @@ offer_betters so_far base v way h good w other is = by_node (good w other is) (e
     by_node g (inl k) =
         let there : known_at so_far v ≡ Some g.0 = ap (λ (u : ℕ). known_at so_far u) (sym k.1) ∙ g.1 in
         let made : known_at (offered so_far v way) w ≡ Some (better_of (Some g.0) way) =
-        ap (λ (u : ℕ). known_at (offered so_far v way) u) k.1 ∙ set_here so_far v (Some (better_of (known_at so_far v) way)) h ∙ ap (λ (o : Option Reach). Some (better_of o way)) there in
+        ap (λ (u : ℕ). known_at (offered so_far v way) u) k.1 ∙ set_here so_far v (Some (better_of (known_at so_far v) way)) h
+            ∙ ap (λ (o : Option Reach). Some (better_of o way)) there in
         (better_of (Some g.0) way, made, IsAtMost-trans (better_of (Some g.0) way) g.0 other (better_than g.0 way) g.2)
     by_node g (inr k) = (g.0, set_elsewhere so_far v w (Some (better_of (known_at so_far v) way)) k.1 ∙ g.1, g.2)
 
@@ -102,7 +104,8 @@ module _ (passes : Passing) (before : Known) where
         (λ (o : Offers passes before leg so_far next). ap (λ (k : Known). length k) o.1 ∙ length-set so_far leg.end _)
         (gives passes before leg (known_at before leg.begin) so_far next e)
 
-    leg_stays : (full so_far next : Known) → leg.end < length full → leg.end < length so_far → goes full leg ≡ Ok full → goes so_far leg ≡ Ok next → IsAsGood full so_far → IsAsGood full next
+    leg_stays : (full so_far next : Known) → leg.end < length full → leg.end < length so_far → goes full leg ≡ Ok full → goes so_far leg ≡ Ok next
+        → IsAsGood full so_far → IsAsGood full next
     leg_stays full so_far next h k e f good = ⊎_elim
         (λ (o : (later : Known) → along_leg passes before later leg ≡ Ok later). subst (λ (n : Known). IsAsGood full n) (same_ok so_far next (sym (o so_far) ∙ f)) good)
         (λ (o : Offers passes before leg so_far next).
@@ -169,7 +172,8 @@ module _ (passes : Passing) (before : Known) where
       let long : length b.0 ≡ length so_far = leg_length first so_far b.0 b.1 in
       let same : first ≡ leg = cc in
       subst (λ (l : Leg). goes next l ≡ Ok next) same
-      (fold_keeps legs b.0 next (λ j more at. subst (λ (n : ℕ). more.end < n) (sym long) (ends (suc j) more at)) b.2 first (subst (λ (n : ℕ). first.end < n) (sym long) (ends zero first refl))
+      (fold_keeps legs b.0 next (λ j more at. subst (λ (n : ℕ). more.end < n) (sym long) (ends (suc j) more at)) b.2 first
+          (subst (λ (n : ℕ). first.end < n) (sym long) (ends zero first refl))
       (settled_here passes before first so_far b.0 (ends zero first refl) b.1))
   fold_settles (first ∷ legs) so_far next ends e (suc j) leg is =
       let b = bind_ok (goes so_far first) (λ mid. fold_checked goes mid legs) next e in

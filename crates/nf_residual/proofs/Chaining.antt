@@ -135,12 +135,14 @@ module _ (nodes : ℕ) (legs : List Leg) where
               (sym (ap (λ (l : List ℕ). get_or l v 0) f ∙ get_or-set_other first leg.begin v k 0 w.1))
               (next_before legs k leg is v (get_or first v 0) (λ e. w.1 (sym e)) (later v b))
 
-          by_arc : (j : ℕ) (other : Leg) → slice_get legs j ≡ Some other → k ≤ j → ((eqb j k ≡ true) × (j ≡ k)) ⊎ ((eqb j k ≡ false) × (j ≢ k)) → IsNextOut legs other.begin (j + 1) (get_or new_next j 0)
+          by_arc : (j : ℕ) (other : Leg) → slice_get legs j ≡ Some other → k ≤ j → ((eqb j k ≡ true) × (j ≡ k)) ⊎ ((eqb j k ≡ false) × (j ≢ k))
+              → IsNextOut legs other.begin (j + 1) (get_or new_next j 0)
           by_arc j other there h (inl w) =
               let same : leg ≡ other = same_leg leg other (sym is ∙ ap (λ (i : ℕ). slice_get legs i) (sym w.1) ∙ there) in
               subst (λ (l : Leg). IsNextOut legs l.begin (j + 1) (get_or new_next j 0)) same
               (subst (λ (i : ℕ). IsNextOut legs leg.begin (j + 1) i)
-              (sym (ap (λ (l : List ℕ). get_or l j 0) n ∙ ap (λ (i : ℕ). get_or (set next k (get_or first leg.begin 0)) i 0) w.1 ∙ get_or-set_same next k (get_or first leg.begin 0) 0 long))
+              (sym (ap (λ (l : List ℕ). get_or l j 0) n ∙ ap (λ (i : ℕ). get_or (set next k (get_or first leg.begin 0)) i 0) w.1
+                  ∙ get_or-set_same next k (get_or first leg.begin 0) 0 long))
               (subst (λ (i : ℕ). IsNextOut legs leg.begin (i + 1) (get_or first leg.begin 0)) (sym w.1) (later leg.begin inside)))
           by_arc j other there h (inr w) = subst (λ (i : ℕ). IsNextOut legs other.begin (j + 1) i)
               (sym (ap (λ (l : List ℕ). get_or l j 0) n ∙ get_or-set_other next k j (get_or first leg.begin 0) 0 w.1))
@@ -150,7 +152,8 @@ module _ (nodes : ℕ) (legs : List Leg) where
 number_there : (xs : List ℕ) (i x : ℕ) → i < length xs → x ≡ get_or xs i x → get_or xs i 0 ≡ x
 number_there xs i x h is = get_or_from_slice_get xs i x 0 (slice_get_read xs (length xs) i x refl h is)
 
-pub chains_step : (nodes : ℕ) (legs : List Leg) (first next : List ℕ) (left : ℕ) → ChainsOn nodes legs first next left → AreLegs nodes legs → 0 < left → (leg : Leg) → leg ≡ get_or legs (left - 1) leg
+pub chains_step : (nodes : ℕ) (legs : List Leg) (first next : List ℕ) (left : ℕ) → ChainsOn nodes legs first next left → AreLegs nodes legs → 0 < left
+    → (leg : Leg) → leg ≡ get_or legs (left - 1) leg
     → (begin : ℕ) → begin ≡ leg.begin → (x : ℕ) → x ≡ get_or first begin x → ChainsOn nodes legs (set first begin (left - 1)) (set next (left - 1) x) (left - 1)
 chains_step nodes legs first next left on ends some leg is begin begins x at =
     let k : ℕ = left - 1 in

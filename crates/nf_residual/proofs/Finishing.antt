@@ -23,7 +23,8 @@ use Rattle.nf_residual.proofs.Fits.{all_of}
 use Rattle.nf_residual.proofs.Stopping.{ok_of_part, stops, goes_on, stops_as}
 
 -- The steps of a residual walk are along links.
-pub steps_within : (net : Network) (flows : List ℚ) (walk : List Step) → IsResidualWalk net flows walk net.source net.sink → AllByRecursion (λ (step : Step). step.link < length net.links) walk
+pub steps_within : (net : Network) (flows : List ℚ) (walk : List Step) → IsResidualWalk net flows walk net.source net.sink
+    → AllByRecursion (λ (step : Step). step.link < length net.links) walk
 steps_within net flows walk p = all_of (length net.links) walk (links_within net flows (length net.links) walk net.source net.sink refl p)
 
 -- A residual walk from source to sink has a room, since one of its links has a capacity.
@@ -53,10 +54,12 @@ module _ (passes : Passing) (net : Network) (flows seen : List ℚ) (lent : seen
     joined : shortest_list passes net flows ≡ (reaches_list passes net seen source >>= finished)
     joined = opened ∙ ap (λ (r : Checked Known). r >>= finished) same_reaches
 
-    pub shortest_stops : (h : Halt ℚ) → Stops (λ (q : ℚ). q) h (at_part Part.Quick (reaches_list passes net seen source)) → Stops (λ (q : ℚ). q) h (at_part Part.Quick (shortest_list passes net flows))
+    pub shortest_stops : (h : Halt ℚ) → Stops (λ (q : ℚ). q) h (at_part Part.Quick (reaches_list passes net seen source))
+        → Stops (λ (q : ℚ). q) h (at_part Part.Quick (shortest_list passes net flows))
     shortest_stops h s = stops_as _ _ h joined (stops (reaches_list passes net seen source) finished h s)
 
-    module _ (known : Known) (came : at_part Part.Quick (reaches_list passes net seen source) ≡ Ok known) (way : Option Reach) (sink : ℕ) (at_sink : sink ≡ net.sink) (is : way ≡ known_at known sink) where
+    module _ (known : Known) (came : at_part Part.Quick (reaches_list passes net seen source) ≡ Ok known) (way : Option Reach) (sink : ℕ)
+        (at_sink : sink ≡ net.sink) (is : way ≡ known_at known sink) where
       there : way ≡ known_at known net.sink
       there = is ∙ ap (λ (v : ℕ). known_at known v) at_sink
 
@@ -89,7 +92,8 @@ module _ (passes : Passing) (net : Network) (flows seen : List ℚ) (lent : seen
     unfolding distances_list
     opened_lengths = ap (λ (l : List ℚ). reaches_list passes net l from >>= λ known. Ok (lengths known)) (sym lent)
 
-    pub distances_stop : (h : Halt ℚ) → Stops (λ (q : ℚ). q) h (at_part Part.Quick (reaches_list passes net seen from)) → Stops (λ (q : ℚ). q) h (at_part Part.Quick (distances_list passes net flows from))
+    pub distances_stop : (h : Halt ℚ) → Stops (λ (q : ℚ). q) h (at_part Part.Quick (reaches_list passes net seen from))
+        → Stops (λ (q : ℚ). q) h (at_part Part.Quick (distances_list passes net flows from))
     distances_stop h s = stops_as _ _ h opened_lengths (stops (reaches_list passes net seen from) (λ known. Ok (lengths known)) h s)
 
     module _ (known : Known) (came : at_part Part.Quick (reaches_list passes net seen from) ≡ Ok known) (distances : List (Option ℚ)) (is : distances ≡ lengths known) where
@@ -97,4 +101,5 @@ module _ (passes : Passing) (net : Network) (flows seen : List ℚ) (lent : seen
       distances_listed = ap (at_part Part.Quick) (opened_lengths ∙ goes_on (reaches_list passes net seen from) (λ known. Ok (lengths known)) known came) ∙ ap Ok (sym is)
 
       pub distances_least : IsNetwork net → IsSound net flows → from < net.nodes → AreLeastLengths net flows from distances
-      distances_least good sound inside = AreLeastLengths-list passes net flows good sound.closed from inside distances (ok_of_part (distances_list passes net flows from) distances distances_listed)
+      distances_least good sound inside = AreLeastLengths-list passes net flows good sound.closed from inside distances
+          (ok_of_part (distances_list passes net flows from) distances distances_listed)

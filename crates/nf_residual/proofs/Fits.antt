@@ -37,10 +37,12 @@ unfolding push_list
 as_list passes amount flows steps = refl
 
 -- A push leaves a sound flow.
-pub pushed_sound : (passes : Passing) (net : Network) (flows new old : List ℚ) (walk : Walk) (steps : List Step) (amount : ℚ) → IsNetwork net → IsSound net flows → IsShortestWalk net flows walk → 0ℚ <ℚ amount
+pub pushed_sound : (passes : Passing) (net : Network) (flows new old : List ℚ) (walk : Walk) (steps : List Step) (amount : ℚ) → IsNetwork net
+    → IsSound net flows → IsShortestWalk net flows walk → 0ℚ <ℚ amount
     → amount ≤ℚ walk.room → old ≡ flows → steps ≡ walk.steps → Ok new ≡ at_part Part.Quick (fold_checked (push_step passes amount) old steps) → IsSound net new
 pushed_sound passes net flows new old walk steps amount good sound shortest some within same along e =
     let p : IsPush net flows new walk.steps amount = IsPush-list passes net flows new walk amount good sound shortest some within
-    (as_list passes amount flows walk.steps ∙ ap (λ (l : List ℚ). fold_checked (push_step passes amount) l walk.steps) (sym same) ∙ ap (λ (s : List Step). fold_checked (push_step passes amount) old s) (sym along)
+    (as_list passes amount flows walk.steps ∙ ap (λ (l : List ℚ). fold_checked (push_step passes amount) l walk.steps) (sym same)
+        ∙ ap (λ (s : List Step). fold_checked (push_step passes amount) old s) (sym along)
     ∙ ok_of_part Part.Quick (fold_checked (push_step passes amount) old steps) new e) in
     IsSound-pushed net flows new walk.steps amount good p.sound p.each p.first p.some p.room p.pushed

@@ -56,7 +56,8 @@ equal_not_less a b e = ⊎_elim
     (eqb_tells a b)
 
 -- ---- one step more at the end of both
-before_last : (walk other : List Step) (a b : Step) (later : Bool) → length walk ≡ length other → before_then (walk ++ a ∷ []) (other ++ b ∷ []) later ≡ before_then walk other (one_before a b later)
+before_last : (walk other : List Step) (a b : Step) (later : Bool) → length walk ≡ length other
+    → before_then (walk ++ a ∷ []) (other ++ b ∷ []) later ≡ before_then walk other (one_before a b later)
 before_last [] [] a b later h = alone (nat_lt (place a) (place b)) (place a == place b) later (equal_not_less (place a) (place b))
 before_last [] (y ∷ other) a b later h = absurd (omega arith)
 before_last (x ∷ walk) [] a b later h = absurd (omega arith)
@@ -95,12 +96,14 @@ module _ (tree : List Twig) (way : ℕ) (step : Step) (other : ℕ) where
   abbrev count : ℕ
   count = (twig_at tree way).count
 
-  pub compares_first : (decided : Bool) (there : ℕ) → (twig_at tree other).count ≡ suc (twig_at tree way).count → decided ≡ one_before step (twig_at tree other).last false → there ≡ (twig_at tree other).before
+  pub compares_first : (decided : Bool) (there : ℕ) → (twig_at tree other).count ≡ suc (twig_at tree way).count
+      → decided ≡ one_before step (twig_at tree other).last false → there ≡ (twig_at tree other).before
       → way < length tree → there < length tree → ComparesOn tree way step other way there decided 0
   compares_first decided there counts is at h b = record {
     same =
         let all : count - 0 ≡ count = omega arith in
-        let lengths : length (steps_back count tree way) ≡ length (steps_back count tree (twig_at tree other).before) = steps_are count tree way ∙ sym (steps_are count tree (twig_at tree other).before) in
+        let lengths : length (steps_back count tree way) ≡ length (steps_back count tree (twig_at tree other).before) = steps_are count tree way
+            ∙ sym (steps_are count tree (twig_at tree other).before) in
         before_is ((way_at tree way).steps ++ step ∷ []) (way_at tree other).steps
         ∙ ap (λ (n : ℕ). before_then (steps_back count tree way ++ step ∷ []) (steps_back n tree other) false) counts
         ∙ before_last (steps_back count tree way) (steps_back count tree (twig_at tree other).before) step (twig_at tree other).last false lengths
@@ -121,7 +124,8 @@ module _ (tree : List Twig) (way : ℕ) (step : Step) (other : ℕ) where
           steps_are (count - (k + 1)) tree (twig_at tree here).before ∙ sym (steps_are (count - (k + 1)) tree (twig_at tree there).before) in
           on.same
           ∙ ap (λ (n : ℕ). before_then (steps_back n tree here) (steps_back n tree there) decided) one
-          ∙ before_last (steps_back (count - (k + 1)) tree (twig_at tree here).before) (steps_back (count - (k + 1)) tree (twig_at tree there).before) (twig_at tree here).last (twig_at tree there).last decided lengths
+          ∙ before_last (steps_back (count - (k + 1)) tree (twig_at tree here).before) (steps_back (count - (k + 1)) tree (twig_at tree there).before)
+              (twig_at tree here).last (twig_at tree there).last decided lengths
           ∙ ap (λ (t : Bool). before_then (steps_back (count - (k + 1)) tree (twig_at tree here).before) (steps_back (count - (k + 1)) tree (twig_at tree there).before) t) (sym is)
           ∙ ap (λ (i : ℕ). before_then (steps_back (count - (k + 1)) tree i) (steps_back (count - (k + 1)) tree (twig_at tree there).before) next) (sym e)
           ∙ ap (λ (i : ℕ). before_then (steps_back (count - (k + 1)) tree left) (steps_back (count - (k + 1)) tree i) next) (sym f);
@@ -130,7 +134,8 @@ module _ (tree : List Twig) (way : ℕ) (step : Step) (other : ℕ) where
     }
 
     pub compares_same : here ≡ there → decided ≡ are_before ((way_at tree way).steps ++ step ∷ []) (way_at tree other).steps
-    compares_same e = sym (on.same ∙ ap (λ (i : ℕ). before_then (steps_back (count - k) tree here) (steps_back (count - k) tree i) decided) (sym e) ∙ before_self (steps_back (count - k) tree here) decided)
+    compares_same e = sym (on.same ∙ ap (λ (i : ℕ). before_then (steps_back (count - k) tree here) (steps_back (count - k) tree i) decided) (sym e)
+        ∙ before_self (steps_back (count - k) tree here) decided)
 
     pub compares_all : (twig_at tree way).count ≤ k → decided ≡ are_before ((way_at tree way).steps ++ step ∷ []) (way_at tree other).steps
     compares_all h =
@@ -146,9 +151,12 @@ module _ (tree : List Twig) (way : ℕ) (step : Step) (other : ℕ) where
   by_counts m n = nat_lt m n || ((m == n) && are_before ((way_at tree way).steps ++ step ∷ []) (way_at tree other).steps)
 
   counted : are_fewer_or_before ((way_at tree way).steps ++ step ∷ []) (way_at tree other).steps ≡ by_counts ((twig_at tree way).count + 1) (twig_at tree other).count
-  counted = ap (λ (n : ℕ). by_counts n (length (way_at tree other).steps)) (longer_by_one tree way step) ∙ ap (λ (n : ℕ). by_counts ((twig_at tree way).count + 1) n) (steps_are (twig_at tree other).count tree other)
+  counted =
+      ap (λ (n : ℕ). by_counts n (length (way_at tree other).steps)) (longer_by_one tree way step)
+      ∙ ap (λ (n : ℕ). by_counts ((twig_at tree way).count + 1) n) (steps_are (twig_at tree other).count tree other)
 
-  pub as_many : (m n : ℕ) (r : Bool) → m ≡ (twig_at tree way).count + 1 → n ≡ (twig_at tree other).count → m ≡ n → r ≡ are_before ((way_at tree way).steps ++ step ∷ []) (way_at tree other).steps
+  pub as_many : (m n : ℕ) (r : Bool) → m ≡ (twig_at tree way).count + 1 → n ≡ (twig_at tree other).count → m ≡ n
+      → r ≡ are_before ((way_at tree way).steps ++ step ∷ []) (way_at tree other).steps
       → r ≡ are_fewer_or_before ((way_at tree way).steps ++ step ∷ []) (way_at tree other).steps
   as_many m n r e f same is =
       is ∙ sym (one_same (nat_lt m m) (m == m) _ (itself m) (equal_not_less m m (itself m))) ∙ ap (λ (k : ℕ). by_counts m k) same

@@ -88,7 +88,8 @@ module _ (passes : Passing) (legs : List Leg) (node way : ℕ) (old : List Twig)
               ∙ ap (λ (l : List Leg). leg ∷ l) (subst (λ (v : ℕ). legs_out v (drop (arc + 1) legs) ≡ legs_out v (drop after legs)) begins chained.skipped)
 
           remaining : (seen : Known) → known_at seen node ≡ Some (way_at old way)
-              → fold_checked (along_leg passes seen) (known_by new next) (legs_out node (drop after legs)) ≡ fold_checked (along_leg passes seen) (known_by tree places) (legs_out node (drop arc legs))
+              → fold_checked (along_leg passes seen) (known_by new next) (legs_out node (drop after legs)) ≡ fold_checked (along_leg passes seen)
+                  (known_by tree places) (legs_out node (drop arc legs))
           remaining seen at =
               sym (ap (λ (l : List Leg). fold_checked (along_leg passes seen) (known_by tree places) l) out_is
               ∙ fold_ok (along_leg passes seen) (known_by tree places) leg (legs_out node (drop after legs)) (known_by new next) (gone seen at))
@@ -164,7 +165,8 @@ module _ (passes : Passing) (legs : List Leg) (fresh : ℕ) (old : List Twig) (b
           known_at-by old before node ∙ ap (λ (o : Option ℕ). option_map (way_at old) o) at
           ∙ ap (λ (r : Reach). Some r) (sym (ap (λ (t : List Twig). way_at t way) on.grows.grown ∙ way_kept old on.grows.added way good (within node way at)))
 
-      pub nodes_more : AreLegs (length before) legs → (new : List Twig) (next : Places) → fold_checked (along_leg passes (known_by old before)) (known_by tree places) (legs_out node legs) ≡ Ok (known_by new next)
+      pub nodes_more : AreLegs (length before) legs → (new : List Twig) (next : Places)
+          → fold_checked (along_leg passes (known_by old before)) (known_by tree places) (legs_out node legs) ≡ Ok (known_by new next)
           → Grows tree new places next → NodesOn passes legs fresh old before new next (node + 1)
       nodes_more ends new next came grows = record {
         grows = grows_on old tree new before places next on.grows grows;
@@ -186,7 +188,8 @@ module _ (passes : Passing) (legs : List Leg) (fresh : ℕ) (old : List Twig) (b
               let h = out_holds node legs j leg is e in
               fold_settles passes (known_by old before) (legs_out node legs) (known_by tree places) (known_by new next) out_ends came h.0 leg h.1
 
-          by_begin : (j : ℕ) (leg : Leg) → slice_get legs j ≡ Some leg → (leg.begin < node) ⊎ (node ≤ leg.begin) → leg.begin < node + 1 → goes (known_by new next) leg ≡ Ok (known_by new next)
+          by_begin : (j : ℕ) (leg : Leg) → slice_get legs j ≡ Some leg → (leg.begin < node) ⊎ (node ≤ leg.begin) → leg.begin < node + 1
+              → goes (known_by new next) leg ≡ Ok (known_by new next)
           by_begin j leg is (inl h) l = earlier j leg is (inl h)
           by_begin j leg is (inr h) l = here j leg is (omega arith)
 
@@ -204,13 +207,15 @@ module _ (passes : Passing) (legs : List Leg) (fresh : ℕ) (old : List Twig) (b
       settled = λ j leg is either. by_case j leg is either;
     }
       where
-        here : (j : ℕ) (leg : Leg) → slice_get legs j ≡ Some leg → leg.begin ≡ node → (o : Option ℕ) → place_at before node ≡ o → goes (known_by tree places) leg ≡ Ok (known_by tree places)
+        here : (j : ℕ) (leg : Leg) → slice_get legs j ≡ Some leg → leg.begin ≡ node → (o : Option ℕ) → place_at before node ≡ o
+            → goes (known_by tree places) leg ≡ Ok (known_by tree places)
         here j leg is e None at =
             ap (λ (o : Option Reach). along passes true o leg.step leg.transit leg.end (known_by tree places))
             (ap (λ (v : ℕ). known_at (known_by old before) v) e ∙ known_at-by old before node ∙ ap (λ (o : Option ℕ). option_map (way_at old) o) at)
         here j leg is e (Some way) at = on.settled j leg is (inr (way, ap (λ (v : ℕ). place_at before v) e ∙ at, h way at))
 
-        by_begin : (j : ℕ) (leg : Leg) → slice_get legs j ≡ Some leg → (leg.begin < node) ⊎ (node ≤ leg.begin) → leg.begin < node + 1 → goes (known_by tree places) leg ≡ Ok (known_by tree places)
+        by_begin : (j : ℕ) (leg : Leg) → slice_get legs j ≡ Some leg → (leg.begin < node) ⊎ (node ≤ leg.begin) → leg.begin < node + 1
+            → goes (known_by tree places) leg ≡ Ok (known_by tree places)
         by_begin j leg is (inl b) l = on.settled j leg is (inl b)
         by_begin j leg is (inr b) l = here j leg is (omega arith) (place_at before node) refl
 
@@ -228,7 +233,8 @@ module _ {X A : Type 0} (value : X → A) where
       by_result (Err Halt.Memory) g = tt
       by_result (Err (Halt.Passed p)) g = g
 
-  pub given_in_any : (in_order : Bool) → in_order ≡ false → (r : Result X (Halt ℚ)) (said : Checked A) → IfOk r (λ x. said ≡ Ok (value x)) → GivesBy in_order value r (at_part Part.Quick said)
+  pub given_in_any : (in_order : Bool) → in_order ≡ false → (r : Result X (Halt ℚ)) (said : Checked A) → IfOk r (λ x. said ≡ Ok (value x))
+      → GivesBy in_order value r (at_part Part.Quick said)
   given_in_any in_order e r said g = subst (λ (b : Bool). GivesBy b value r (at_part Part.Quick said)) (sym e) (by_result r g)
     where
       by_result : (r : Result X (Halt ℚ)) → IfOk r (λ x. said ≡ Ok (value x)) → GivesBy false value r (at_part Part.Quick said)
@@ -237,7 +243,8 @@ module _ {X A : Type 0} (value : X → A) where
       by_result (Err (Halt.Passed p)) g = tt
 
 -- A refusal of one computation is that of another.
-pub stops_by : {A B : Type 0} (in_order : Bool) (h : Halt ℚ) (r : Result A (PassedAt ℚ)) (s : Result B (PassedAt ℚ)) → (Stops (λ (q : ℚ). q) h r → Stops (λ (q : ℚ). q) h s) → StopsBy h in_order r → StopsBy h in_order s
+pub stops_by : {A B : Type 0} (in_order : Bool) (h : Halt ℚ) (r : Result A (PassedAt ℚ)) (s : Result B (PassedAt ℚ))
+    → (Stops (λ (q : ℚ). q) h r → Stops (λ (q : ℚ). q) h s) → StopsBy h in_order r → StopsBy h in_order s
 stops_by in_order Halt.Memory r s f g = tt
 stops_by true (Halt.Passed p) r s f g = f g
 stops_by false (Halt.Passed p) r s f g = tt

@@ -35,7 +35,8 @@ IsOld fresh places leg = (way : ℕ) × (place_at places leg.begin ≡ Some way)
 pub record RoundOn (passes : Passing) (legs : List Leg) (fresh : ℕ) (old : List Twig) (before : Places) (tree : List Twig) (places : Places) (k : ℕ) : Type 0 where
   pub same : fold_checked (along_leg passes (known_by old before)) (known_by tree places) (drop k legs) ≡ fold_checked (along_leg passes (known_by old before)) (known_by old before) legs
   pub grows : Grows old tree before places
-  pub settled : (j : ℕ) (leg : Leg) → slice_get legs j ≡ Some leg → (j < k) ⊎ IsOld fresh before leg → along_leg passes (known_by old before) (known_by tree places) leg ≡ Ok (known_by tree places)
+  pub settled : (j : ℕ) (leg : Leg) → slice_get legs j ≡ Some leg → (j < k) ⊎ IsOld fresh before leg
+      → along_leg passes (known_by old before) (known_by tree places) leg ≡ Ok (known_by tree places)
 
 pub grows_on : (old mid new : List Twig) (before between after : Places) → Grows old mid before between → Grows mid new between after → Grows old new before after
 grows_on old mid new before between after f g = record {
@@ -72,15 +73,19 @@ within_grown old new before after g h = λ v way e. by_place v way e (g.places v
     same : (x y : ℕ) → Some x ≡ Some y → x ≡ y
     same x y e = cc
 
-    by_place : (v way : ℕ) → place_at after v ≡ Some way → (place_at after v ≡ place_at before v) ⊎ ((other : ℕ) × (place_at after v ≡ Some other) × (length old ≤ other) × (other < length new)) → way < length new
+    by_place : (v way : ℕ) → place_at after v ≡ Some way → (place_at after v ≡ place_at before v) ⊎ ((other : ℕ) × (place_at after v ≡ Some other)
+        × (length old ≤ other) × (other < length new)) → way < length new
     by_place v way e (inl a) = let b : way < length old = h v way (sym a ∙ e) in omega (arith, b, long)
     by_place v way e (inr a) = let b : a.0 ≡ way = same a.0 way (sym a.1 ∙ e) in omega (arith, b, a.3)
 
-pub known_grown : (old new : List Twig) (before after : Places) → Grows old new before after → IsPathTree old → ArePathsBelow (length old) before → known_by new before ≡ known_by old before
+pub known_grown : (old new : List Twig) (before after : Places) → Grows old new before after → IsPathTree old → ArePathsBelow (length old) before
+    → known_by new before ≡ known_by old before
 known_grown old new before after g good h = ap (λ (t : List Twig). known_by t before) g.grown ∙ known_kept old g.added before good h
 
 pub within_more : (old new : List Twig) (before after : Places) → Grows old new before after → ArePathsBelow (length old) before → ArePathsBelow (length new) before
-within_more old new before after g h = λ v way e. let b : way < length old = h v way e in let long : length new ≡ length old + length g.added = ap (λ (t : List Twig). length t) g.grown ∙ length-append old g.added in omega arith
+within_more old new before after g h =
+    λ v way e. let b : way < length old = h v way e in let long : length new ≡ length old + length g.added = ap (λ (t : List Twig). length t) g.grown
+    ∙ length-append old g.added in omega arith
 
 -- After a round, arcs whose path is not new in it offer nothing new.
 module _ (passes : Passing) (legs : List Leg) (old : List Twig) (before : Places) (tree : List Twig) (places : Places) (grows : Grows old tree before places) (good : IsPathTree old)
@@ -114,7 +119,8 @@ module _ (passes : Passing) (legs : List Leg) (fresh : ℕ) (old : List Twig) (b
     settled = λ j leg is either. at_first j leg is either;
   })
     where
-      at_first : (j : ℕ) (leg : Leg) → slice_get legs j ≡ Some leg → (j < 0) ⊎ IsOld fresh before leg → along_leg passes (known_by old before) (known_by old before) leg ≡ Ok (known_by old before)
+      at_first : (j : ℕ) (leg : Leg) → slice_get legs j ≡ Some leg → (j < 0) ⊎ IsOld fresh before leg
+          → along_leg passes (known_by old before) (known_by old before) leg ≡ Ok (known_by old before)
       at_first j leg is (inl h) = absurd (omega arith)
       at_first j leg is (inr o) = settled j leg is o.0 o.1 o.2
 
@@ -153,10 +159,12 @@ module _ (passes : Passing) (legs : List Leg) (fresh : ℕ) (old : List Twig) (b
             → Stops (λ (q : ℚ). q) h (at_part Part.Quick (fold_checked (along_leg passes (known_by old before)) (known_by old before) legs))
         round_stops h s = stops_as _ _ h (sym split) (stops (goes (known_by tree places) leg) (λ next. fold_checked goes next (drop (k + 1) legs)) h (stops_as _ _ h (sym as_before) s))
 
-        pub round_more : AreLegs (length before) legs → (new : List Twig) (next : Places) → at_part Part.Quick (along_leg passes (known_by tree before) (known_by tree places) leg) ≡ Ok (known_by new next)
+        pub round_more : AreLegs (length before) legs → (new : List Twig) (next : Places)
+            → at_part Part.Quick (along_leg passes (known_by tree before) (known_by tree places) leg) ≡ Ok (known_by new next)
             → Grows tree new places next → RoundOn passes legs fresh old before new next (k + 1)
         round_more ends new next came grows = record {
-          same = sym (goes_on (goes (known_by tree places) leg) (λ next. fold_checked goes next (drop (k + 1) legs)) (known_by new next) (ap (at_part Part.Quick) (sym as_before) ∙ came)) ∙ split;
+          same = sym (goes_on (goes (known_by tree places) leg) (λ next. fold_checked goes next (drop (k + 1) legs)) (known_by new next)
+              (ap (at_part Part.Quick) (sym as_before) ∙ came)) ∙ split;
           grows = grows_on old tree new before places next on.grows grows;
           settled = λ j other at either. by_case j other at either;
         }
@@ -180,15 +188,18 @@ module _ (passes : Passing) (legs : List Leg) (fresh : ℕ) (old : List Twig) (b
                 subst (λ (l : Leg). along_leg passes (known_by old before) (known_by new next) l ≡ Ok (known_by new next)) one
                 (settled_here passes (known_by old before) leg (known_by tree places) (known_by new next) (within_known leg k there) gone)
 
-            earlier : (j : ℕ) (other : Leg) → slice_get legs j ≡ Some other → (j < k) ⊎ IsOld fresh before other → along_leg passes (known_by old before) (known_by new next) other ≡ Ok (known_by new next)
+            earlier : (j : ℕ) (other : Leg) → slice_get legs j ≡ Some other → (j < k) ⊎ IsOld fresh before other
+                → along_leg passes (known_by old before) (known_by new next) other ≡ Ok (known_by new next)
             earlier j other at either =
                 settled_then passes (known_by old before) other leg (known_by tree places) (known_by new next) (within_known other j at) (on.settled j other at either) gone
 
-            by_number : (j : ℕ) (other : Leg) → slice_get legs j ≡ Some other → (j < k) ⊎ (k ≤ j) → j < k + 1 → along_leg passes (known_by old before) (known_by new next) other ≡ Ok (known_by new next)
+            by_number : (j : ℕ) (other : Leg) → slice_get legs j ≡ Some other → (j < k) ⊎ (k ≤ j) → j < k + 1
+                → along_leg passes (known_by old before) (known_by new next) other ≡ Ok (known_by new next)
             by_number j other at (inl h) l = earlier j other at (inl h)
             by_number j other at (inr h) l = here j other at (omega arith)
 
-            by_case : (j : ℕ) (other : Leg) → slice_get legs j ≡ Some other → (j < k + 1) ⊎ IsOld fresh before other → along_leg passes (known_by old before) (known_by new next) other ≡ Ok (known_by new next)
+            by_case : (j : ℕ) (other : Leg) → slice_get legs j ≡ Some other → (j < k + 1) ⊎ IsOld fresh before other
+                → along_leg passes (known_by old before) (known_by new next) other ≡ Ok (known_by new next)
             by_case j other at (inl h) = by_number j other at (lt_or_ge j k) h
             by_case j other at (inr o) = earlier j other at (inr o)
 
@@ -196,7 +207,8 @@ module _ (passes : Passing) (legs : List Leg) (fresh : ℕ) (old : List Twig) (b
         after_way : (o : Option ℕ) → place_at before leg.begin ≡ o
             → along_leg passes (known_by tree before) (known_by tree places) leg ≡ along passes true (option_map (way_at tree) o) leg.step leg.transit leg.end (known_by tree places)
         after_way o at =
-            ap (λ (r : Option Reach). along passes true r leg.step leg.transit leg.end (known_by tree places)) (known_at-by tree before leg.begin ∙ ap (λ (p : Option ℕ). option_map (way_at tree) p) at)
+            ap (λ (r : Option Reach). along passes true r leg.step leg.transit leg.end (known_by tree places))
+                (known_at-by tree before leg.begin ∙ ap (λ (p : Option ℕ). option_map (way_at tree) p) at)
 
         module _ (way : ℕ) (at : place_at before leg.begin ≡ Some way) where
           abbrev offers : Checked Known
@@ -266,7 +278,8 @@ module _ (passes : Passing) (net : Network) (flows : List ℚ) (from : ℕ) wher
 
         pub rounds_still : next ≡ seen → at_part Part.Quick (reaches_list passes net flows from) ≡ Ok known
         rounds_still e =
-            let fixed : round_list passes net.links flows known ≡ Ok known = ap (λ (x : Known). round_list passes net.links flows x) (sym is) ∙ ok_of_part one_round next came ∙ ap Ok (e ∙ is) in
+            let fixed : round_list passes net.links flows known ≡ Ok known = ap (λ (x : Known). round_list passes net.links flows x) (sym is)
+                ∙ ok_of_part one_round next came ∙ ap Ok (e ∙ is) in
             ap (at_part Part.Quick) (sym on.same ∙ still known fixed (net.nodes - k))
 
 -- ---- with the arcs and the known paths
@@ -335,7 +348,9 @@ module _ (passes : Passing) (net : Network) (flows : List ℚ) (from : ℕ) (leg
           → Stops (λ (q : ℚ). q) h (at_part Part.Quick (reaches_list passes net flows from))
       search_stops h s = rounds_stop passes net flows from (known_by tree places) k on.rounds b (known_by tree before) known_seen h (stops_as _ _ h whole s)
 
-      module _ (new : List Twig) (next : Places) (came : at_part Part.Quick (fold_checked (along_leg passes (known_by tree before)) (known_by tree before) lent) ≡ Ok (known_by new next)) (grows : Grows tree new before next) where
+      module _ (new : List Twig) (next : Places) (came : at_part Part.Quick
+          (fold_checked (along_leg passes (known_by tree before)) (known_by tree before) lent) ≡ Ok (known_by new next))
+          (grows : Grows tree new before next) where
         came_whole : at_part Part.Quick (round_list passes net.links flows (known_by tree before)) ≡ Ok (known_by new next)
         came_whole = ap (at_part Part.Quick) whole ∙ came
 
@@ -355,7 +370,8 @@ module _ (passes : Passing) (net : Network) (flows : List ℚ) (from : ℕ) (leg
         search_still e found f =
             let same : next ≡ before = grows.same e in
             let kept : known_by new before ≡ known_by tree before = known_grown tree new before next grows on.good within_before in
-            rounds_still passes net flows from (known_by tree places) k on.rounds b (known_by tree before) known_seen (known_by new next) came_whole (ap (λ (p : Places). known_by new p) same ∙ kept)
+            rounds_still passes net flows from (known_by tree places) k on.rounds b (known_by tree before) known_seen (known_by new next) came_whole
+                (ap (λ (p : Places). known_by new p) same ∙ kept)
             ∙ ap Ok (sym (f ∙ ap (λ (p : Places). known_by new p) (sym seen) ∙ kept ∙ known_seen))
 
         pub within_still : ArePathsBelow (length new) places

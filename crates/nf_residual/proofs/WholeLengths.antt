@@ -51,7 +51,9 @@ within_short n h = record {
 }
 
 whole_neg : (n : ℤ) → whole (neg_ℤ n) ≡ neg_ℚ (whole n)
-whole_neg n = same_parts (whole (neg_ℤ n)) (neg_ℚ (whole n)) (num_whole (neg_ℤ n) ∙ sym (num-neg (whole n) ∙ ap neg_ℤ (num_whole n))) (den_whole (neg_ℤ n) ∙ sym (den-neg (whole n) ∙ den_whole n))
+whole_neg n =
+    same_parts (whole (neg_ℤ n)) (neg_ℚ (whole n)) (num_whole (neg_ℤ n) ∙ sym (num-neg (whole n) ∙ ap neg_ℤ (num_whole n)))
+    (den_whole (neg_ℤ n) ∙ sym (den-neg (whole n) ∙ den_whole n))
 
 -- ---- their operations
 pub sum_exact : (a b n : ℤ) → nat_abs a ≤ longest_whole → nat_abs b ≤ longest_whole → n ≡ a +ℤ b → Ok (whole n) ≡ checked passes_Q (op_of true) (whole a) (whole b)
@@ -76,7 +78,8 @@ order_is a b = ap₂ int_cmp (one a b) (one b a)
 
 -- ---- numbers as the code has them
 -- A value held as a whole number.
-pub counted_is : (q : ℚ) (number d : ℤ) (m : ℕ) → number ≡ q.num → nat_abs number ≤ bound_of 127 → d ≡ pos q.den → SFits w128 d → of_z w128 d ≡ 1 → m ≡ nat_abs (bits_of number) → m ≤ longest_whole
+pub counted_is : (q : ℚ) (number d : ℤ) (m : ℕ) → number ≡ q.num → nat_abs number ≤ bound_of 127 → d ≡ pos q.den → SFits w128 d → of_z w128 d ≡ 1
+    → m ≡ nat_abs (bits_of number) → m ≤ longest_whole
     → (nat_abs (to_z w64 (of_z w64 (bits_of number))) ≤ longest_whole) × (whole (to_z w64 (of_z w64 (bits_of number))) ≡ q)
 counted_is q number d m is small den fits one size h =
     let plainly : bits_of number ≡ number = plain number small in
@@ -99,7 +102,8 @@ over_one n = sym (/ℚ-unique (whole n) (whole (pos 1)) (whole n) (whole_apart (
     one_some : pos 1 ≡ pos 0 → ⊥
     one_some e = cc
 
-pub made_is : (o : Option ℚ) (number n d : ℤ) → nat_abs number ≤ longest_whole → n ≡ number → d ≡ pos 1 → SomeIff o (IsMade (bound_of 127) n d) (whole n /ℚ whole d) → o ≡ Some (whole number)
+pub made_is : (o : Option ℚ) (number n d : ℤ) → nat_abs number ≤ longest_whole → n ≡ number → d ≡ pos 1
+    → SomeIff o (IsMade (bound_of 127) n d) (whole n /ℚ whole d) → o ≡ Some (whole number)
 made_is (Some x) number n d h e f made = ap (λ (q : ℚ). Some q) (made.1 ∙ ap₂ (λ (a b : ℤ). whole a /ℚ whole b) e f ∙ over_one number)
 made_is None number n d h e f made = absurd (made (record {
   some = λ z. apart (sym f ∙ z);
@@ -113,7 +117,8 @@ made_is None number n d h e f made = absurd (made (record {
     apart e = cc
 
 -- ---- forms
-pub whole_exact : (forward : Bool) (x y : ℚ) (a b n : ℤ) → nat_abs a ≤ longest_whole → nat_abs b ≤ longest_whole → x ≡ whole a → y ≡ whole b → n ≡ along_by forward a b → IsExactStep forward x y (whole n)
+pub whole_exact : (forward : Bool) (x y : ℚ) (a b n : ℤ) → nat_abs a ≤ longest_whole → nat_abs b ≤ longest_whole → x ≡ whole a → y ≡ whole b
+    → n ≡ along_by forward a b → IsExactStep forward x y (whole n)
 whole_exact true x y a b n h k e f g = sum_exact a b n h k g ∙ ap₂ (λ (p q : ℚ). checked passes_Q (op_of true) p q) (sym e) (sym f)
 whole_exact false x y a b n h k e f g = difference_exact a b n h k g ∙ ap₂ (λ (p q : ℚ). checked passes_Q (op_of false) p q) (sym e) (sym f)
 
@@ -128,7 +133,8 @@ whole_given forward x y a b h k e f (Some n) g = (
 )
 
 -- The same number, as it is handed over.
-pub kept_exact : (forward : Bool) (x y : ℚ) (n : ℤ) → (nat_abs n ≤ longest_whole) × IsExactStep forward x y (whole n) → Ok (whole (to_z w64 (of_z w64 n))) ≡ checked_at passes_Q Part.Quick (op_of forward) x y
+pub kept_exact : (forward : Bool) (x y : ℚ) (n : ℤ) → (nat_abs n ≤ longest_whole) × IsExactStep forward x y (whole n)
+    → Ok (whole (to_z w64 (of_z w64 n))) ≡ checked_at passes_Q Part.Quick (op_of forward) x y
 kept_exact forward x y n h = let small : nat_abs n ≤ longest_whole = h.0 in ap (at_part Part.Quick) (ap (λ (z : ℤ). Ok (whole z)) (plain_64 n (omega (arith, small))) ∙ h.1)
 
 pub order_kept : (n right : ℤ) (y other : ℚ) → nat_abs n ≤ longest_whole → whole right ≡ y → y ≡ other → int_cmp (to_z w64 (of_z w64 n)) right ≡ cmp_ℚ (whole n) other

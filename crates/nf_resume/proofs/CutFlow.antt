@@ -24,15 +24,19 @@ pub labels_stop : (passes : Passing) (part : Part) (net : Network) (flow : Flow)
     → Stops (λ (q : ℚ). q) h (at_part part (cut_flow passes net flow))
 unfolding cut_flow
 labels_stop passes part net flow h s =
-    stops_on h (at_part part (each (cut_short passes flow.reached) flow.labels)) (at_part part (cut_flow passes net flow)) (λ p e. after_err part (each (cut_short passes flow.reached) flow.labels) _ p e) s
+    stops_on h (at_part part (each (cut_short passes flow.reached) flow.labels)) (at_part part (cut_flow passes net flow))
+        (λ p e. after_err part (each (cut_short passes flow.reached) flow.labels) _ p e) s
 
-module _ (passes : Passing) (part : Part) (net : Network) (flow : Flow) (labels : List (List Point)) (by_labels : at_part part (each (cut_short passes flow.reached) flow.labels) ≡ Ok labels) where
+module _ (passes : Passing) (part : Part) (net : Network) (flow : Flow) (labels : List (List Point))
+    (by_labels : at_part part (each (cut_short passes flow.reached) flow.labels) ≡ Ok labels) where
   abbrev links : List OfLink
   links = links_with net.links flow.inflows flow.outflows flow.queues
 
   -- ---- the labels
   pub labels_count : Equilibrium net flow → length labels ≡ net.nodes
-  labels_count is = each_length (cut_short passes flow.reached) flow.labels labels (was_ok part (each (cut_short passes flow.reached) flow.labels) labels by_labels) ∙ is.shape.labels.count
+  labels_count is =
+      each_length (cut_short passes flow.reached) flow.labels labels (was_ok part (each (cut_short passes flow.reached) flow.labels) labels by_labels)
+      ∙ is.shape.labels.count
 
   pub labels_end : IsNetwork net → Equilibrium net flow → (v : ℕ) → v < net.nodes → 0ℚ ≤ℚ value_at_end (points_at labels v)
   labels_end good is v h = end-nn passes net flow good is labels (was_ok part (each (cut_short passes flow.reached) flow.labels) labels by_labels) v h

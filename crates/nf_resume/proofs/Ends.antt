@@ -44,11 +44,13 @@ pub link_there : (links : List Link) (inflows outflows : List Trace) (queues : L
     → slice_get (links_with links (map trace_of inflows) (map trace_of outflows) (curves_of queues)) e ≡ Some (of_link link (trace_of inflow) (trace_of outflow) queue.points)
 link_there links inflows outflows queues e link inflow outflow queue at hi i ho o hq q =
     links_with-at links (map trace_of inflows) (map trace_of outflows) (curves_of queues) e link (trace_of inflow) (trace_of outflow) queue.points at
-    (slice_get-image trace_of inflows e inflow (slice_get_read inflows _ e inflow refl hi i)) (slice_get-image trace_of outflows e outflow (slice_get_read outflows _ e outflow refl ho o))
+    (slice_get-image trace_of inflows e inflow (slice_get_read inflows _ e inflow refl hi i))
+        (slice_get-image trace_of outflows e outflow (slice_get_read outflows _ e outflow refl ho o))
     (curve_there queues e queue hq q)
 
 -- The same with its curves cut at the labels of its ends.
-pub link_cut : (passes : Passing) (labels : List (List Point)) (links : List Link) (inflows outflows : List Trace) (queues : List Grown) (e : ℕ) (link : Link) (inflow outflow : Trace) (queue : Grown) (tail head : ℚ)
+pub link_cut : (passes : Passing) (labels : List (List Point)) (links : List Link) (inflows outflows : List Trace) (queues : List Grown) (e : ℕ)
+    (link : Link) (inflow outflow : Trace) (queue : Grown) (tail head : ℚ)
     → slice_get links e ≡ Some link → tail ≡ value_at_end (points_at labels link.tail) → head ≡ value_at_end (points_at labels link.head)
     → e < length inflows → inflow ≡ get_or inflows e inflow → e < length outflows → outflow ≡ get_or outflows e outflow → e < length queues → queue ≡ get_or queues e queue
     → (entry : OfLink) × (slice_get (links_with links (map trace_of inflows) (map trace_of outflows) (curves_of queues)) e ≡ Some entry)

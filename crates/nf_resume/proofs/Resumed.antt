@@ -43,7 +43,8 @@ module _ (passes : Passing) (net : Network) (report : Report) where
   by_answer r e = ap (λ (r : Result (Answer ℕ ℕ ℚ) (PassedAt ℚ)). r >>= after_check passes net report) e
 
   -- The flow is no equilibrium.
-  refused : (answer : Answer ℕ ℕ ℚ) → (answer ≡ Yes → ⊥) → answered ≡ Ok answer → Checks net report.flow answer → IsExact net report.flow answer → IsRefusedReport passes net report answer
+  refused : (answer : Answer ℕ ℕ ℚ) → (answer ≡ Yes → ⊥) → answered ≡ Ok answer → Checks net report.flow answer → IsExact net report.flow answer
+      → IsRefusedReport passes net report answer
   refused Yes other e rules exact = absurd (other refl)
   refused (No rule subject time left right) other e rules exact = record { answers = e; ends = by_answer (Ok (No rule subject time left right)) e; rules = rules; none = exact.1 }
 
@@ -60,7 +61,8 @@ module _ (passes : Passing) (net : Network) (report : Report) where
     said_equilibrium (Ok x) s exact = subst (IsExact net report.flow) s exact
     said_equilibrium (Err fault) s exact = tt
 
-    pub said_no : (result : Result (Unit {0}) ResumeFault) → Said answer result → Checks net report.flow answer → IsExact net report.flow answer → IfErr result (IsCauseAtAnyHorizon passes net report)
+    pub said_no : (result : Result (Unit {0}) ResumeFault) → Said answer result → Checks net report.flow answer → IsExact net report.flow answer
+        → IfErr result (IsCauseAtAnyHorizon passes net report)
     said_no (Ok x) s rules exact = tt
     said_no (Err fault) s rules exact = subst (IsCauseAtAnyHorizon passes net report) (sym s.0) (refused answer s.1 is rules exact)
 
@@ -80,7 +82,8 @@ module _ (passes : Passing) (net : Network) (report : Report) where
   pub cut_stops : (h : Halt ℚ) → Stops (λ (q : ℚ). q) h (at_part Curve (cut_flow passes net report.flow)) → Stops (λ (q : ℚ). q) h restarted
   cut_stops h s = stops_on h (at_part Curve (cut_flow passes net report.flow)) restarted cut_goes s
 
-  pub restored : (flow : Flow) (last : Pattern) → at_part Curve (cut_flow passes net report.flow) ≡ Ok flow → last ≡ report.last → at_part Curve (restore_list passes flow last) ≡ restarted
+  pub restored : (flow : Flow) (last : Pattern) → at_part Curve (cut_flow passes net report.flow) ≡ Ok flow → last ≡ report.last
+      → at_part Curve (restore_list passes flow last) ≡ restarted
   unfolding restart_list
   restored flow last e same = ap (λ (l : Pattern). at_part Curve (restore_list passes flow l)) same ∙ sym (after_ok Curve (cut_flow passes net report.flow) _ flow e)
 

@@ -45,7 +45,9 @@ link_in c = (trace_in c.inflow, (trace_in c.outflow, curve_in c.queue))
 
 -- The labels, their curves, and the curves of the links.
 abbrev Seen : Type 0
-Seen = List Parts × (List (List (Parts × Parts) × Option Parts) × List ((List (Parts × Parts) × List Parts) × ((List (Parts × Parts) × List Parts) × (List (Parts × Parts) × Option Parts))))
+Seen =
+    List Parts × (List (List (Parts × Parts) × Option Parts) × List ((List (Parts × Parts) × List Parts)
+    × ((List (Parts × Parts) × List Parts) × (List (Parts × Parts) × Option Parts))))
 
 abbrev standing_in : Standing → Seen
 standing_in s = (map parts_of s.labels, (map curve_in s.label_curves, map link_in s.link_curves))
@@ -91,15 +93,21 @@ expected = Some (
   i 2 ∷ h 11 ∷ [],
   (
     (((i 0, i 0) ∷ (i 2, i 2) ∷ [], Some (i 1)) ∷ ((i 0, i 1) ∷ (i 1, i 4) ∷ (i 2, h 11) ∷ [], Some (h 3)) ∷ []),
-    ((((i 0, i 0) ∷ (i 1, i 3) ∷ (i 2, h 9) ∷ [], i 3 ∷ h 3 ∷ []), (((i 0, i 0) ∷ (i 1, i 0) ∷ (h 11, h 9) ∷ [], i 0 ∷ i 1 ∷ []), ((i 0, i 0) ∷ (i 1, i 2) ∷ (i 2, h 5) ∷ [], Some (h 1))))
-        ∷ (((i 0, i 0) ∷ (i 1, i 0) ∷ (i 2, h 3) ∷ [], i 0 ∷ h 3 ∷ []), (((i 0, i 0) ∷ (i 4, i 0) ∷ (h 11, h 3) ∷ [], i 0 ∷ i 1 ∷ []), ((i 0, i 0) ∷ (i 1, i 0) ∷ (i 2, h 1) ∷ [], Some (h 1)))) ∷ []),
+    ((((i 0, i 0) ∷ (i 1, i 3) ∷ (i 2, h 9) ∷ [], i 3 ∷ h 3 ∷ []), (((i 0, i 0) ∷ (i 1, i 0) ∷ (h 11, h 9) ∷ [], i 0 ∷ i 1 ∷ []),
+        ((i 0, i 0) ∷ (i 1, i 2) ∷ (i 2, h 5) ∷ [], Some (h 1))))
+        ∷ (((i 0, i 0) ∷ (i 1, i 0) ∷ (i 2, h 3) ∷ [], i 0 ∷ h 3 ∷ []), (((i 0, i 0) ∷ (i 4, i 0) ∷ (h 11, h 3) ∷ [], i 0 ∷ i 1 ∷ []),
+            ((i 0, i 0) ∷ (i 1, i 0) ∷ (i 2, h 1) ∷ [], Some (h 1)))) ∷ []),
   ),
 )
 
 resumed_at_2 : outcome_in (resume_list in_127_bits two_links (report to_2)) ≡ expected
-unfolding resume_list restart_list cut_flow restore_list check_list trial least_exits total_in total_out detour_list checked_middle checked_difference checked_composed checked_least checked_sum both_times checked_inverse checked_cross checked_cumulative checked_loading checked_cut checked_value checked_short checked_slope checked_line grown drained exit_after checked beyond whole ratio gcd neg_ℚ inv_ℚ ◌+ℚ◌ ◌-ℚ◌ ◌*ℚ◌ ◌/ℚ◌ le_ℚ lt_ℚ min_ℚ max_ℚ
+unfolding resume_list restart_list cut_flow restore_list check_list trial least_exits total_in total_out detour_list checked_middle checked_difference
+    checked_composed checked_least checked_sum both_times checked_inverse checked_cross checked_cumulative checked_loading checked_cut checked_value
+    checked_short checked_slope checked_line grown drained exit_after checked beyond whole ratio gcd neg_ℚ inv_ℚ ◌+ℚ◌ ◌-ℚ◌ ◌*ℚ◌ ◌/ℚ◌ le_ℚ lt_ℚ min_ℚ max_ℚ
 resumed_at_2 = refl
 
 cut_at_2 : outcome_in (resume_list in_127_bits two_links (report beyond_2)) ≡ expected
-unfolding resume_list restart_list cut_flow restore_list check_list trial least_exits total_in total_out detour_list checked_middle checked_difference checked_composed checked_least checked_sum both_times checked_inverse checked_cross checked_cumulative checked_loading checked_cut checked_value checked_short checked_slope checked_line grown drained exit_after checked beyond whole ratio gcd neg_ℚ inv_ℚ ◌+ℚ◌ ◌-ℚ◌ ◌*ℚ◌ ◌/ℚ◌ le_ℚ lt_ℚ min_ℚ max_ℚ
+unfolding resume_list restart_list cut_flow restore_list check_list trial least_exits total_in total_out detour_list checked_middle checked_difference
+    checked_composed checked_least checked_sum both_times checked_inverse checked_cross checked_cumulative checked_loading checked_cut checked_value
+    checked_short checked_slope checked_line grown drained exit_after checked beyond whole ratio gcd neg_ℚ inv_ℚ ◌+ℚ◌ ◌-ℚ◌ ◌*ℚ◌ ◌/ℚ◌ le_ℚ lt_ℚ min_ℚ max_ℚ
 cut_at_2 = refl

@@ -20,7 +20,8 @@ points_of-is traces e trace h = points_is (points_of traces) e trace.points (sli
 abbrev pub of_link : Link → Trace → Trace → List Point → OfLink
 of_link link inflow outflow queue = record { link = link; inflow = inflow.points; outflow = outflow.points; queue = queue }
 
-pub links_with-at : (links : List Link) (inflows outflows : List Trace) (queues : List (List Point)) (e : ℕ) (link : Link) (i o : Trace) (q : List Point) → slice_get links e ≡ Some link → slice_get inflows e ≡ Some i
+pub links_with-at : (links : List Link) (inflows outflows : List Trace) (queues : List (List Point)) (e : ℕ) (link : Link) (i o : Trace) (q : List Point)
+    → slice_get links e ≡ Some link → slice_get inflows e ≡ Some i
     → slice_get outflows e ≡ Some o → slice_get queues e ≡ Some q → slice_get (links_with links inflows outflows queues) e ≡ Some (of_link link i o q)
 links_with-at [] inflows outflows queues e link i o q h j k l = absurd (cc)
 links_with-at (x ∷ links) [] outflows queues e link i o q h j k l = absurd (cc)
@@ -29,7 +30,8 @@ links_with-at (x ∷ links) (a ∷ inflows) (b ∷ outflows) [] e link i o q h j
 links_with-at (x ∷ links) (a ∷ inflows) (b ∷ outflows) (c ∷ queues) zero link i o q h j k l = cc
 links_with-at (x ∷ links) (a ∷ inflows) (b ∷ outflows) (c ∷ queues) (suc e) link i o q h j k l = links_with-at links inflows outflows queues e link i o q h j k l
 
-pub links_with-length : (links : List Link) (inflows outflows : List Trace) (queues : List (List Point)) → length inflows ≡ length links → length outflows ≡ length links → length queues ≡ length links
+pub links_with-length : (links : List Link) (inflows outflows : List Trace) (queues : List (List Point)) → length inflows ≡ length links
+    → length outflows ≡ length links → length queues ≡ length links
     → length (links_with links inflows outflows queues) ≡ length links
 links_with-length [] inflows outflows queues h j k = refl
 links_with-length (x ∷ links) [] outflows queues h j k = absurd (omega arith)
@@ -67,7 +69,9 @@ module _ (passes : Passing) (net : Network) (old : Flow) (good : IsNetwork net) 
       (cut_short-is passes (points_at old.labels v) old.reached y.0 (is.shape.labels.each v h) is.reached (ap (cut_short passes old.reached) same ∙ y.2))
 
   end-is : (v : ℕ) → v < net.nodes → value_at_end (points_at labels v) ≡ label old v old.reached
-  end-is v h = value_at_end-is (points_at labels v) (old.reached, value (points_at labels v) old.reached) (at_end v h).ends ∙ (at_end v h).values old.reached (is.reached, ≤ℚ_refl old.reached)
+  end-is v h =
+      value_at_end-is (points_at labels v) (old.reached, value (points_at labels v) old.reached) (at_end v h).ends
+      ∙ (at_end v h).values old.reached (is.reached, ≤ℚ_refl old.reached)
 
   ends-nn : (v : ℕ) → v < net.nodes → 0ℚ ≤ℚ label old v old.reached
   ends-nn v h = label-nn net old good is v old.reached h (is.reached, ≤ℚ_refl old.reached)
@@ -142,34 +146,41 @@ module _ (passes : Passing) (net : Network) (old : Flow) (good : IsNetwork net) 
     cuts_at : (e : ℕ) (link : Link) (p : IsLink net e link) → Cuts link (at_link e link p).inflow.points (at_link e link p).outflow.points (at_link e link p).queue (at_link e link p).cut
     cuts_at e link p = let a : At e link = at_link e link p in cuts_of (of_link link a.inflow a.outflow a.queue) a.cut a.by_list
 
-    of_trace : (e : ℕ) (link : Link) (v : ℕ) (traces : List Trace) (old_trace trace : Trace) → v < net.nodes → slice_get traces e ≡ Some old_trace → IsCurve (points_at (points_of traces) e)
-        → cut_trace passes (value_at_end (points_at labels v)) old_trace.points ≡ Ok trace → IsShortCut (points_at (points_of traces) e) (label old v old.reached) trace.points × AreSlopes trace.points trace.rates
+    of_trace : (e : ℕ) (link : Link) (v : ℕ) (traces : List Trace) (old_trace trace : Trace) → v < net.nodes → slice_get traces e ≡ Some old_trace
+        → IsCurve (points_at (points_of traces) e)
+        → cut_trace passes (value_at_end (points_at labels v)) old_trace.points ≡ Ok trace
+            → IsShortCut (points_at (points_of traces) e) (label old v old.reached) trace.points × AreSlopes trace.points trace.rates
     of_trace e link v traces old_trace trace h at c f =
         let same : points_at (points_of traces) e ≡ old_trace.points = points_of-is traces e old_trace at in
         let t : TraceCut (value_at_end (points_at labels v)) old_trace.points trace = trace_cut _ _ trace f in
-        let s : IsShortCut (points_at (points_of traces) e) (label old v old.reached) trace.points = cut_short-is passes (points_at (points_of traces) e) (label old v old.reached) trace.points c (ends-nn v h)
+        let s : IsShortCut (points_at (points_of traces) e) (label old v old.reached) trace.points =
+            cut_short-is passes (points_at (points_of traces) e) (label old v old.reached) trace.points c (ends-nn v h)
         (ap (λ (l : List Point). cut_short passes (label old v old.reached) l) same ∙ ap (λ (z : ℚ). cut_short passes z old_trace.points) (sym (end-is v h)) ∙ t.short) in
         (s, rates_are trace.points trace.rates s.curve t.rates)
 
     inflow_at : (e : ℕ) (link : Link) (p : IsLink net e link)
-        → IsShortCut (points_at (points_of old.inflows) e) (label old link.tail old.reached) (at_link e link p).cut.inflow.points × AreSlopes (at_link e link p).cut.inflow.points (at_link e link p).cut.inflow.rates
+        → IsShortCut (points_at (points_of old.inflows) e) (label old link.tail old.reached) (at_link e link p).cut.inflow.points
+            × AreSlopes (at_link e link p).cut.inflow.points (at_link e link p).cut.inflow.rates
     inflow_at e link p = of_trace e link link.tail old.inflows (at_link e link p).inflow (at_link e link p).cut.inflow (good.tails e link p) (at_link e link p).is_inflow
         (is.shape.inflows.each e (slice_get_within net.links e link p)) (cuts_at e link p).inflow_is
 
     outflow_at : (e : ℕ) (link : Link) (p : IsLink net e link)
-        → IsShortCut (points_at (points_of old.outflows) e) (label old link.head old.reached) (at_link e link p).cut.outflow.points × AreSlopes (at_link e link p).cut.outflow.points (at_link e link p).cut.outflow.rates
+        → IsShortCut (points_at (points_of old.outflows) e) (label old link.head old.reached) (at_link e link p).cut.outflow.points
+            × AreSlopes (at_link e link p).cut.outflow.points (at_link e link p).cut.outflow.rates
     outflow_at e link p = of_trace e link link.head old.outflows (at_link e link p).outflow (at_link e link p).cut.outflow (good.heads e link p) (at_link e link p).is_outflow
         (is.shape.outflows.each e (slice_get_within net.links e link p)) (cuts_at e link p).outflow_is
 
     queue_at : (e : ℕ) (link : Link) (p : IsLink net e link) → IsShortCut (points_at old.queues e) (label old link.tail old.reached) (at_link e link p).cut.queue
     queue_at e link p =
         let a : At e link = at_link e link p in
-        cut_short-is passes (points_at old.queues e) (label old link.tail old.reached) a.cut.queue (is.shape.queues.each e (slice_get_within net.links e link p)) (ends-nn link.tail (good.tails e link p))
+        cut_short-is passes (points_at old.queues e) (label old link.tail old.reached) a.cut.queue
+            (is.shape.queues.each e (slice_get_within net.links e link p)) (ends-nn link.tail (good.tails e link p))
         (ap (λ (l : List Point). cut_short passes (label old link.tail old.reached) l) (points_is old.queues e a.queue a.is_queue)
         ∙ ap (λ (z : ℚ). cut_short passes z a.queue) (sym (end-is link.tail (good.tails e link p))) ∙ (cuts_at e link p).queue_is)
 
     -- ---- the rates of a trace
-    all_slopes : (f : CutLink → Trace) → ((e : ℕ) (link : Link) (p : IsLink net e link) → AreSlopes (f (at_link e link p).cut).points (f (at_link e link p).cut).rates) → HasSlopes (map f cuts)
+    all_slopes : (f : CutLink → Trace) → ((e : ℕ) (link : Link) (p : IsLink net e link)
+        → AreSlopes (f (at_link e link p).cut).points (f (at_link e link p).cut).rates) → HasSlopes (map f cuts)
     all_slopes f each_link e trace h =
         let within : e < length (map f cuts) = slice_get_within (map f cuts) e trace h in
         let link : (link : Link) × IsLink net e link = entry net.links e (let c = cut_count in let d = length-map cuts f in omega arith) in
@@ -186,11 +197,14 @@ module _ (passes : Passing) (net : Network) (old : Flow) (good : IsNetwork net) 
       queue_count = length-map cuts (λ (c : CutLink). c.queue) ∙ cut_count;
       labels = at_end;
       inflows = λ e link p. subst (λ (l : List Point). IsShortCut (points_at (points_of old.inflows) e) (label old link.tail old.reached) l)
-          (sym (points_of-is new.inflows e (at_link e link p).cut.inflow (slice_get-image (λ (c : CutLink). c.inflow) cuts e (at_link e link p).cut (at_link e link p).is_cut))) (inflow_at e link p).0;
+          (sym (points_of-is new.inflows e (at_link e link p).cut.inflow (slice_get-image (λ (c : CutLink). c.inflow) cuts e (at_link e link p).cut
+              (at_link e link p).is_cut))) (inflow_at e link p).0;
       outflows = λ e link p. subst (λ (l : List Point). IsShortCut (points_at (points_of old.outflows) e) (label old link.head old.reached) l)
-          (sym (points_of-is new.outflows e (at_link e link p).cut.outflow (slice_get-image (λ (c : CutLink). c.outflow) cuts e (at_link e link p).cut (at_link e link p).is_cut))) (outflow_at e link p).0;
+          (sym (points_of-is new.outflows e (at_link e link p).cut.outflow (slice_get-image (λ (c : CutLink). c.outflow) cuts e (at_link e link p).cut
+              (at_link e link p).is_cut))) (outflow_at e link p).0;
       queues = λ e link p. subst (λ (l : List Point). IsShortCut (points_at old.queues e) (label old link.tail old.reached) l)
-          (sym (points_is new.queues e (at_link e link p).cut.queue (slice_get-image (λ (c : CutLink). c.queue) cuts e (at_link e link p).cut (at_link e link p).is_cut))) (queue_at e link p);
+          (sym (points_is new.queues e (at_link e link p).cut.queue (slice_get-image (λ (c : CutLink). c.queue) cuts e (at_link e link p).cut
+              (at_link e link p).is_cut))) (queue_at e link p);
       inflow_rates = all_slopes (λ c. c.inflow) (λ e link p. (inflow_at e link p).1);
       outflow_rates = all_slopes (λ c. c.outflow) (λ e link p. (outflow_at e link p).1);
     }

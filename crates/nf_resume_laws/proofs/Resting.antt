@@ -14,7 +14,9 @@ pub rest-goes : (net : Network) (time : ℚ) (labels slopes : List ℚ) (pattern
 rest-goes net time labels slopes pattern done s good part rate whole flows base listed solution extension some short is_base = record {
   listed = IsListed-restricted net good labels s.labels slopes flows rate done pattern base some moves below above listed solution count same_count based;
   solution = IsSolution-restricted net good labels s.labels slopes flows rate done pattern base some moves below above listed solution count same_count based;
-  length = IsExtension-left net good labels slopes time done pattern part.is_pattern part.count part.not_negative s part.labels_are part.time_is part.last_is whole opened (≤ℚ_of_lt _ _ short) extension;
+  length =
+      IsExtension-left net good labels slopes time done pattern part.is_pattern part.count part.not_negative s part.labels_are part.time_is part.last_is
+      whole opened (≤ℚ_of_lt _ _ short) extension;
 }
   where
     moves : (e : ℕ) (link : Link) → IsLink net e link → slack s.labels (hop_of link) ≡ slack labels (hop_of link) +ℚ done *ℚ (number_at slopes link.head -ℚ number_at slopes link.tail)

@@ -25,7 +25,8 @@ equation_on r t o b capacity flow tail head (fills h) e = subst (λ (t : Bool). 
 equation_on r t o b capacity flow tail head (drops _ h) e = subst (λ (t : Bool). Equation None t capacity flow tail head) (sym h) e
 equation_on r t o b capacity flow tail head (stays h) e = subst (λ (t : Bool). Equation None t capacity flow tail head) h e
 
-equation_back : (r t : Bool) (o b : Option State) (capacity : Option ℚ) (flow tail head : ℚ) → GoesOn r t o b → Equation b t capacity flow tail head → Equation o r capacity flow tail head
+equation_back : (r t : Bool) (o b : Option State) (capacity : Option ℚ) (flow tail head : ℚ) → GoesOn r t o b → Equation b t capacity flow tail head
+    → Equation o r capacity flow tail head
 equation_back r t o b capacity flow tail head (keeps Tight _ _) e = e
 equation_back r t o b capacity flow tail head (keeps Full _ _) e = e
 equation_back r t o b capacity flow tail head (keeps Zero _ _) e = e
@@ -33,7 +34,8 @@ equation_back r t o b capacity flow tail head (fills h) e = subst (λ (t : Bool)
 equation_back r t o b capacity flow tail head (drops _ h) e = subst (λ (t : Bool). Equation None t capacity flow tail head) h e
 equation_back r t o b capacity flow tail head (stays h) e = subst (λ (t : Bool). Equation None t capacity flow tail head) (sym h) e
 
-inequality_on : (r t : Bool) (o b : Option State) (capacity : Option ℚ) (flow tail head : ℚ) → GoesOn r t o b → Inequality o capacity flow tail head → Inequality b capacity flow tail head
+inequality_on : (r t : Bool) (o b : Option State) (capacity : Option ℚ) (flow tail head : ℚ) → GoesOn r t o b → Inequality o capacity flow tail head
+    → Inequality b capacity flow tail head
 inequality_on r t o b capacity flow tail head (keeps Tight _ _) e = e
 inequality_on r t o b capacity flow tail head (keeps Full _ _) e = e
 inequality_on r t o b capacity flow tail head (keeps Zero _ _) e = e
@@ -70,7 +72,9 @@ module _ (net : Network) (labels : List ℚ) (e : ℕ) (link : Link) (p : IsLink
   needs-zero z = (active_of_slack net labels e link p (≤ℚ_of_same _ _ (sym z)), λ r. not_both_ℚ _ _ (slack_of_resetting net labels e link p r) (≤ℚ_of_same _ _ z))
 
   zero-needs : NeedsState (sets_at net labels) e → slack labels (hop_of link) ≡ 0ℚ
-  zero-needs n = ≤ℚ_antisymm _ _ (⊎_elim (λ (h : 0ℚ <ℚ slack labels (hop_of link)). absurd (n.1 (resetting_of_slack net labels e link p h))) (λ (h : slack labels (hop_of link) ≤ℚ 0ℚ). h) (lt_or_le_ℚ 0ℚ (slack labels (hop_of link))))
+  zero-needs n =
+      ≤ℚ_antisymm _ _ (⊎_elim (λ (h : 0ℚ <ℚ slack labels (hop_of link)). absurd (n.1 (resetting_of_slack net labels e link p h)))
+      (λ (h : slack labels (hop_of link) ≤ℚ 0ℚ). h) (lt_or_le_ℚ 0ℚ (slack labels (hop_of link))))
       (slack_of_active net labels e link p n.0)
 
 -- ---- a phase: the labels at first and at the interruption
@@ -125,7 +129,8 @@ module _ (net : Network) (good : IsNetwork net) (labels labels' slopes flows : L
         (above state has k))
         (λ (k : slack labels' (hop_of link) ≤ℚ 0ℚ).
         subst (λ (b : Option State). GoesOn (before e) (after e) (Some state) b)
-        (same_Some (Some state) b (sym (is_base.kept e state (needs-zero net labels' e link p (≤ℚ_antisymm _ _ k h)) has) ∙ at)) (keeps state (resets-low net labels e link p (≤ℚ_of_same _ _ first)) (resets-low net labels' e link p k)))
+        (same_Some (Some state) b (sym (is_base.kept e state (needs-zero net labels' e link p (≤ℚ_antisymm _ _ k h)) has) ∙ at))
+            (keeps state (resets-low net labels e link p (≤ℚ_of_same _ _ first)) (resets-low net labels' e link p k)))
         (lt_or_le_ℚ 0ℚ (slack labels' (hop_of link))))
         (lt_or_le_ℚ (slack labels' (hop_of link)) 0ℚ)
       where
@@ -151,7 +156,8 @@ module _ (net : Network) (good : IsNetwork net) (labels labels' slopes flows : L
         (λ (h : 0ℚ ≤ℚ slack labels (hop_of link)). ⊎_elim
         (λ (k : 0ℚ <ℚ slack labels (hop_of link)).
         subst (λ (o : Option State). GoesOn (before e) (after e) o b) (sym (no_state_before e o has (not_needed labels (λ z. not_both_ℚ _ _ k (≤ℚ_of_same _ _ z)))))
-        (without_state b at (λ z. not_both_ℚ _ _ (stays_above e link p k) (≤ℚ_of_same _ _ z)) (resets-high net labels e link p k ∙ sym (resets-high net labels' e link p (stays_above e link p k)))))
+        (without_state b at (λ z. not_both_ℚ _ _ (stays_above e link p k) (≤ℚ_of_same _ _ z))
+            (resets-high net labels e link p k ∙ sym (resets-high net labels' e link p (stays_above e link p k)))))
         (λ (k : slack labels (hop_of link) ≤ℚ 0ℚ).
         let first : slack labels (hop_of link) ≡ 0ℚ = ≤ℚ_antisymm _ _ k h in
         let state : (state : State) × HasState pattern e state = (listed.states.states e).0 (needs-zero net labels e link p first) in
@@ -173,11 +179,15 @@ module _ (net : Network) (good : IsNetwork net) (labels labels' slopes flows : L
   solves_with old new p q f l s links = record { flow_count = s.flow_count; slope_count = s.slope_count; starts = s.starts; source = s.source; inner = s.inner; links = links }
 
   pub Solves-on : (f l : List ℚ) → Solves net (sets_at net labels) rate pattern f l → Solves net (sets_at net labels') rate base f l
-  Solves-on f l s = solves_with (sets_at net labels) (sets_at net labels') pattern base f l s (λ e link b p at. let o : (o : Option State) × (slice_get pattern e ≡ Some o) = entry_before e link p in
+  Solves-on f l s =
+      solves_with (sets_at net labels) (sets_at net labels') pattern base f l s
+      (λ e link b p at. let o : (o : Option State) × (slice_get pattern e ≡ Some o) = entry_before e link p in
       equation_on (before e) (after e) o.0 b link.capacity _ _ _ (goes-on e link p o.0 b o.1 at) (s.links e link o.0 p o.1))
 
   pub Solves-back : (f l : List ℚ) → Solves net (sets_at net labels') rate base f l → Solves net (sets_at net labels) rate pattern f l
-  Solves-back f l s = solves_with (sets_at net labels') (sets_at net labels) base pattern f l s (λ e link o p has. let b : (b : Option State) × (slice_get base e ≡ Some b) = entry_after e link p in
+  Solves-back f l s =
+      solves_with (sets_at net labels') (sets_at net labels) base pattern f l s
+      (λ e link o p has. let b : (b : Option State) × (slice_get base e ≡ Some b) = entry_after e link p in
       equation_back (before e) (after e) o b.0 link.capacity _ _ _ (goes-on e link p o b.0 has b.1) (s.links e link b.0 p b.1))
 
   pub IsSolution-restricted : IsSolution net (sets_at net labels') rate base flows slopes
@@ -238,12 +248,15 @@ module _ (net : Network) (good : IsNetwork net) (labels labels' slopes flows : L
           by (Some false) k h = absurd (cc)
           by (Some true) k h = k
 
-      full : (b : Option State) → slice_get base e ≡ Some b → GoesOn (before e) (after e) (Some Full) b → Has (sets_at net labels').resetting e ⊎ (HasState base e Tight ⊎ HasState base e Full)
+      full : (b : Option State) → slice_get base e ≡ Some b → GoesOn (before e) (after e) (Some Full) b
+          → Has (sets_at net labels').resetting e ⊎ (HasState base e Tight ⊎ HasState base e Full)
       full b h (keeps _ _ _) = inr (inr h)
       full b h (fills t) = inl (flagged t)
 
   into : (v e : ℕ) (hop : Hop) → IsHop (hops net) e hop → hop.head ≡ v → (Has (sets_at net labels).resetting e ⊎ (HasState pattern e Tight ⊎ HasState pattern e Full)) → Into v
-  into v e hop p = by_link net (λ (h : Hop). h.head ≡ v → (Has (sets_at net labels).resetting e ⊎ (HasState pattern e Tight ⊎ HasState pattern e Full)) → Into v) e (λ link q. into_by v e link q) hop p
+  into v e hop p =
+      by_link net (λ (h : Hop). h.head ≡ v → (Has (sets_at net labels).resetting e ⊎ (HasState pattern e Tight ⊎ HasState pattern e Full)) → Into v) e
+      (λ link q. into_by v e link q) hop p
 
   pub IsListed-restricted : IsListedIn net (sets_at net labels') base
   IsListed-restricted = record {

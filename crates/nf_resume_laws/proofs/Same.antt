@@ -36,7 +36,9 @@ module _ (net : Network) (amount label amount' label' : ℕ → ℚ → ℚ) (un
   in_label v departure h w = (label_not_negative net amount label until good holds v departure h w, holds.label_rises v departure until h w.0 w.1 (≤ℚ_refl until))
 
   at : (e : ℕ) (link : Link) (departure : ℚ) → IsLink net e link → Within 0ℚ until departure → amount' e (label' link.tail departure) ≡ amount e (label link.tail departure)
-  at e link departure p w = ap (amount' e) (agree.labels link.tail departure (good.tails e link p) w) ∙ agree.amounts e link (label link.tail departure) p (in_label link.tail departure (good.tails e link p) w)
+  at e link departure p w =
+      ap (amount' e) (agree.labels link.tail departure (good.tails e link p) w)
+      ∙ agree.amounts e link (label link.tail departure) p (in_label link.tail departure (good.tails e link p) w)
 
   pub sent_same : (e : ℕ) (link : Link) (departure : ℚ) → IsLink net e link → Within 0ℚ until departure → sent net amount' label' e departure ≡ sent net amount label e departure
   sent_same e link departure p w = sent-is net amount' label' e link departure p ∙ at e link departure p w ∙ sym (sent-is net amount label e link departure p)
@@ -50,10 +52,12 @@ module _ (net : Network) (amount label amount' label' : ℕ → ℚ → ℚ) (un
   ins : (v : ℕ) (departure : ℚ) → Within 0ℚ until departure → sum_in net.links (λ e. sent net amount' label' e departure) v ≡ sum_in net.links (λ e. sent net amount label e departure) v
   ins v departure w = sum_in-same net.links (λ e. sent net amount' label' e departure) (λ e. sent net amount label e departure) v (λ e link p _. sent_same e link departure p w)
 
-  outs : (v : ℕ) (departure : ℚ) → Within 0ℚ until departure → sum_out net.links (λ e. sent net amount' label' e departure) v ≡ sum_out net.links (λ e. sent net amount label e departure) v
+  outs : (v : ℕ) (departure : ℚ) → Within 0ℚ until departure → sum_out net.links (λ e. sent net amount' label' e departure) v ≡ sum_out net.links
+      (λ e. sent net amount label e departure) v
   outs v departure w = sum_out-same net.links (λ e. sent net amount' label' e departure) (λ e. sent net amount label e departure) v (λ e link p _. sent_same e link departure p w)
 
-  queue_same : (e : ℕ) (link : Link) (time y : ℚ) → IsLink net e link → Within 0ℚ (label link.tail until) time → IsQueue link.capacity (amount e) time y → IsQueue link.capacity (amount' e) time y
+  queue_same : (e : ℕ) (link : Link) (time y : ℚ) → IsLink net e link → Within 0ℚ (label link.tail until) time → IsQueue link.capacity (amount e) time y
+      → IsQueue link.capacity (amount' e) time y
   queue_same e link time y p w q = IsQueue-same link.capacity (amount e) (amount' e) time y (λ t k. sym (agree.amounts e link t p (k.0, ≤ℚ_trans _ _ _ k.1 w.1))) q
 
   plus_same : (i j u : ℚ) → i ≡ j → i +ℚ u ≡ j +ℚ u
@@ -63,7 +67,8 @@ module _ (net : Network) (amount label amount' label' : ℕ → ℚ → ℚ) (un
   HoldsUpTo-same = record {
     begun = holds.begun;
     source = λ departure w. agree.labels net.source departure good.source w ∙ holds.source departure w;
-    label_rises = λ v earlier later h i j k. le_by _ _ _ _ (sym (agree.labels v earlier h (i, ≤ℚ_trans _ _ _ j k))) (sym (agree.labels v later h (≤ℚ_trans _ _ _ i j, k))) (holds.label_rises v earlier later h i j k);
+    label_rises = λ v earlier later h i j k. le_by _ _ _ _ (sym (agree.labels v earlier h (i, ≤ℚ_trans _ _ _ j k)))
+        (sym (agree.labels v later h (≤ℚ_trans _ _ _ i j, k))) (holds.label_rises v earlier later h i j k);
     label_takes = λ v time h i j.
         let t : (departure : ℚ) × Within 0ℚ until departure × (label v departure ≡ time) =
         holds.label_takes v time h (le_by _ _ _ _ (agree.labels v 0ℚ h first) refl i) (le_by _ _ _ _ refl (agree.labels v until h now) j) in
@@ -79,7 +84,8 @@ module _ (net : Network) (amount label amount' label' : ℕ → ℚ → ℚ) (un
     drained = λ departure w. ins net.sink departure w ∙ holds.drained departure w ∙ sym (plus_same _ _ _ (outs net.sink departure w));
     queue = λ e link departure p w.
         subst (λ (s : ℚ). IsQueue link.capacity (amount' e) (label' link.tail departure) (queue_by_slack link.capacity s)) (sym (slack_same e link departure p w))
-        (subst (λ (t : ℚ). IsQueue link.capacity (amount' e) t (queue_by_slack link.capacity (link_slack label link departure))) (sym (agree.labels link.tail departure (good.tails e link p) w))
+        (subst (λ (t : ℚ). IsQueue link.capacity (amount' e) t (queue_by_slack link.capacity (link_slack label link departure)))
+            (sym (agree.labels link.tail departure (good.tails e link p) w))
         (queue_same e link (label link.tail departure) _ p (in_label link.tail departure (good.tails e link p) w) (holds.queue e link departure p w)));
     unbounded = λ e link departure p none w. le_by _ _ _ _ (sym (slack_same e link departure p w)) refl (holds.unbounded e link departure p none w);
     entered = λ v departure h other w.
@@ -91,9 +97,11 @@ module _ (net : Network) (amount label amount' label' : ℕ → ℚ → ℚ) (un
         ∙ holds.idle e link departure time p w (low e link departure p w h) i (le_by _ _ _ _ (less _ _ link.transit (agree.labels link.head departure (good.heads e link p) w)) refl j) to
         ∙ sym (sent_same e link departure p w);
     idle_queue = λ e link departure p w h i.
-        let same : label' link.head departure -ℚ link.transit ≡ label link.head departure -ℚ link.transit = less _ _ link.transit (agree.labels link.head departure (good.heads e link p) w) in
+        let same : label' link.head departure -ℚ link.transit ≡ label link.head departure -ℚ link.transit =
+            less _ _ link.transit (agree.labels link.head departure (good.heads e link p) w) in
         let from : 0ℚ ≤ℚ label link.head departure -ℚ link.transit = le_by _ _ _ _ refl same i in
-        let to : label link.head departure -ℚ link.transit ≤ℚ label link.tail departure = in_time (label link.tail departure) (label link.head departure) link.transit (low e link departure p w h) in
+        let to : label link.head departure -ℚ link.transit ≤ℚ label link.tail departure =
+            in_time (label link.tail departure) (label link.head departure) link.transit (low e link departure p w h) in
         subst (λ (t : ℚ). IsQueue link.capacity (amount' e) t 0ℚ) (sym same)
         (queue_same e link (label link.head departure -ℚ link.transit) 0ℚ p (from, ≤ℚ_trans _ _ _ to (in_label link.tail departure (good.tails e link p) w).1)
         (holds.idle_queue e link departure p w (low e link departure p w h) from));
@@ -110,7 +118,8 @@ module _ (net : Network) (amount label amount' label' : ℕ → ℚ → ℚ) (un
     pub DescribesLinks-same : DescribesLinks net amount' label' outflow' queue' until
     DescribesLinks-same = record {
       outflows = λ e link departure p w. ap (outflow' e) (agree.labels link.head departure (good.heads e link p) w)
-          ∙ outflows e link (label link.head departure) p (in_label link.head departure (good.heads e link p) w) ∙ describes.outflows e link departure p w ∙ sym (sent_same e link departure p w);
+          ∙ outflows e link (label link.head departure) p (in_label link.head departure (good.heads e link p) w) ∙ describes.outflows e link departure p w
+              ∙ sym (sent_same e link departure p w);
       outflows_early = λ e link time p w.
           let to : time ≤ℚ label link.head 0ℚ = le_by _ _ _ _ refl (agree.labels link.head 0ℚ (good.heads e link p) first) w.1 in
           outflows e link time p (w.0, ≤ℚ_trans _ _ _ to (in_label link.head 0ℚ (good.heads e link p) first).1) ∙ describes.outflows_early e link time p (w.0, to);

@@ -31,23 +31,27 @@ module _ (passes : Passing) (net : Network) (good : IsNetwork net) (bounds : Bou
   next_of s t g = standing_after net s g.pattern g.slopes g.step
 
   go_of : (s t : Standing) (g : Goes passes net bounds.horizon bounds.patterns s t) → WellRun net s
-      → CurvesGoOn net (curves_of (flow_of s)).inflows (curves_of (flow_of s)).labels s.time g.step.length (number_at g.flows) (number_at g.slopes) (curves_of (flow_of (next_of s t g))).inflows (curves_of (flow_of (next_of s t g))).labels
+      → CurvesGoOn net (curves_of (flow_of s)).inflows (curves_of (flow_of s)).labels s.time g.step.length (number_at g.flows) (number_at g.slopes)
+          (curves_of (flow_of (next_of s t g))).inflows (curves_of (flow_of (next_of s t g))).labels
   go_of s t g well =
       let first = g.finds.search.is_search.answers in
       curves_go passes net good bounds.horizon s g.pattern g.flows g.slopes g.step well g.finds.below
       (g.finds.search.is_search.is_listing.listed g.place g.pattern first.has_place) first.solution.solves first.solution.meets (parts_of passes net good bounds s t g well) g.is_length
 
   describe_of : (s t : Standing) (g : Goes passes net bounds.horizon bounds.patterns s t) → WellRun net s
-      → DescriptionCurvesGoOn net (at (curves_of (flow_of s)).labels) (at (curves_of (flow_of (next_of s t g))).labels) (curves_of (flow_of s)).outflows (curves_of (flow_of s)).queues s.time g.step.length
+      → DescriptionCurvesGoOn net (at (curves_of (flow_of s)).labels) (at (curves_of (flow_of (next_of s t g))).labels) (curves_of (flow_of s)).outflows
+          (curves_of (flow_of s)).queues s.time g.step.length
       (number_at g.flows) (number_at g.slopes) (curves_of (flow_of (next_of s t g))).outflows (curves_of (flow_of (next_of s t g))).queues
   describe_of s t g well =
       let first = g.finds.search.is_search.answers in
       description_goes passes net good bounds.horizon s g.pattern g.flows g.slopes g.step well g.finds.below
       (g.finds.search.is_search.is_listing.listed g.place g.pattern first.has_place) first.solution.solves first.solution.meets (parts_of passes net good bounds s t g well) g.is_length
 
-  values-kept : (s t : Standing) (g : Goes passes net bounds.horizon bounds.patterns s t) → WellRun net s → GoesOnFrom net (flow_of s) (flow_of (standing_after net s g.pattern g.slopes g.step))
+  values-kept : (s t : Standing) (g : Goes passes net bounds.horizon bounds.patterns s t) → WellRun net s
+      → GoesOnFrom net (flow_of s) (flow_of (standing_after net s g.pattern g.slopes g.step))
   values-kept s t g well = record {
-    reached = subst (λ (x : ℚ). s.time ≤ℚ x) (ap (λ (n : Standing). n.time) g.new_is) (≤ℚ_of_lt _ _ (IsPhase-some net bounds.horizon (s.time, s.labels) (t.time, t.labels) (IsPhase-goes passes net good bounds s t g well)));
+    reached = subst (λ (x : ℚ). s.time ≤ℚ x) (ap (λ (n : Standing). n.time) g.new_is)
+        (≤ℚ_of_lt _ _ (IsPhase-some net bounds.horizon (s.time, s.labels) (t.time, t.labels) (IsPhase-goes passes net good bounds s t g well)));
     labels = λ v departure h w. ((go_of s t g well).labels_go v h).before departure w;
     inflows = λ e link time p w. ⊎_elim
         (λ (m : 0ℚ <ℚ number_at g.slopes link.tail). ((go_of s t g well).inflows_go e link p m).before time w)
@@ -134,7 +138,8 @@ stands-ok : (r : Checked Standing) (s : Standing) → ◌≡◌ {A = Result Rest
 stands-ok (Ok x) s e = cc
 stands-ok (Err p) s e = absurd (cc)
 
-answer-yes : (passes : Passing) (net : Network) (report : Report) (answer : Answer ℕ ℕ ℚ) (s : Standing) → after_check passes net report answer ≡ Ok (Stands s) → restart_list passes net report ≡ Ok s
+answer-yes : (passes : Passing) (net : Network) (report : Report) (answer : Answer ℕ ℕ ℚ) (s : Standing)
+    → after_check passes net report answer ≡ Ok (Stands s) → restart_list passes net report ≡ Ok s
 answer-yes passes net report Yes s e = stands-ok (restart_list passes net report) s e
 answer-yes passes net report (No rule subject time left right) s e = absurd (cc)
 
@@ -145,7 +150,8 @@ list-stands passes net report s e =
     answer-yes passes net report a.between s a.next
 
 -- The report of a resumed run is an equilibrium, and has the values of the report that it continues.
-pub resumed-goes_on : (passes : Passing) (net : Network) (bounds : Bounds) (old : Report) (phases : ℕ) (report : Report) → IsNetwork net → Equilibrium net old.flow → IsResumedReport passes net bounds old phases report
+pub resumed-goes_on : (passes : Passing) (net : Network) (bounds : Bounds) (old : Report) (phases : ℕ) (report : Report) → IsNetwork net
+    → Equilibrium net old.flow → IsResumedReport passes net bounds old phases report
     → Equilibrium net report.flow × GoesOnFrom net old.flow report.flow
 resumed-goes_on passes net bounds old phases report good is r =
     let first : Restarted passes net good bounds old.flow r.run.first = restarted passes net good bounds old r.run.first is (list-stands passes net old r.run.first r.run.stands) in

@@ -24,7 +24,9 @@ use Rattle.nf_routes.specs.KeptList.{kept_result}
 
 module _ (passes : Passing) (net : Network) (routes : List Route) (horizon : ℚ) where
   abbrev pub ended_as : SoFar → List (List Point) → Routed
-  ended_as s travels = record { ends = map (end_or passes) s.links; links = map (loaded_or passes) s.links; entries = map (but_last passes) s.entries; arrivals = map last_entry s.entries; travels = travels }
+  ended_as s travels =
+      record { ends = map (end_or passes) s.links; links = map (loaded_or passes) s.links; entries = map (but_last passes) s.entries; arrivals =
+      map last_entry s.entries; travels = travels }
 
   abbrev after_loads : SoFar → Checked Routed
   after_loads s = each (λ (route : Route). travel_on passes horizon s.links route.links (departures horizon)) routes >>= λ travels. Ok (ended_as s travels)
@@ -39,21 +41,28 @@ module _ (passes : Passing) (net : Network) (routes : List Route) (horizon : ℚ
     loads = after_ok Load (all_loaded passes net routes horizon) after_loads s l
 
     module _ (links : List Loaded) (e : links ≡ map (loaded_or passes) s.links) where
-      travels-are : each (λ (route : Route). travel_on passes horizon s.links route.links (departures horizon)) routes ≡ each (λ (route : Route). travel_along passes horizon links route.links (departures horizon)) routes
-      travels-are = each_same (λ (route : Route). travel_on passes horizon s.links route.links (departures horizon)) (λ (route : Route). travel_along passes horizon links route.links (departures horizon))
-          (λ route. travel_on-is passes horizon s.links route.links (departures horizon) ∙ ap (λ (ls : List Loaded). travel_along passes horizon ls route.links (departures horizon)) (sym e)) routes
+      travels-are : each (λ (route : Route). travel_on passes horizon s.links route.links (departures horizon)) routes ≡ each
+          (λ (route : Route). travel_along passes horizon links route.links (departures horizon)) routes
+      travels-are = each_same (λ (route : Route). travel_on passes horizon s.links route.links (departures horizon))
+          (λ (route : Route). travel_along passes horizon links route.links (departures horizon))
+          (λ route. travel_on-is passes horizon s.links route.links (departures horizon)
+              ∙ ap (λ (ls : List Loaded). travel_along passes horizon ls route.links (departures horizon)) (sym e)) routes
 
-      pub travel_stops : (p : PassedAt ℚ) → at_part Load (each (λ (route : Route). travel_along passes horizon links route.links (departures horizon)) routes) ≡ Err p → at_part Load (routes_list passes net routes horizon) ≡ Err p
-      travel_stops p h = loads ∙ after_err Load (each (λ (route : Route). travel_on passes horizon s.links route.links (departures horizon)) routes) (λ travels. Ok (ended_as s travels)) p (ap (at_part Load) travels-are ∙ h)
+      pub travel_stops : (p : PassedAt ℚ) → at_part Load (each (λ (route : Route). travel_along passes horizon links route.links (departures horizon))
+          routes) ≡ Err p → at_part Load (routes_list passes net routes horizon) ≡ Err p
+      travel_stops p h = loads ∙ after_err Load (each (λ (route : Route). travel_on passes horizon s.links route.links (departures horizon)) routes)
+          (λ travels. Ok (ended_as s travels)) p (ap (at_part Load) travels-are ∙ h)
 
       pub list_comes : (travels : List (List Point)) → at_part Load (each (λ (route : Route). travel_along passes horizon links route.links (departures horizon)) routes) ≡ Ok travels
           → at_part Load (routes_list passes net routes horizon) ≡ Ok (ended_as s travels)
-      list_comes travels h = loads ∙ after_ok Load (each (λ (route : Route). travel_on passes horizon s.links route.links (departures horizon)) routes) (λ travels. Ok (ended_as s travels)) travels (ap (at_part Load) travels-are ∙ h)
+      list_comes travels h = loads ∙ after_ok Load (each (λ (route : Route). travel_on passes horizon s.links route.links (departures horizon)) routes)
+          (λ travels. Ok (ended_as s travels)) travels (ap (at_part Load) travels-are ∙ h)
 
 -- a value of its parts
 pub same_parts : {ends ends' : List ℚ} {links links' : List Loaded} {entries entries' : List (List (List Point))} {arrivals arrivals' travels : List (List Point)}
     → ends ≡ ends' → links ≡ links' → entries ≡ entries' → arrivals ≡ arrivals'
-    → ◌≡◌ {A = Routed} (record { ends = ends; links = links; entries = entries; arrivals = arrivals; travels = travels }) (record { ends = ends'; links = links'; entries = entries'; arrivals = arrivals'; travels = travels })
+    → ◌≡◌ {A = Routed} (record { ends = ends; links = links; entries = entries; arrivals = arrivals; travels = travels })
+        (record { ends = ends'; links = links'; entries = entries'; arrivals = arrivals'; travels = travels })
 same_parts {travels = travels} a b c d = λ i. record { ends = a i; links = b i; entries = c i; arrivals = d i; travels = travels }
 
 -- ---- what is kept of the result

@@ -80,7 +80,9 @@ loaded : routed_in (routes_list in_127_bits net routes (n 2))
       ((i 0, i 0) ∷ (i 2, i 0) ∷ (i 3, i 1) ∷ (i 4, i 1) ∷ []) ∷ ((i 0, i 0) ∷ (i 2, i 0) ∷ (i 5, i 3) ∷ [])
           ∷ ((i 0, i 1) ∷ (i 2, i 3) ∷ (i 3, i 5) ∷ (i 4, i 6) ∷ []) ∷ [],
     )
-unfolding routes_list loading_order next_entry checked_cumulative checked_loading checked_cut checked_value checked_short checked_slope checked_line checked_inverse checked_sum checked_composed both_times grown drained exit_after checked beyond whole ratio gcd neg_ℚ inv_ℚ ◌+ℚ◌ ◌-ℚ◌ ◌*ℚ◌ ◌/ℚ◌ le_ℚ lt_ℚ min_ℚ max_ℚ
+unfolding routes_list loading_order next_entry checked_cumulative checked_loading checked_cut checked_value checked_short checked_slope checked_line
+    checked_inverse checked_sum checked_composed both_times grown drained exit_after checked beyond whole ratio gcd neg_ℚ inv_ℚ ◌+ℚ◌ ◌-ℚ◌ ◌*ℚ◌ ◌/ℚ◌ le_ℚ
+    lt_ℚ min_ℚ max_ℚ
 loaded = refl
 
 by_route : routes_of (routes_list in_127_bits net routes (n 2))
@@ -88,5 +90,7 @@ by_route : routes_of (routes_list in_127_bits net routes (n 2))
       ((i 0, i 0) ∷ (i 2, i 0) ∷ (i 3, i 1) ∷ (i 5, i 2) ∷ (i 6, i 2) ∷ []) ∷ ((i 0, i 0) ∷ (i 3, i 0) ∷ (i 5, i 1) ∷ (i 6, i 2) ∷ []) ∷ [],
       ((i 0, i 2) ∷ (i 1, i 3) ∷ (i 2, i 5) ∷ []) ∷ ((i 0, i 3) ∷ (i 1, i 5) ∷ (i 2, i 6) ∷ []) ∷ [],
     )
-unfolding routes_list loading_order next_entry checked_cumulative checked_loading checked_cut checked_value checked_short checked_slope checked_line checked_inverse checked_sum checked_composed both_times grown drained exit_after checked beyond whole ratio gcd neg_ℚ inv_ℚ ◌+ℚ◌ ◌-ℚ◌ ◌*ℚ◌ ◌/ℚ◌ le_ℚ lt_ℚ min_ℚ max_ℚ
+unfolding routes_list loading_order next_entry checked_cumulative checked_loading checked_cut checked_value checked_short checked_slope checked_line
+    checked_inverse checked_sum checked_composed both_times grown drained exit_after checked beyond whole ratio gcd neg_ℚ inv_ℚ ◌+ℚ◌ ◌-ℚ◌ ◌*ℚ◌ ◌/ℚ◌ le_ℚ
+    lt_ℚ min_ℚ max_ℚ
 by_route = refl

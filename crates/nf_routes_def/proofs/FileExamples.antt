@@ -96,7 +96,8 @@ abbrev crossing : Named
 crossing = record named {
   net = record net {
     nodes = 4;
-    links = link 0 2 (n 1) (Some (n 1)) ∷ link 2 3 (n 1) (Some (n 1)) ∷ link 3 2 (n 1) (Some (n 1)) ∷ link 3 1 (n 1) (Some (n 1)) ∷ link 2 1 (n 1) (Some (n 1)) ∷ link 0 3 (n 1) (Some (n 1)) ∷ [];
+    links = link 0 2 (n 1) (Some (n 1)) ∷ link 2 3 (n 1) (Some (n 1)) ∷ link 3 2 (n 1) (Some (n 1)) ∷ link 3 1 (n 1) (Some (n 1)) ∷ link 2 1 (n 1)
+        (Some (n 1)) ∷ link 0 3 (n 1) (Some (n 1)) ∷ [];
   };
   node_names = codes "s" ∷ codes "t" ∷ codes "u" ∷ codes "v" ∷ [];
   link_names = codes "a" ∷ codes "b" ∷ codes "c" ∷ codes "d" ∷ codes "e" ∷ codes "f" ∷ [];
@@ -152,5 +153,7 @@ written : text (routes_list in_127_bits net routes (n 2)) ≡ text_of (codes "ro
     ∷ codes "travel one 0 2" ∷ codes "travel one 1 3" ∷ codes "travel one 2 5"
     ∷ codes "arrival two 0 0" ∷ codes "arrival two 3 0" ∷ codes "arrival two 5 1" ∷ codes "arrival two 6 2"
     ∷ codes "travel two 0 3" ∷ codes "travel two 1 5" ∷ codes "travel two 2 6" ∷ codes "end" ∷ [])
-unfolding routes_list loading_order next_entry checked_cumulative checked_loading checked_cut checked_value checked_short checked_slope checked_line checked_inverse checked_sum checked_composed both_times grown drained exit_after checked beyond printed printed_parts digits_of whole ratio gcd neg_ℚ inv_ℚ ◌+ℚ◌ ◌-ℚ◌ ◌*ℚ◌ ◌/ℚ◌ le_ℚ lt_ℚ min_ℚ max_ℚ
+unfolding routes_list loading_order next_entry checked_cumulative checked_loading checked_cut checked_value checked_short checked_slope checked_line
+    checked_inverse checked_sum checked_composed both_times grown drained exit_after checked beyond printed printed_parts digits_of whole ratio gcd neg_ℚ
+    inv_ℚ ◌+ℚ◌ ◌-ℚ◌ ◌*ℚ◌ ◌/ℚ◌ le_ℚ lt_ℚ min_ℚ max_ℚ
 written = refl

@@ -18,11 +18,15 @@ if_none false x s e f = f
 
 along-same : (f g : ℕ → ℚ) (e : ℕ) (links : List ℕ) → ((place : ℕ) → slice_get links place ≡ Some e → f place ≡ g place) → sent_along f e links ≡ sent_along g e links
 along-same f g e [] h = refl
-along-same f g e (l ∷ links) h = if_same (eqb l e) (f 0) (g 0) _ _ (λ t. h 0 (ap (λ (x : ℕ). Some x) (eqb-true l e t))) (along-same (λ p. f (suc p)) (λ p. g (suc p)) e links (λ p k. h (suc p) k))
+along-same f g e (l ∷ links) h =
+    if_same (eqb l e) (f 0) (g 0) _ _ (λ t. h 0 (ap (λ (x : ℕ). Some x) (eqb-true l e t)))
+    (along-same (λ p. f (suc p)) (λ p. g (suc p)) e links (λ p k. h (suc p) k))
 
 pub along-le : (f g : ℕ → ℚ) (e : ℕ) (links : List ℕ) → ((place : ℕ) → slice_get links place ≡ Some e → f place ≤ℚ g place) → sent_along f e links ≤ℚ sent_along g e links
 along-le f g e [] h = ≤ℚ_refl 0ℚ
-along-le f g e (l ∷ links) h = if_order (eqb l e) (f 0) (g 0) _ _ (λ t. h 0 (ap (λ (x : ℕ). Some x) (eqb-true l e t))) (along-le (λ p. f (suc p)) (λ p. g (suc p)) e links (λ p k. h (suc p) k))
+along-le f g e (l ∷ links) h =
+    if_order (eqb l e) (f 0) (g 0) _ _ (λ t. h 0 (ap (λ (x : ℕ). Some x) (eqb-true l e t)))
+    (along-le (λ p. f (suc p)) (λ p. g (suc p)) e links (λ p k. h (suc p) k))
 
 pub along-none : (f : ℕ → ℚ) (e : ℕ) (links : List ℕ) → ((place : ℕ) → slice_get links place ≡ Some e → f place ≡ 0ℚ) → sent_along f e links ≡ 0ℚ
 along-none f e [] h = refl
@@ -33,15 +37,20 @@ Each routes e P = (r place : ℕ) (route : Route) → slice_get routes r ≡ Som
 
 routes-same : (f g : ℕ → ℕ → ℚ) (e : ℕ) (routes : List Route) → Each routes e (λ r place. f r place ≡ g r place) → sent_by_routes f e routes ≡ sent_by_routes g e routes
 routes-same f g e [] h = refl
-routes-same f g e (route ∷ routes) h = same_sums _ _ _ _ (along-same (f 0) (g 0) e route.links (λ p k. h 0 p route refl k)) (routes-same (λ r. f (suc r)) (λ r. g (suc r)) e routes (λ r p x k l. h (suc r) p x k l))
+routes-same f g e (route ∷ routes) h =
+    same_sums _ _ _ _ (along-same (f 0) (g 0) e route.links (λ p k. h 0 p route refl k))
+    (routes-same (λ r. f (suc r)) (λ r. g (suc r)) e routes (λ r p x k l. h (suc r) p x k l))
 
 pub routes-le : (f g : ℕ → ℕ → ℚ) (e : ℕ) (routes : List Route) → Each routes e (λ r place. f r place ≤ℚ g r place) → sent_by_routes f e routes ≤ℚ sent_by_routes g e routes
 routes-le f g e [] h = ≤ℚ_refl 0ℚ
-routes-le f g e (route ∷ routes) h = sum_le _ _ _ _ (along-le (f 0) (g 0) e route.links (λ p k. h 0 p route refl k)) (routes-le (λ r. f (suc r)) (λ r. g (suc r)) e routes (λ r p x k l. h (suc r) p x k l))
+routes-le f g e (route ∷ routes) h =
+    sum_le _ _ _ _ (along-le (f 0) (g 0) e route.links (λ p k. h 0 p route refl k))
+    (routes-le (λ r. f (suc r)) (λ r. g (suc r)) e routes (λ r p x k l. h (suc r) p x k l))
 
 pub routes-none : (f : ℕ → ℕ → ℚ) (e : ℕ) (routes : List Route) → Each routes e (λ r place. f r place ≡ 0ℚ) → sent_by_routes f e routes ≡ 0ℚ
 routes-none f e [] h = refl
-routes-none f e (route ∷ routes) h = both_are_zero _ _ (along-none (f 0) e route.links (λ p k. h 0 p route refl k)) (routes-none (λ r. f (suc r)) e routes (λ r p x k l. h (suc r) p x k l))
+routes-none f e (route ∷ routes) h =
+    both_are_zero _ _ (along-none (f 0) e route.links (λ p k. h 0 p route refl k)) (routes-none (λ r. f (suc r)) e routes (λ r p x k l. h (suc r) p x k l))
 
 -- the links of a walk are links of the network
 pub walk-links : (net : Network) (walk : List ℕ) (v w place e : ℕ) → IsWalk (hops net) walk v w → slice_get walk place ≡ Some e → (link : Link) × IsLink net e link
@@ -49,7 +58,8 @@ walk-links net [] v w place e k h = absurd (cc)
 walk-links net (f ∷ walk) v w zero e k h = let l = link_at net f k.0 k.1 in (l.0, ap (λ (x : ℕ). slice_get net.links x) (sym (same_Some f e h)) ∙ l.1)
 walk-links net (f ∷ walk) v w (suc place) e k h = walk-links net walk k.0.head w place e k.3 h
 
-module _ (net : Network) (routes : List Route) (horizon : ℚ) (routed : Routed) (good : IsNetwork net) (are : AreRoutes net routes) (from_0 : 0ℚ ≤ℚ horizon) (is : IsRouted net routes horizon routed) where
+module _ (net : Network) (routes : List Route) (horizon : ℚ) (routed : Routed) (good : IsNetwork net) (are : AreRoutes net routes) (from_0 : 0ℚ ≤ℚ horizon)
+    (is : IsRouted net routes horizon routed) where
   abbrev E : ℕ → ℚ
   E e = number_at routed.ends e
 
@@ -79,7 +89,9 @@ module _ (net : Network) (routes : List Route) (horizon : ℚ) (routed : Routed)
       (exits e link s p (h, ≤ℚ_trans _ _ _ k j)) (exits e link t p (≤ℚ_trans _ _ _ h k, j))
 
   exit-forward : (e : ℕ) (link : Link) (t : ℚ) → IsLink net e link → Within 0ℚ (E e) t → t ≤ℚ X e t
-  exit-forward e link t p w = first_of_sum t link.transit (X e t) (good.transits e link p) (IsExit-after link.transit link.capacity (inflow_by routes routed e) t (X e t) (IsPositive-link net e link good p) (exits e link t p w))
+  exit-forward e link t p w =
+      first_of_sum t link.transit (X e t) (good.transits e link p) (IsExit-after link.transit link.capacity (inflow_by routes routed e) t (X e t)
+      (IsPositive-link net e link good p) (exits e link t p w))
 
   -- each time between two exits is an exit
   entry_of : (e : ℕ) (link : Link) (z : ℚ) → IsLink net e link → X e 0ℚ ≤ℚ z → z ≤ℚ X e (E e) → (t : ℚ) × Within 0ℚ (E e) t × (X e t ≡ z)
@@ -111,7 +123,8 @@ module _ (net : Network) (routes : List Route) (horizon : ℚ) (routed : Routed)
         let l = link_of place e (at_place place e (f ∷ rest) h) in
         let m = link_of (suc place) f (at_place (suc place) f rest (from_next place e (f ∷ rest) h)) in
         ≤ℚ_trans _ _ _ (exit-order e l.0 t (E e) l.1 i j (≤ℚ_refl (E e)))
-        ((is.ends f (within f m.0 m.1)).before e (record { number = r; place = place; route = route; is_route = here; here = at_place place e (f ∷ rest) h; next = at_place (suc place) f rest (from_next place e (f ∷ rest) h) }))
+        ((is.ends f (within f m.0 m.1)).before e (record { number = r; place = place; route = route; is_route = here; here =
+            at_place place e (f ∷ rest) h; next = at_place (suc place) f rest (from_next place e (f ∷ rest) h) }))
 
     some_none : (o : Option ℕ) (x : ℕ) → o ≡ Some x → o ≡ None → ⊥
     some_none o x e f = cc
@@ -124,7 +137,8 @@ module _ (net : Network) (routes : List Route) (horizon : ℚ) (routed : Routed)
       where
         past : (place : ℕ) → slice_get route.links place ≡ None → length route.links ≤ place
         past place none = ⊎_elim
-            (λ (w : (x : ℕ) × (place < length route.links) × (slice_get route.links place ≡ Some x) × (get_or route.links place x ≡ x)). absurd (some_none (slice_get route.links place) w.0 w.2 none))
+            (λ (w : (x : ℕ) × (place < length route.links) × (slice_get route.links place ≡ Some x) × (get_or route.links place x ≡ x)). absurd
+                (some_none (slice_get route.links place) w.0 w.2 none))
             (λ (w : (length route.links ≤ place) × (slice_get route.links place ≡ None)). w.0)
             (slice_get_cases route.links place).1
 
@@ -157,13 +171,15 @@ module _ (net : Network) (routes : List Route) (horizon : ℚ) (routed : Routed)
         let l = link_of place e h in
         let u : (u : ℚ) × Within 0ℚ (E e) u × (X e u ≡ z) = entry_of e l.0 z l.1 (≤ℚ_trans _ _ _ (exit-order e l.0 0ℚ t l.1 (≤ℚ_refl 0ℚ) i j) k) (≤ℚ_of_lt _ _ m) in
         ⊎_elim
-        (λ (n : u.0 <ℚ t). ap (S r (suc place)) (≤ℚ_antisymm z (X e t) (subst (λ (x : ℚ). x ≤ℚ X e t) u.2 (exit-order e l.0 u.0 t l.1 u.1.0 (≤ℚ_of_lt _ _ n) j)) k) ∙ is.next r place e route t here h (i, j) ∙ all t (≤ℚ_refl t))
+        (λ (n : u.0 <ℚ t). ap (S r (suc place)) (≤ℚ_antisymm z (X e t) (subst (λ (x : ℚ). x ≤ℚ X e t) u.2
+            (exit-order e l.0 u.0 t l.1 u.1.0 (≤ℚ_of_lt _ _ n) j)) k) ∙ is.next r place e route t here h (i, j) ∙ all t (≤ℚ_refl t))
         (λ (n : t ≤ℚ u.0). ap (S r (suc place)) (sym u.2) ∙ is.next r place e route u.0 here h u.1 ∙ all u.0 n)
         (lt_or_le_ℚ u.0 t))
         (λ (m : X e (E e) ≤ℚ z). is.next_after r place e route z here h m ∙ all (E e) j)
         (lt_or_le_ℚ z (X e (E e)))
 
-    ended : (rest : List ℕ) (place : ℕ) (t : ℚ) → From place rest → 0ℚ ≤ℚ t → Fits rest t → Ended place t → (z : ℚ) → exits_along routed rest t ≤ℚ z → value (arrival_at routed r) z ≡ supplied route.pieces horizon
+    ended : (rest : List ℕ) (place : ℕ) (t : ℚ) → From place rest → 0ℚ ≤ℚ t → Fits rest t → Ended place t → (z : ℚ) → exits_along routed rest t ≤ℚ z
+        → value (arrival_at routed r) z ≡ supplied route.pieces horizon
     unfolding Ended
     ended [] place t h i j all z k = sym (arrival-is place z h) ∙ all z k
     ended (e ∷ rest) place t h i j all z k =

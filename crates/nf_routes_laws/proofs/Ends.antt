@@ -53,7 +53,8 @@ turning-one (q ∷ rest) [] t w = w
 turning-one (q ∷ rest) (a ∷ []) t w = w
 turning-one (q ∷ rest) (a ∷ b ∷ slopes) t w = by (is_same a b) w (λ v. turning-one rest (b ∷ slopes) t v)
   where
-    by : (c : Bool) → IsOne t (times_of (if c then turning rest (b ∷ slopes) else q ∷ turning rest (b ∷ slopes))) → (IsOne t (times_of (turning rest (b ∷ slopes))) → IsOne t (times_of rest)) → (t ≡ q.0) ⊎ IsOne t (times_of rest)
+    by : (c : Bool) → IsOne t (times_of (if c then turning rest (b ∷ slopes) else q ∷ turning rest (b ∷ slopes)))
+        → (IsOne t (times_of (turning rest (b ∷ slopes))) → IsOne t (times_of rest)) → (t ≡ q.0) ⊎ IsOne t (times_of rest)
     by true w later = inr (later w)
     by false (inl e) later = inl e
     by false (inr w) later = inr (later w)
@@ -92,7 +93,8 @@ module _ (passes : Passing) (last : ℚ) where
       let sum = then_ok (with_piece passes so_far piece (end_of later last)) _ points e' in
       let rest = then_ok (cumulative_from passes sum.between later last) _ points sum.next in
       ⊎_elim
-      (λ (x : IsOne t (times_of (point_if_after_0 piece.start so_far))). ≤ℚ_trans _ _ _ (≤ℚ_of_same t piece.start (point-time (is_zero piece.start) piece.start so_far t x)) (≤ℚ_of_lt _ _ v.1))
+      (λ (x : IsOne t (times_of (point_if_after_0 piece.start so_far))). ≤ℚ_trans _ _ _
+          (≤ℚ_of_same t piece.start (point-time (is_zero piece.start) piece.start so_far t x)) (≤ℚ_of_lt _ _ v.1))
       (λ (x : IsOne t (times_of rest.between)). from-upto sum.between later rest.between rest.first t x)
       (one-either (point_if_after_0 piece.start so_far) rest.between t (subst (λ (l : List Point). IsOne t (times_of l)) (sym (same_Ok _ _ rest.next)) w)))
       (λ (v : (lt_ℚ piece.start last ≡ false) × (last ≤ℚ piece.start)).
@@ -110,10 +112,12 @@ module _ (passes : Passing) (last : ℚ) where
       first rest later (inr w) = later w
 
 -- ---- the exit of a link that is loaded
-pub loading-ends : (passes : Passing) (transit : ℚ) (capacity : Option ℚ) (inflow : List Point) (last : ℚ) (loaded : Loaded) → IsCurve inflow → NeverFalls (value inflow) → 0ℚ ≤ℚ transit → IsPositive capacity → 0ℚ ≤ℚ last
+pub loading-ends : (passes : Passing) (transit : ℚ) (capacity : Option ℚ) (inflow : List Point) (last : ℚ) (loaded : Loaded) → IsCurve inflow
+    → NeverFalls (value inflow) → 0ℚ ≤ℚ transit → IsPositive capacity → 0ℚ ≤ℚ last
     → checked_loading passes transit capacity inflow last ≡ Ok loaded → EndsAtTime last loaded.exit
 loading-ends passes transit capacity inflow last loaded c rises waits_0 positive from_0 e =
-    let x : ExitPoints passes transit capacity inflow last loaded c rises waits_0 positive from_0 = exit_points passes transit capacity inflow last loaded c rises waits_0 positive from_0 e in
+    let x : ExitPoints passes transit capacity inflow last loaded c rises waits_0 positive from_0 =
+        exit_points passes transit capacity inflow last loaded c rises waits_0 positive from_0 e in
     checked_short-end passes (x.first ∷ x.rest) loaded.exit last (follows-end (exit_at transit capacity inflow c) last x.first x.rest x.follows) x.short
 
 -- ---- the next entry
@@ -154,7 +158,8 @@ module _ (passes : Passing) (exit entry : List Point) (last : ℚ) (can : CanSha
   both-up : (t : ℚ) → IsOne t (both_times entry exit) → t ≤ℚ last
   both-up t w = ⊎_elim (λ (h : IsOne t (times_of entry)). entry_up t h) (λ (h : IsOne t (times_of exit)). exit_up t h) (both_times-either entry exit t w)
 
-  sides-right : (times : List ℚ) (sides : List Sides) → ((t : ℚ) → IsOne t times → (0ℚ ≤ℚ t) × (t ≤ℚ last)) → each (sides_at passes entry exit) times ≡ Ok sides → AllRight sides (value exit last)
+  sides-right : (times : List ℚ) (sides : List Sides) → ((t : ℚ) → IsOne t times → (0ℚ ≤ℚ t) × (t ≤ℚ last))
+      → each (sides_at passes entry exit) times ≡ Ok sides → AllRight sides (value exit last)
   sides-right [] sides all e = subst (λ (l : List Sides). AllRight l (value exit last)) (same_Ok _ _ e) tt
   sides-right (t ∷ times) sides all e =
       let s = then_ok (sides_at passes entry exit t) _ sides e in

@@ -29,7 +29,8 @@ pub record IsFirst (pieces : List Piece) (horizon : ℚ) (points : List Point) :
   pub values : (t : ℚ) → Within 0ℚ horizon t → value points t ≡ supplied pieces t
   pub after : (t : ℚ) → horizon ≤ℚ t → value points t ≡ supplied pieces horizon
 
-pub first-is : (passes : Passing) (pieces : List Piece) (horizon : ℚ) (amounts points : List Point) → ArePieces pieces → 0ℚ ≤ℚ horizon → checked_cumulative passes pieces horizon ≡ Ok amounts
+pub first-is : (passes : Passing) (pieces : List Piece) (horizon : ℚ) (amounts points : List Point) → ArePieces pieces → 0ℚ ≤ℚ horizon
+    → checked_cumulative passes pieces horizon ≡ Ok amounts
     → checked_short passes amounts ≡ Ok points → IsFirst pieces horizon points
 first-is passes pieces horizon amounts points good h e f =
     let c : IsCumulative pieces horizon amounts = checked_cumulative-is passes pieces horizon good h amounts e in
@@ -47,7 +48,8 @@ first-is passes pieces horizon amounts points good h e f =
     }
 
 -- ---- into the next one
-module _ (passes : Passing) (exit entry next : List Point) (last : ℚ) (can : CanShare exit entry last) (entry_is : IsEntry entry last) (exit_up : UpTo exit last) (e : next_entry passes exit entry ≡ Ok next) where
+module _ (passes : Passing) (exit entry next : List Point) (last : ℚ) (can : CanShare exit entry last) (entry_is : IsEntry entry last)
+    (exit_up : UpTo exit last) (e : next_entry passes exit entry ≡ Ok next) where
   pub shared : IsSentOn exit entry last next
   shared = next_entry-is passes exit entry last can next e
 

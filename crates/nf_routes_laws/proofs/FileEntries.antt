@@ -28,7 +28,8 @@ of_route links (name ∷ one ∷ rest) = by (is_name name) refl
     some : 0 < length (map (place_of links) (one ∷ rest))
     some = let n : 0 < suc (length (map (place_of links) rest)) = omega arith in n
 
-    by : (b : Bool) → is_name name ≡ b → Entered (if not b then Err G7 else (if list_all (has_name links) (one ∷ rest) then Ok (RouteLine name (map (place_of links) (one ∷ rest))) else Err G8))
+    by : (b : Bool) → is_name name ≡ b → Entered (if not b then Err G7 else
+        (if list_all (has_name links) (one ∷ rest) then Ok (RouteLine name (map (place_of links) (one ∷ rest))) else Err G8))
     by true e = either (list_all (has_name links) (one ∷ rest)) (Ok (RouteLine name (map (place_of links) (one ∷ rest)))) (Err G8) (e, some) (λ e. cc)
     by false e = λ e. cc
 

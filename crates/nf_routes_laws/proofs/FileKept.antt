@@ -26,7 +26,8 @@ walk_of net [] v w k = eqb-true v w k
 walk_of net (e ∷ rest) v w k =
     by (slice_get net.links e) refl (and_parts (tail_is (slice_get net.links e) v) (is_walk net.links rest (head_of (slice_get net.links e)) w) k) (λ u. walk_of net rest u w)
   where
-    by : (o : Option Link) → slice_get net.links e ≡ o → (tail_is o v ≡ true) × (is_walk net.links rest (head_of o) w ≡ true) → ((u : ℕ) → is_walk net.links rest u w ≡ true → IsWalk (hops net) rest u w)
+    by : (o : Option Link) → slice_get net.links e ≡ o → (tail_is o v ≡ true) × (is_walk net.links rest (head_of o) w ≡ true)
+        → ((u : ℕ) → is_walk net.links rest u w ≡ true → IsWalk (hops net) rest u w)
         → IsWalk (hops net) (e ∷ rest) v w
     by None there p later = absurd (not_both false p.0 refl)
     by (Some link) there p later = (hop_of link, slice_get-image hop_of net.links e link there, eqb-true link.tail v p.0, later link.head p.1)
@@ -42,7 +43,8 @@ no_names : AreNames []
 unfolding IsDistinct
 no_names = record { each = refl; distinct = tt }
 
-names_stay : (routes : List NamedRoute) (r : ℕ) (named : NamedRoute) (piece : Piece) → slice_get routes r ≡ Some named → route_names (set routes r (longer named piece)) ≡ route_names routes
+names_stay : (routes : List NamedRoute) (r : ℕ) (named : NamedRoute) (piece : Piece) → slice_get routes r ≡ Some named
+    → route_names (set routes r (longer named piece)) ≡ route_names routes
 names_stay [] r named piece h = refl
 names_stay (x ∷ routes) zero named piece h = ap (λ (y : NamedRoute). y.name ∷ route_names routes) (sym (same_Some x named h))
 names_stay (x ∷ routes) (suc r) named piece h = ap (λ (l : List Name). x.name ∷ l) (names_stay routes r named piece h)
@@ -69,7 +71,8 @@ all_at {A} P xs i x all e = subst P (some (get_or xs i x) (sym (slice_get-get_or
     some y h = cc
 
 module _ (net : Network) (draft : RoutesDraft) (good : IsGood net draft) where
-  route_more : (name : Name) (links : List ℕ) → IsNew (RouteLine name links) → routes_rule_of net draft (RouteLine name links) ≡ None → IsGood net (routes_after draft (RouteLine name links))
+  route_more : (name : Name) (links : List ℕ) → IsNew (RouteLine name links) → routes_rule_of net draft (RouteLine name links) ≡ None
+      → IsGood net (routes_after draft (RouteLine name links))
   route_more name links new e =
       let walk = is_walk net.links links net.source net.sink in
       let a = rules_out (has_name (route_names draft.routes) name) G10 ((nat_le 100 (length draft.routes), G11) ∷ (not walk, G12) ∷ []) e in
@@ -80,7 +83,8 @@ module _ (net : Network) (draft : RoutesDraft) (good : IsGood net draft) where
       record {
         few = omega (arith, fewer, length-append draft.routes (route ∷ []));
         names = subst AreNames (sym (map-append (λ (r : NamedRoute). r.name) draft.routes (route ∷ []))) (names_more (route_names draft.routes) name good.names new.0 a.0);
-        each = All-push (IsGoodRoute net) draft.routes route good.each (record { walk = walk_of net links net.source net.sink (not-false walk d.0); some = new.1; pieces = tt; few = omega arith });
+        each = All-push (IsGoodRoute net) draft.routes route good.each (record { walk = walk_of net links net.source net.sink (not-false walk d.0); some =
+            new.1; pieces = tt; few = omega arith });
       }
 
   piece_more : (r : ℕ) (piece : Piece) → routes_rule_of net draft (RateLine r piece) ≡ None → IsGood net (routes_after draft (RateLine r piece))
@@ -105,7 +109,8 @@ module _ (net : Network) (draft : RoutesDraft) (good : IsGood net draft) where
 
 -- ---- lines, one after the other
 module _ (n : Named) where
-  entry_kept : (draft : RoutesDraft) (entry : RoutesEntry) (next : RoutesDraft) → IsNew entry → IsGood n.net draft → unless_rule (routes_rule_of n.net draft entry) (routes_after draft entry) ≡ Ok next → IsGood n.net next
+  entry_kept : (draft : RoutesDraft) (entry : RoutesEntry) (next : RoutesDraft) → IsNew entry → IsGood n.net draft
+      → unless_rule (routes_rule_of n.net draft entry) (routes_after draft entry) ≡ Ok next → IsGood n.net next
   entry_kept draft (RouteLine name links) next new good e =
       let w = no_rule (routes_rule_of n.net draft (RouteLine name links)) (routes_after draft (RouteLine name links)) next e in
       subst (IsGood n.net) w.1 (route_more n.net draft good name links new w.0)
@@ -128,18 +133,21 @@ module _ (n : Named) where
   draft_sound lines draft e =
       let none : IsGood n.net (routes_frame n).empty = record { few = omega arith; names = no_names; each = All-nil (IsGoodRoute n.net) } in
       let good = draft_kept (routes_frame n) (IsGood n.net) line_kept none lines draft e in
-      let walks = All-map IsWalkOf (λ (r : NamedRoute). r.route) draft.routes (All-weaker (IsGoodRoute n.net) (λ (r : NamedRoute). IsWalkOf r.route) (λ r g. g.walk) draft.routes good.each) in
+      let walks = All-map IsWalkOf (λ (r : NamedRoute). r.route) draft.routes
+          (All-weaker (IsGoodRoute n.net) (λ (r : NamedRoute). IsWalkOf r.route) (λ r g. g.walk) draft.routes good.each) in
       record {
         form = record {
           few = good.few;
           names = good.names;
-          each = λ r named there. let g = all_at (IsGoodRoute n.net) draft.routes r named good.each there in record { some = g.some; pieces = go_on_pieces named.route.pieces g.pieces; few = g.few };
+          each = λ r named there. let g = all_at (IsGoodRoute n.net) draft.routes r named good.each there in
+              record { some = g.some; pieces = go_on_pieces named.route.pieces g.pieces; few = g.few };
         };
         walks = record { each = λ r route there. all_at IsWalkOf (routes_of draft.routes) r route walks there };
       }
 
 -- ---- the pieces of their inflows
-route_at : (routes : List NamedRoute) (r : ℕ) (route : Route) → slice_get (routes_of routes) r ≡ Some route → (named : NamedRoute) × (slice_get routes r ≡ Some named) × (named.route ≡ route)
+route_at : (routes : List NamedRoute) (r : ℕ) (route : Route) → slice_get (routes_of routes) r ≡ Some route
+    → (named : NamedRoute) × (slice_get routes r ≡ Some named) × (named.route ≡ route)
 route_at [] r route h = absurd (none-some route h)
 route_at (x ∷ routes) zero route h = (x, refl, same_Some x.route route h)
 route_at (x ∷ routes) (suc r) route h = route_at routes r route h

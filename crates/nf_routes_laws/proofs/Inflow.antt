@@ -17,7 +17,8 @@ without_first : (b : Bool) (x s : ℚ) → b ≡ false → (if b then x +ℚ s e
 without_first true x s e = absurd (cc)
 without_first false x s e = refl
 
-pub along-once : (f : ℕ → ℚ) (e : ℕ) (links : List ℕ) (place : ℕ) → slice_get links place ≡ Some e → ((other : ℕ) → slice_get links other ≡ Some e → other ≡ place) → sent_along f e links ≡ f place
+pub along-once : (f : ℕ → ℚ) (e : ℕ) (links : List ℕ) (place : ℕ) → slice_get links place ≡ Some e
+    → ((other : ℕ) → slice_get links other ≡ Some e → other ≡ place) → sent_along f e links ≡ f place
 along-once f e [] place h once = absurd (cc)
 along-once f e (l ∷ links) zero h once = ⊎_elim
     (λ (w : (eqb l e ≡ true) × (l ≡ e)). with_first (eqb l e) (f 0) _ w.0 (along-none (λ p. f (suc p)) e links (λ p k. absurd (no p (once (suc p) k)))))
@@ -54,7 +55,8 @@ two_sums : (s n t a b : ℚ) → s ≡ n +ℚ b → n ≡ t +ℚ a → s ≡ t +
 two_sums s n t a b e f = linear_eq (s ∷ n ∷ t ∷ a ∷ b ∷ []) (eq e ∷ eq f ∷ []) (search reading_of) tt tt
 
 module _ (passes : Passing) (e : ℕ) where
-  add-is : (b : Bool) (total entry sum : List Point) (added : ℚ → ℚ) → IsCurve total → (b ≡ true → IsCurve entry × ((t : ℚ) → 0ℚ ≤ℚ t → value entry t ≡ added t)) → (b ≡ false → (t : ℚ) → added t ≡ 0ℚ)
+  add-is : (b : Bool) (total entry sum : List Point) (added : ℚ → ℚ) → IsCurve total
+      → (b ≡ true → IsCurve entry × ((t : ℚ) → 0ℚ ≤ℚ t → value entry t ≡ added t)) → (b ≡ false → (t : ℚ) → added t ≡ 0ℚ)
       → add_if passes b total entry ≡ Ok sum → IsSumWith total added sum
   add-is true total entry sum added c goes past h =
       let y = goes refl in
@@ -63,7 +65,8 @@ module _ (passes : Passing) (e : ℕ) where
   add-is false total entry sum added c goes past h =
       subst (λ (l : List Point). IsSumWith total added l) (same_Ok _ _ h) (record { curve = c; values = λ t k. sym (second_is_zero (value total t) (added t) (past refl t)) })
 
-  pub sum-is : (total : List Point) (routes : List Route) (entries : List (List (List Point))) (entered : ℕ → ℕ → ℚ → ℚ) (inflow : List Point) → IsCurve total → Enters e routes entries entered
+  pub sum-is : (total : List Point) (routes : List Route) (entries : List (List (List Point))) (entered : ℕ → ℕ → ℚ → ℚ) (inflow : List Point)
+      → IsCurve total → Enters e routes entries entered
       → sum_from passes e total routes entries ≡ Ok inflow → IsSumWith total (λ t. sent_by_routes (λ r place. entered r place t) e routes) inflow
   sum-is total [] entries entered inflow c w h =
       subst (λ (l : List Point). IsSumWith total (λ t. 0ℚ) l) (same_Ok _ _ h) (record { curve = c; values = λ t k. plus_zero (value total t) })
@@ -73,7 +76,8 @@ module _ (passes : Passing) (e : ℕ) where
       none e = omega arith
   sum-is total (x ∷ routes) (y ∷ entries) entered inflow c w h =
       let n = then_ok (add_if passes (goes_over x.links e) total (last_entry y)) _ inflow h in
-      let a : IsSumWith total (λ t. sent_along (λ p. entered 0 p t) e x.links) n.between = add-is (goes_over x.links e) total (last_entry y) n.between (λ t. sent_along (λ p. entered 0 p t) e x.links) c here none n.first in
+      let a : IsSumWith total (λ t. sent_along (λ p. entered 0 p t) e x.links) n.between =
+          add-is (goes_over x.links e) total (last_entry y) n.between (λ t. sent_along (λ p. entered 0 p t) e x.links) c here none n.first in
       let rest : IsSumWith n.between (λ t. sent_by_routes (λ r place. entered (suc r) place t) e routes) inflow =
       sum-is n.between routes entries (λ r. entered (suc r)) inflow a.curve later n.next in
       record { curve = rest.curve; values = λ t k. two_sums _ _ _ _ _ (rest.values t k) (a.values t k) }
@@ -92,7 +96,8 @@ module _ (passes : Passing) (e : ℕ) where
       none past t = along-none (λ p. entered 0 p t) e x.links (λ p k. absurd (not_both (goes_over x.links e) (over-at x.links p e k) past))
 
       later : Enters e routes entries (λ r. entered (suc r))
-      later = record { count = let k = w.count in less k; each = λ r place route i j. w.each (suc r) place route i j; once = λ r place other route i j k. w.once (suc r) place other route i j k }
+      later = record { count = let k = w.count in less k; each = λ r place route i j. w.each (suc r) place route i j; once =
+          λ r place other route i j k. w.once (suc r) place other route i j k }
         where
           less : length (y ∷ entries) ≡ length (x ∷ routes) → length entries ≡ length routes
           less e = omega arith

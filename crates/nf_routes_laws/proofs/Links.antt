@@ -29,12 +29,14 @@ pub record LinkIs (net : Network) (routes : List Route) (horizon : ℚ) (all : R
   pub exits_after : (t : ℚ) → Within 0ℚ (number_at all.ends e) t → t ≤ℚ exit_by all e t
   -- the routes over it: what they send into it, and on
   pub entries : (r place : ℕ) (route : Route) → slice_get routes r ≡ Some route → slice_get route.links place ≡ Some e → IsEntry (entry_at all r place) (number_at all.ends e)
-  pub nexts : (r place : ℕ) (route : Route) → slice_get routes r ≡ Some route → slice_get route.links place ≡ Some e → IsEntry (entry_at all r (suc place)) (exit_by all e (number_at all.ends e))
+  pub nexts : (r place : ℕ) (route : Route) → slice_get routes r ≡ Some route → slice_get route.links place ≡ Some e
+      → IsEntry (entry_at all r (suc place)) (exit_by all e (number_at all.ends e))
   pub shares : (r place : ℕ) (route : Route) → slice_get routes r ≡ Some route → slice_get route.links place ≡ Some e
       → IsSentOn (link_loaded all e).exit (entry_at all r place) (number_at all.ends e) (entry_at all r (suc place))
   pub firsts : (r : ℕ) (route : Route) → slice_get routes r ≡ Some route → slice_get route.links 0 ≡ Some e → IsFirst route.pieces horizon (entry_at all r 0)
 
-module _ (passes : Passing) (net : Network) (routes : List Route) (horizon : ℚ) (final : SoFar) (travels : List (List Point)) (good : IsNetwork net) (are : AreRoutes net routes) (from_0 : 0ℚ ≤ℚ horizon) where
+module _ (passes : Passing) (net : Network) (routes : List Route) (horizon : ℚ) (final : SoFar) (travels : List (List Point)) (good : IsNetwork net)
+    (are : AreRoutes net routes) (from_0 : 0ℚ ≤ℚ horizon) where
   abbrev all : Routed
   all = routed passes net routes horizon final travels
 
@@ -124,7 +126,8 @@ module _ (passes : Passing) (net : Network) (routes : List Route) (horizon : ℚ
         (exit_is s (h, ≤ℚ_trans _ _ _ k l)) (exit_is t (≤ℚ_trans _ _ _ h k, l))
 
     exits_after : (t : ℚ) → Within 0ℚ end t → t ≤ℚ value exit t
-    exits_after t w = first_of_sum t step.link.transit (value exit t) waits_0 (IsExit-after step.link.transit step.link.capacity (inflow_by routes all e) t (value exit t) positive (exit_is t w))
+    exits_after t w = first_of_sum t step.link.transit (value exit t) waits_0
+        (IsExit-after step.link.transit step.link.capacity (inflow_by routes all e) t (value exit t) positive (exit_is t w))
 
     -- ---- the routes share
     can : (r place : ℕ) (route : Route) → slice_get routes r ≡ Some route → slice_get route.links place ≡ Some e → CanShare exit (entry_at all r place) end
@@ -137,7 +140,8 @@ module _ (passes : Passing) (net : Network) (routes : List Route) (horizon : ℚ
           entry_ends = upto-none (entry_at all r place) end w.up_to;
           exit_ends = upto-none exit end exit_up;
           begins = w.begins;
-          first_exit = subst (λ (x : ℚ). 0ℚ ≤ℚ x) (sym (IsExit-at_0 step.link.transit step.link.capacity (inflow_by routes all e) (value exit 0ℚ) (exit_is 0ℚ (≤ℚ_refl 0ℚ, end_nn)))) waits_0;
+          first_exit = subst (λ (x : ℚ). 0ℚ ≤ℚ x) (sym (IsExit-at_0 step.link.transit step.link.capacity (inflow_by routes all e) (value exit 0ℚ)
+              (exit_is 0ℚ (≤ℚ_refl 0ℚ, end_nn)))) waits_0;
           exits_rise = exits_rise;
           shares = λ s t h k l same. shares-equal (λ r place u. sent_by all r place u) e routes step.link.transit step.link.capacity s t (value exit s) positive
               (λ r place route i j. (entered r place route i j).rises) h k (exit_is s (h, ≤ℚ_trans _ _ _ k l))
@@ -156,8 +160,10 @@ module _ (passes : Passing) (net : Network) (routes : List Route) (horizon : ℚ
       exits_rise = exits_rise;
       exits_after = exits_after;
       entries = entered;
-      nexts = λ r place route i j. next-is passes exit (entry_at all r place) (entry_at all r (suc place)) end (can r place route i j) (entered r place route i j) exit_up (step.over r place route i j).sends;
-      shares = λ r place route i j. shared passes exit (entry_at all r place) (entry_at all r (suc place)) end (can r place route i j) (entered r place route i j) exit_up (step.over r place route i j).sends;
+      nexts = λ r place route i j. next-is passes exit (entry_at all r place) (entry_at all r (suc place)) end (can r place route i j)
+          (entered r place route i j) exit_up (step.over r place route i j).sends;
+      shares = λ r place route i j. shared passes exit (entry_at all r place) (entry_at all r (suc place)) end (can r place route i j)
+          (entered r place route i j) exit_up (step.over r place route i j).sends;
       firsts = first;
     }
 

@@ -87,7 +87,8 @@ module _ (passes : Passing) (exit entry : List Point) (last : ℚ) (can : CanSha
   from-later a b points h k n less w = record {
     rises = rises;
     at_exit = λ t m j. ⊎_elim
-        (λ (l : b <ℚ t). value-after (X a, A a) (X b, A b) points (X t) (can.exits_rise b t (≤ℚ_trans _ _ _ h (≤ℚ_of_lt _ _ n.order)) (≤ℚ_of_lt _ _ l) j) ∙ w.at_exit t (≤ℚ_of_lt _ _ l) j)
+        (λ (l : b <ℚ t). value-after (X a, A a) (X b, A b) points (X t) (can.exits_rise b t (≤ℚ_trans _ _ _ h (≤ℚ_of_lt _ _ n.order)) (≤ℚ_of_lt _ _ l) j)
+            ∙ w.at_exit t (≤ℚ_of_lt _ _ l) j)
         (λ (l : t ≤ℚ b). value-line (X a, A a) (X b, A b) points (X t) rises (can.exits_rise t b (≤ℚ_trans _ _ _ h m) l k) ∙ part t m l)
         (lt_or_le_ℚ b t);
     after = λ z m. value-after (X a, A a) (X b, A b) points z (≤ℚ_trans _ _ _ (can.exits_rise b last (≤ℚ_trans _ _ _ h (≤ℚ_of_lt _ _ n.order)) k (≤ℚ_refl last)) m) ∙ w.after z m;
@@ -131,7 +132,8 @@ module _ (passes : Passing) (exit entry : List Point) (last : ℚ) (can : CanSha
       (is_same_cases (X a) sides.right)
 
   -- all times from one on
-  all-from : (a : ℚ) (later : List ℚ) (sides : List Sides) → 0ℚ ≤ℚ a → a ≤ℚ last → ((t : ℚ) → IsOne t later → t ≤ℚ last) → Next a later → each (sides_at passes entry exit) later ≡ Ok sides
+  all-from : (a : ℚ) (later : List ℚ) (sides : List Sides) → 0ℚ ≤ℚ a → a ≤ℚ last → ((t : ℚ) → IsOne t later → t ≤ℚ last) → Next a later
+      → each (sides_at passes entry exit) later ≡ Ok sides
       → From a (next_from (X a) sides)
   all-from a [] sides h k all n e = subst (λ (l : List Sides). From a (next_from (X a) l)) (same_Ok _ _ e) (from-last a h k n)
   all-from a (b ∷ later) sides h k all n e =
@@ -150,7 +152,8 @@ module _ (passes : Passing) (exit entry : List Point) (last : ℚ) (can : CanSha
     pub before : (z : ℚ) → Within 0ℚ (X 0ℚ) z → value points z ≡ 0ℚ
     pub after : (z : ℚ) → X last ≤ℚ z → value points z ≡ A last
 
-  all-first : (sides : Sides) (rest : List Sides) → AreSides entry exit can.entry_curve can.exit_curve 0ℚ sides → From 0ℚ (next_from (X 0ℚ) rest) → All ((0ℚ, 0ℚ) ∷ next_from 0ℚ (sides ∷ rest))
+  all-first : (sides : Sides) (rest : List Sides) → AreSides entry exit can.entry_curve can.exit_curve 0ℚ sides → From 0ℚ (next_from (X 0ℚ) rest)
+      → All ((0ℚ, 0ℚ) ∷ next_from 0ℚ (sides ∷ rest))
   all-first sides rest s w = ⊎_elim
       (λ (t : (is_same 0ℚ sides.right ≡ true) × (0ℚ ≡ sides.right)).
       let zero : 0ℚ ≡ X 0ℚ = t.1 ∙ s.right_is in
@@ -188,7 +191,8 @@ module _ (passes : Passing) (exit entry : List Point) (last : ℚ) (can : CanSha
             curve = (refl, rises);
             at_exit = λ t k. value-after (0ℚ, 0ℚ) (X 0ℚ, A 0ℚ) points (X t) (can.exits_rise 0ℚ t (≤ℚ_refl 0ℚ) k.0 k.1) ∙ w.at_exit t k.0 k.1;
             before = λ z k. value-line (0ℚ, 0ℚ) (X 0ℚ, A 0ℚ) points z rises k.1
-                ∙ level (slope (0ℚ, 0ℚ) (X 0ℚ, A 0ℚ)) z (no_slope (slope (0ℚ, 0ℚ) (X 0ℚ, A 0ℚ)) (X 0ℚ) (slope-times (0ℚ, 0ℚ) (X 0ℚ, A 0ℚ) less ∙ ap (λ (y : ℚ). y -ℚ 0ℚ) can.begins) less);
+                ∙ level (slope (0ℚ, 0ℚ) (X 0ℚ, A 0ℚ)) z (no_slope (slope (0ℚ, 0ℚ) (X 0ℚ, A 0ℚ)) (X 0ℚ)
+                    (slope-times (0ℚ, 0ℚ) (X 0ℚ, A 0ℚ) less ∙ ap (λ (y : ℚ). y -ℚ 0ℚ) can.begins) less);
             after = λ z k. value-after (0ℚ, 0ℚ) (X 0ℚ, A 0ℚ) points z (≤ℚ_trans _ _ _ (can.exits_rise 0ℚ last (≤ℚ_refl 0ℚ) can.from_0 (≤ℚ_refl last)) k) ∙ w.after z k;
           }
 

@@ -99,7 +99,8 @@ before-pair routes e f b = at routes b.number b.is_route
   where
     at : (routes : List Route) (r : ℕ) → slice_get routes r ≡ Some b.route → In (e, f) (all_pairs routes)
     at [] r h = absurd (cc)
-    at (x ∷ routes) zero h = in-front (e, f) (pairs_of x.links) (all_pairs routes) (subst (λ (y : Route). In (e, f) (pairs_of y.links)) (sym (same_Some x b.route h)) (place-pairs b.route.links b.place e f b.here b.next))
+    at (x ∷ routes) zero h = in-front (e, f) (pairs_of x.links) (all_pairs routes)
+        (subst (λ (y : Route). In (e, f) (pairs_of y.links)) (sym (same_Some x b.route h)) (place-pairs b.route.links b.place e f b.here b.next))
     at (x ∷ routes) (suc r) h = in-back (e, f) (pairs_of x.links) (all_pairs routes) (at routes r h)
 
 pair-before : (routes all : List Route) (shift : ℕ) (p : ℕ × ℕ) → ((r : ℕ) → slice_get routes r ≡ slice_get all (shift + r)) → In p (all_pairs routes) → PrecedesOnRoute all p.0 p.1
@@ -107,14 +108,16 @@ pair-before [] all shift p same h = absurd h
 pair-before (x ∷ routes) all shift p same h = ⊎_elim
     (λ (k : In p (pairs_of x.links)). let w = pair-places x.links p k in
     record { number = shift; place = w.0; route = x; is_route = ap (λ (n : ℕ). slice_get all n) (let n : shift ≡ shift + 0 = omega arith in n) ∙ sym (same 0); here = w.1; next = w.2 })
-    (λ (k : In p (all_pairs routes)). pair-before routes all (suc shift) p (λ r. same (suc r) ∙ ap (λ (n : ℕ). slice_get all n) (let n : shift + suc r ≡ suc shift + r = omega arith in n)) k)
+    (λ (k : In p (all_pairs routes)). pair-before routes all (suc shift) p
+        (λ r. same (suc r) ∙ ap (λ (n : ℕ). slice_get all n) (let n : shift + suc r ≡ suc shift + r = omega arith in n)) k)
     (in-either p (pairs_of x.links) (all_pairs routes) h)
 
 pub before-of : (routes : List Route) (p : ℕ × ℕ) → In p (all_pairs routes) → PrecedesOnRoute routes p.0 p.1
 before-of routes p h = pair-before routes routes 0 p (λ r. ap (λ (n : ℕ). slice_get routes n) (let n : r ≡ 0 + r = omega arith in n)) h
 
 -- ---- the lowest free link
-free-parts : (pairs : List (ℕ × ℕ)) (taken : List ℕ) (f : ℕ) → is_free pairs taken f ≡ true → (is_taken taken f ≡ false) × ((p : ℕ × ℕ) → In p pairs → p.1 ≡ f → is_taken taken p.0 ≡ true)
+free-parts : (pairs : List (ℕ × ℕ)) (taken : List ℕ) (f : ℕ) → is_free pairs taken f ≡ true
+    → (is_taken taken f ≡ false) × ((p : ℕ × ℕ) → In p pairs → p.1 ≡ f → is_taken taken p.0 ≡ true)
 free-parts pairs taken f h =
     let w = and_parts (not (is_taken taken f)) _ h in
     (not-true (is_taken taken f) w.0, λ p k e. need (eqb p.1 f) (is_taken taken p.0) (all-at (λ q. not (eqb q.1 f) || is_taken taken q.0) pairs p w.1 k) (same p.1 e))
@@ -153,7 +156,9 @@ unfolding IsDistinct
 distinct_none = tt
 
 link-below : (net : Network) (routes : List Route) → AreRoutes net routes → (e f : ℕ) → PrecedesOnRoute routes e f → e < length net.links
-link-below net routes are e f b = let l = walk-links net b.route.links net.source net.sink b.place e (are.walks b.number b.route b.is_route) b.here in slice_get_within net.links e l.0 l.1
+link-below net routes are e f b =
+    let l = walk-links net b.route.links net.source net.sink b.place e (are.walks b.number b.route b.is_route) b.here in
+    slice_get_within net.links e l.0 l.1
 
 -- ---- each link is taken, or there is a circle
 module _ (net : Network) (routes : List Route) (are : AreRoutes net routes) where
@@ -258,7 +263,8 @@ module _ (net : Network) (routes : List Route) (are : AreRoutes net routes) wher
           → ((is_taken taken e ≡ true) ⊎ In e (with_next o (λ f. order_from more pairs many (f ∷ taken)))) ⊎ HoldCircle routes
       by None none later = ⊎_elim
           (λ (k : is_taken taken e ≡ true). inl (inl k))
-          (λ (k : is_taken taken e ≡ false). inr (circle-back taken (λ f i. free-none pairs taken (range_with_len 0 many) f none (in-range 0 many f (omega arith) (let n : f < 0 + many = omega arith in n))) e h k))
+          (λ (k : is_taken taken e ≡ false). inr (circle-back taken (λ f i. free-none pairs taken (range_with_len 0 many) f none
+              (in-range 0 many f (omega arith) (let n : f < 0 + many = omega arith in n))) e h k))
           (true_or_false (is_taken taken e))
       by (Some f) some later =
           let w = free-some pairs taken (range_with_len 0 many) f some in
@@ -320,7 +326,8 @@ module _ (routes : List Route) (many : ℕ) where
       head-of x y xs ys h = (cc, cc)
 
       by : (o : Option ℕ) → first_free pairs' taken (range_with_len 0 many) ≡ o → (front : List ℕ) → with_next o (λ f. order_from more pairs' many (f ∷ taken)) ≡ front ++ e ∷ back
-          → ((f : ℕ) (front' : List ℕ) → order_from more pairs' many (f ∷ taken) ≡ front' ++ e ∷ back → (In e (front' ++ f ∷ taken) → ⊥) × ((g : ℕ) → PrecedesOnRoute routes g e → In g (front' ++ f ∷ taken)))
+          → ((f : ℕ) (front' : List ℕ) → order_from more pairs' many (f ∷ taken) ≡ front' ++ e ∷ back
+              → (In e (front' ++ f ∷ taken) → ⊥) × ((g : ℕ) → PrecedesOnRoute routes g e → In g (front' ++ f ∷ taken)))
           → (In e (front ++ taken) → ⊥) × ((f : ℕ) → PrecedesOnRoute routes f e → In f (front ++ taken))
       by None none [] h later = absurd (cc)
       by None none (x ∷ front) h later = absurd (cc)
@@ -337,7 +344,8 @@ module _ (routes : List Route) (many : ℕ) where
         where
           moved : (e : ℕ) (front : List ℕ) {f x : ℕ} → f ≡ x → In e (x ∷ front ++ taken) → In e (front ++ f ∷ taken)
           moved e front {f} {x} same (inl k) = in-back e front (f ∷ taken) (inl (k ∙ sym same))
-          moved e front {f} {x} same (inr k) = ⊎_elim (λ (v : In e front). in-front e front (f ∷ taken) v) (λ (v : In e taken). in-back e front (f ∷ taken) (inr v)) (in-either e front taken k)
+          moved e front {f} {x} same (inr k) = ⊎_elim (λ (v : In e front). in-front e front (f ∷ taken) v)
+              (λ (v : In e taken). in-back e front (f ∷ taken) (inr v)) (in-either e front taken k)
 
           moved_back : (e : ℕ) (front : List ℕ) {f x : ℕ} → f ≡ x → In e (front ++ f ∷ taken) → In e (x ∷ front ++ taken)
           moved_back e front {f} {x} same k = ⊎_elim
@@ -365,7 +373,9 @@ module _ (routes : List Route) (many : ℕ) where
   pub circle-left : (e : ℕ) (between : List ℕ) → e < many → LeadsOverRoutes routes e between e → takes_all many routes ≡ true → ⊥
   unfolding takes_all loading_order
   circle-left e between h way all =
-      let s = split (order_from many pairs' many []) e (taken-in (order_from many pairs' many []) e (all-at (λ f. is_taken (order_from many pairs' many []) f) (range_with_len 0 many) e all (in-range 0 many e (omega arith) (let n : e < 0 + many = omega arith in n)))) in
+      let s = split (order_from many pairs' many []) e (taken-in (order_from many pairs' many []) e
+          (all-at (λ f. is_taken (order_from many pairs' many []) f) (range_with_len 0 many) e all
+          (in-range 0 many e (omega arith) (let n : e < 0 + many = omega arith in n)))) in
       (placed many [] s.0 e s.1 s.2).0 (in-front e s.0 [] (led between e e s.0 s.1 s.2 way))
 
 pub none-circle : (net : Network) (routes : List Route) → AreRoutes net routes → takes_all (length net.links) routes ≡ true → HoldCircle routes → ⊥

@@ -19,13 +19,16 @@ use Rattle.nf_routes_laws.proofs.Unrolled.{order, routed, RouteStands, Unrolled,
 use Rattle.nf_rational_laws.proofs.Naturals.{compared}
 
 -- ---- the order takes each link
-all-ordered : (passes : Passing) (net : Network) (routes : List Route) (horizon : ℚ) → AreRoutes net routes → (HoldCircle routes → ⊥) → (e : ℕ) → e < length net.links → In e (order passes net routes horizon)
+all-ordered : (passes : Passing) (net : Network) (routes : List Route) (horizon : ℚ) → AreRoutes net routes → (HoldCircle routes → ⊥) → (e : ℕ)
+    → e < length net.links → In e (order passes net routes horizon)
 unfolding takes_all loading_order
 all-ordered passes net routes horizon are straight e h =
-    taken-in (order passes net routes horizon) e (all-at (λ f. is_taken (order passes net routes horizon) f) (range_with_len 0 (length net.links)) e (takes_all-straight net routes are straight)
+    taken-in (order passes net routes horizon) e (all-at (λ f. is_taken (order passes net routes horizon) f) (range_with_len 0 (length net.links)) e
+        (takes_all-straight net routes are straight)
     (in-range 0 (length net.links) e (omega arith) (let n : e < 0 + length net.links = omega arith in n)))
 
-module _ (passes : Passing) (net : Network) (routes : List Route) (horizon : ℚ) (final : SoFar) (travels : List (List Point)) (good : IsNetwork net) (are : AreRoutes net routes) (straight : HoldCircle routes → ⊥) (from_0 : 0ℚ ≤ℚ horizon)
+module _ (passes : Passing) (net : Network) (routes : List Route) (horizon : ℚ) (final : SoFar) (travels : List (List Point)) (good : IsNetwork net)
+    (are : AreRoutes net routes) (straight : HoldCircle routes → ⊥) (from_0 : 0ℚ ≤ℚ horizon)
     (done : Unrolled passes net routes horizon final travels [] (record { links = map (λ _. None) net.links; entries = map (λ _. []) routes }) (order passes net routes horizon))
     (travelled : each (λ (route : Route). travel_on passes horizon final.links route.links (departures horizon)) routes ≡ Ok travels) where
   abbrev all : Routed
@@ -69,7 +72,8 @@ module _ (passes : Passing) (net : Network) (routes : List Route) (horizon : ℚ
         whole : rs.n ≡ length route.links
         whole = ⊎_elim
             (λ (l : rs.n < length route.links). absurd (more_left l))
-            (λ (l : (rs.n ≡ length route.links) ⊎ (length route.links < rs.n)). ⊎_elim (λ (k : rs.n ≡ length route.links). k) (λ (k : length route.links < rs.n). let w = rs.stands.within in absurd (omega arith)) l)
+            (λ (l : (rs.n ≡ length route.links) ⊎ (length route.links < rs.n)). ⊎_elim (λ (k : rs.n ≡ length route.links). k)
+                (λ (k : length route.links < rs.n). let w = rs.stands.within in absurd (omega arith)) l)
             (compared rs.n (length route.links))
 
         staged : (n m : ℕ) → 0 < m → n ≡ m → stage n ≡ suc m
@@ -161,8 +165,10 @@ module _ (passes : Passing) (net : Network) (routes : List Route) (horizon : ℚ
         (IsExit-same is.link.transit is.link.capacity (value is.inflow) (inflow_by routes all e) t (exit_by all e t) (λ u k. is.amounts u k.0) (is.loaded.exit_values t w))
 
     outflow_is : (t : ℚ) → Within 0ℚ (number_at all.ends e +ℚ l.transit) t → IsOutflow l.transit l.capacity (inflow_by routes all e) t (value (link_loaded all e).outflow t)
-    outflow_is t w = subst (λ (k : Link). Within 0ℚ (number_at all.ends e +ℚ k.transit) t → IsOutflow k.transit k.capacity (inflow_by routes all e) t (value (link_loaded all e).outflow t)) same_link
-        (λ v. IsOutflow-same is.link.transit is.link.capacity (value is.inflow) (inflow_by routes all e) t (value (link_loaded all e).outflow t) (λ u k. is.amounts u k.0) (is.loaded.outflow_values t v)) w
+    outflow_is t w = subst (λ (k : Link). Within 0ℚ (number_at all.ends e +ℚ k.transit) t
+        → IsOutflow k.transit k.capacity (inflow_by routes all e) t (value (link_loaded all e).outflow t)) same_link
+        (λ v. IsOutflow-same is.link.transit is.link.capacity (value is.inflow) (inflow_by routes all e) t (value (link_loaded all e).outflow t)
+            (λ u k. is.amounts u k.0) (is.loaded.outflow_values t v)) w
 
   -- ---- all of it
   pub is-routed : IsRouted net routes horizon all
@@ -192,21 +198,26 @@ module _ (passes : Passing) (net : Network) (routes : List Route) (horizon : ℚ
   }
 
 -- if no operation passes, the operation sequence gives the loading by route
-pub routes_list-is : (passes : Passing) (net : Network) (routes : List Route) (horizon : ℚ) (result : Routed) → IsNetwork net → AreRoutes net routes → (HoldCircle routes → ⊥) → 0ℚ ≤ℚ horizon
+pub routes_list-is : (passes : Passing) (net : Network) (routes : List Route) (horizon : ℚ) (result : Routed) → IsNetwork net → AreRoutes net routes
+    → (HoldCircle routes → ⊥) → 0ℚ ≤ℚ horizon
     → routes_list passes net routes horizon ≡ Ok result → IsRouted net routes horizon result
 unfolding routes_list loading_order
 routes_list-is passes net routes horizon result good are straight from_0 h =
-    let final = then_ok (load_all passes net routes horizon (order passes net routes horizon) (record { links = map (λ _. None) net.links; entries = map (λ _. []) routes })) _ result h in
+    let final = then_ok (load_all passes net routes horizon (order passes net routes horizon)
+        (record { links = map (λ _. None) net.links; entries = map (λ _. []) routes })) _ result h in
     let travels = then_ok (each (λ (route : Route). travel_on passes horizon final.between.links route.links (departures horizon)) routes) _ result final.next in
     subst (λ (x : Routed). IsRouted net routes horizon x) (same_Ok _ _ travels.next)
-    (is-routed passes net routes horizon final.between travels.between good are straight from_0 (unrolled passes net routes horizon final.between travels.between final.first) travels.first)
+    (is-routed passes net routes horizon final.between travels.between good are straight from_0
+        (unrolled passes net routes horizon final.between travels.between final.first) travels.first)
 
 -- ---- the routes over a link send on its outflow
-pub nexts-outflow : (net : Network) (routes : List Route) (horizon : ℚ) (routed : Routed) (e : ℕ) (link : Link) (time : ℚ) → IsNetwork net → AreRoutes net routes → 0ℚ ≤ℚ horizon → IsRouted net routes horizon routed → IsLink net e link
+pub nexts-outflow : (net : Network) (routes : List Route) (horizon : ℚ) (routed : Routed) (e : ℕ) (link : Link) (time : ℚ) → IsNetwork net
+    → AreRoutes net routes → 0ℚ ≤ℚ horizon → IsRouted net routes horizon routed → IsLink net e link
     → Within 0ℚ (number_at routed.ends e +ℚ link.transit) time → value (link_loaded routed e).outflow time ≡ sent_by_routes (λ r place. sent_by routed r (suc place) time) e routes
 nexts-outflow net routes horizon routed e link time good are from_0 is p w =
     let end_nn : 0ℚ ≤ℚ number_at routed.ends e = ≤ℚ_trans _ _ _ from_0 (is.ends e (slice_get_within net.links e link p)).horizon_by in
     let after : number_at routed.ends e +ℚ link.transit ≤ℚ exit_by routed e (number_at routed.ends e) =
-    IsExit-after link.transit link.capacity (inflow_by routes routed e) (number_at routed.ends e) _ (IsPositive-link net e link good p) (is.exits e link (number_at routed.ends e) p (end_nn, ≤ℚ_refl _)) in
+    IsExit-after link.transit link.capacity (inflow_by routes routed e) (number_at routed.ends e) _ (IsPositive-link net e link good p)
+        (is.exits e link (number_at routed.ends e) p (end_nn, ≤ℚ_refl _)) in
     IsOutflow-unique link.transit link.capacity (inflow_by routes routed e) time _ _ (is.outflows e link time p w)
     ((arrive net routes horizon routed good are from_0 is).shares e link time p (w.0, ≤ℚ_trans _ _ _ w.1 after))

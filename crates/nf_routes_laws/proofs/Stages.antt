@@ -73,7 +73,8 @@ module _ (passes : Passing) where
   exit_of-is links f = exit_in-is links f
 
   -- ---- one step: route by route
-  pub begun-count : (horizon : ℚ) (e : ℕ) (routes : List Route) (entries begun : List (List (List Point))) → begin_all passes horizon e routes entries ≡ Ok begun → length entries ≡ length routes
+  pub begun-count : (horizon : ℚ) (e : ℕ) (routes : List Route) (entries begun : List (List (List Point)))
+      → begin_all passes horizon e routes entries ≡ Ok begun → length entries ≡ length routes
       → length begun ≡ length routes
   begun-count horizon e [] entries begun h k = ap length (sym (same_Ok _ _ h))
   begun-count horizon e (x ∷ routes) [] begun h k = absurd (omega arith)
@@ -82,7 +83,8 @@ module _ (passes : Passing) where
       let later = then_ok (begin_all passes horizon e routes entries) _ begun here.next in
       ap length (sym (same_Ok _ _ later.next)) ∙ ap suc (begun-count horizon e routes entries later.between later.first (omega arith))
 
-  pub begun-at : (horizon : ℚ) (e : ℕ) (routes : List Route) (entries begun : List (List (List Point))) (r : ℕ) (route : Route) (xs : List (List Point)) → begin_all passes horizon e routes entries ≡ Ok begun
+  pub begun-at : (horizon : ℚ) (e : ℕ) (routes : List Route) (entries begun : List (List (List Point))) (r : ℕ) (route : Route) (xs : List (List Point))
+      → begin_all passes horizon e routes entries ≡ Ok begun
       → slice_get routes r ≡ Some route → slice_get entries r ≡ Some xs
       → (b : List (List Point)) × (slice_get begun r ≡ Some b) × (begin_if passes (begins_with route.links e) horizon route xs ≡ Ok b)
   begun-at horizon e [] entries begun r route xs h i j = absurd (cc)
@@ -101,7 +103,8 @@ module _ (passes : Passing) where
       let b = begun-at horizon e routes entries later.between r route xs later.first i j in
       (b.0, ap (λ (l : List (List (List Point))). slice_get l (suc r)) (sym (same_Ok _ _ later.next)) ∙ b.1, b.2)
 
-  pub next-count : (e : ℕ) (exit : List Point) (routes : List Route) (entries after : List (List (List Point))) → next_all passes e exit routes entries ≡ Ok after → length entries ≡ length routes
+  pub next-count : (e : ℕ) (exit : List Point) (routes : List Route) (entries after : List (List (List Point)))
+      → next_all passes e exit routes entries ≡ Ok after → length entries ≡ length routes
       → length after ≡ length routes
   next-count e exit [] entries after h k = ap length (sym (same_Ok _ _ h))
   next-count e exit (x ∷ routes) [] after h k = absurd (omega arith)
@@ -110,7 +113,8 @@ module _ (passes : Passing) where
       let later = then_ok (next_all passes e exit routes entries) _ after here.next in
       ap length (sym (same_Ok _ _ later.next)) ∙ ap suc (next-count e exit routes entries later.between later.first (omega arith))
 
-  pub next-at : (e : ℕ) (exit : List Point) (routes : List Route) (entries after : List (List (List Point))) (r : ℕ) (route : Route) (xs : List (List Point)) → next_all passes e exit routes entries ≡ Ok after
+  pub next-at : (e : ℕ) (exit : List Point) (routes : List Route) (entries after : List (List (List Point))) (r : ℕ) (route : Route)
+      (xs : List (List Point)) → next_all passes e exit routes entries ≡ Ok after
       → slice_get routes r ≡ Some route → slice_get entries r ≡ Some xs
       → (a : List (List Point)) × (slice_get after r ≡ Some a) × (next_if passes (goes_over route.links e) exit xs ≡ Ok a)
   next-at e exit [] entries after r route xs h i j = absurd (cc)

@@ -110,7 +110,8 @@ module _ (passes : Passing) where
       pub sends : next_entry passes exit (last_entry begun) ≡ Ok next
       pub after_is : after ≡ begun ++ next ∷ []
 
-    pub over-is : (exit : List Point) (n : ℕ) (after : List (List Point)) → slice_get route.links n ≡ Some e → ((place : ℕ) → slice_get route.links place ≡ Some e → place ≡ n) → length xs ≡ stage n
+    pub over-is : (exit : List Point) (n : ℕ) (after : List (List Point)) → slice_get route.links n ≡ Some e
+        → ((place : ℕ) → slice_get route.links place ≡ Some e → place ≡ n) → length xs ≡ stage n
         → begin_if passes (begins_with route.links e) horizon route xs ≡ Ok begun → next_if passes (goes_over route.links e) exit begun ≡ Ok after → Over exit n after
     over-is exit n after at only count h k =
         let k' = ap (λ (b : Bool). next_if passes b exit begun) (sym (over-at route.links n e at)) ∙ k in

@@ -38,7 +38,8 @@ departures-are last h = ⊎_elim
     (is_same_cases last 0ℚ)
 
 -- ---- along the links from a position of a route on: a time within the end of a link has its exit within the end of the next link
-module _ (passes : Passing) (horizon : ℚ) (links : List (Option LoadedLink)) (routed : Routed) (from_0 : 0ℚ ≤ℚ horizon) (exit_is : (e : ℕ) → exit_of passes links e ≡ (link_loaded routed e).exit) where
+module _ (passes : Passing) (horizon : ℚ) (links : List (Option LoadedLink)) (routed : Routed) (from_0 : 0ℚ ≤ℚ horizon)
+    (exit_is : (e : ℕ) → exit_of passes links e ≡ (link_loaded routed e).exit) where
   -- the conditions on the remaining links, from these times on
   abbrev pub Passable : List ℕ → ℚ → Type 0
   Passable [] t = Unit {0}
@@ -49,7 +50,8 @@ module _ (passes : Passing) (horizon : ℚ) (links : List (Option LoadedLink)) (
     pub form : IsShort result
     pub values : (t : ℚ) → Within 0ℚ horizon t → value result t ≡ exits_along routed rest (value travel t)
 
-  pub travel-is : (rest : List ℕ) (travel result : List Point) → IsCurve travel → ((t : ℚ) → Within 0ℚ horizon t → 0ℚ ≤ℚ value travel t) → ((t : ℚ) → Within 0ℚ horizon t → Passable rest (value travel t))
+  pub travel-is : (rest : List ℕ) (travel result : List Point) → IsCurve travel → ((t : ℚ) → Within 0ℚ horizon t → 0ℚ ≤ℚ value travel t)
+      → ((t : ℚ) → Within 0ℚ horizon t → Passable rest (value travel t))
       → travel_on passes horizon links rest travel ≡ Ok result → IsTravel rest travel result
   travel-is [] travel result c nn pass h =
       let s : IsShortOf travel result = checked_short-is passes travel result c h in

@@ -17,7 +17,8 @@ pub order-below : (pairs : List (ℕ × ℕ)) (many more : ℕ) (taken : List �
 order-below pairs many zero taken e h = absurd h
 order-below pairs many (suc more) taken e h = by (first_free pairs taken (range_with_len 0 many)) refl h (λ f k. order-below pairs many more (f ∷ taken) e k)
   where
-    by : (o : Option ℕ) → first_free pairs taken (range_with_len 0 many) ≡ o → In e (with_next o (λ f. order_from more pairs many (f ∷ taken))) → ((f : ℕ) → In e (order_from more pairs many (f ∷ taken)) → e < many) → e < many
+    by : (o : Option ℕ) → first_free pairs taken (range_with_len 0 many) ≡ o → In e (with_next o (λ f. order_from more pairs many (f ∷ taken)))
+        → ((f : ℕ) → In e (order_from more pairs many (f ∷ taken)) → e < many) → e < many
     by None none k later = absurd k
     by (Some f) some (inl same) later =
         let below = range-below 0 many f (free-some pairs taken (range_with_len 0 many) f some).0 in
@@ -71,7 +72,8 @@ module _ (horizon : ℚ) (links : List (Option LoadedLink)) (e : ℕ) where
       other : eqb p.1 e ≡ false → p.1 ≢ e
       other f = ⊎_elim (λ (w : (eqb p.1 e ≡ true) × (p.1 ≡ e)). absurd (not_both (eqb p.1 e) w.0 f)) (λ (w : (eqb p.1 e ≡ false) × (p.1 ≢ e)). w.1) (eqb_tells p.1 e)
 
-  pub end_by-is : (routes : List Route) (exits : ℕ → ℚ) → ((f : ℕ) → PrecedesOnRoute routes f e → exit_end (slice_get links f) ≡ exits f) → EndsBy routes horizon e exits (end_by horizon (all_pairs routes) links e)
+  pub end_by-is : (routes : List Route) (exits : ℕ → ℚ) → ((f : ℕ) → PrecedesOnRoute routes f e → exit_end (slice_get links f) ≡ exits f)
+      → EndsBy routes horizon e exits (end_by horizon (all_pairs routes) links e)
   end_by-is routes exits same =
       let w : EndsOver (all_pairs routes) horizon e Exits (end_by horizon (all_pairs routes) links e) = over_pairs (all_pairs routes) in
       record {
@@ -143,7 +145,8 @@ module _ (passes : Passing) (net : Network) (routes : List Route) (horizon : ℚ
     pub after_here : slice_get next.entries r ≡ Some after
     pub case : Over passes e horizon route was.entries begun d.loaded.exit was.n after ⊎ (((place : ℕ) → slice_get route.links place ≡ Some e → ⊥) × (after ≡ was.entries))
 
-  module _ (front : List ℕ) (s : SoFar) (e : ℕ) (link : Link) (next : SoFar) (d : LinkDone s e link next) (standing : RoutesStanding front s) (new : In e front → ⊥) (led : (f : ℕ) → PrecedesOnRoute routes f e → In f front) where
+  module _ (front : List ℕ) (s : SoFar) (e : ℕ) (link : Link) (next : SoFar) (d : LinkDone s e link next) (standing : RoutesStanding front s)
+      (new : In e front → ⊥) (led : (f : ℕ) → PrecedesOnRoute routes f e → In f front) where
     route-done : (r : ℕ) (route : Route) → slice_get routes r ≡ Some route → RouteDone front s e link next d r route
     route-done r route here =
         let was : RouteStands front s r route = standing.at r route here in
@@ -158,7 +161,9 @@ module _ (passes : Passing) (net : Network) (routes : List Route) (horizon : ℚ
           case = by was b.0 a.0 b.2 a.2 (goes_over route.links e) refl;
         }
       where
-        by : (was : RouteStands front s r route) (begun after : List (List Point)) → begin_if passes (begins_with route.links e) horizon route was.entries ≡ Ok begun → next_if passes (goes_over route.links e) d.loaded.exit begun ≡ Ok after
+        by : (was : RouteStands front s r route) (begun after : List (List Point))
+            → begin_if passes (begins_with route.links e) horizon route was.entries ≡ Ok begun
+            → next_if passes (goes_over route.links e) d.loaded.exit begun ≡ Ok after
             → (b : Bool) → goes_over route.links e ≡ b
             → Over passes e horizon route was.entries begun d.loaded.exit was.n after ⊎ (((place : ℕ) → slice_get route.links place ≡ Some e → ⊥) × (after ≡ was.entries))
         by was begun after h k true t =
@@ -205,7 +210,8 @@ module _ (passes : Passing) (net : Network) (routes : List Route) (horizon : ℚ
     }
 
     -- entries are added at the end of those that are there
-    step-grows : (r : ℕ) (xs : List (List Point)) → slice_get s.entries r ≡ Some xs → (ys : List (List Point)) × (more : List (List Point)) × (slice_get next.entries r ≡ Some ys) × (ys ≡ xs ++ more)
+    step-grows : (r : ℕ) (xs : List (List Point)) → slice_get s.entries r ≡ Some xs
+        → (ys : List (List Point)) × (more : List (List Point)) × (slice_get next.entries r ≡ Some ys) × (ys ≡ xs ++ more)
     step-grows r xs h =
         let below : r < length routes = (let b = slice_get_within s.entries r xs h in let c = standing.entry_count in omega arith) in
         let route : (route : Route) × (slice_get routes r ≡ Some route) = entry routes r below in
@@ -217,18 +223,21 @@ module _ (passes : Passing) (net : Network) (routes : List Route) (horizon : ℚ
             subst (λ (l : List (List Point)). (ys : List (List Point)) × (more : List (List Point)) × (slice_get next.entries r ≡ Some ys) × (ys ≡ l ++ more)) same
             (⊎_elim
             (λ (o : Over passes e horizon route rd.was.entries rd.begun d.loaded.exit rd.was.n rd.after).
-            (rd.after, o.begins.more ++ o.next ∷ [], rd.after_here, o.after_is ∙ ap (λ (l : List (List Point)). l ++ o.next ∷ []) o.begins.grown ∙ append_assoc rd.was.entries o.begins.more (o.next ∷ [])))
+            (rd.after, o.begins.more ++ o.next ∷ [], rd.after_here, o.after_is ∙ ap (λ (l : List (List Point)). l ++ o.next ∷ []) o.begins.grown
+                ∙ append_assoc rd.was.entries o.begins.more (o.next ∷ [])))
             (λ (p : ((place : ℕ) → slice_get route.links place ≡ Some e → ⊥) × (rd.after ≡ rd.was.entries)). (rd.after, [], rd.after_here, p.1 ∙ sym (append-nil rd.was.entries)))
             rd.case)
 
   -- ---- the result agrees with the values known at each step
   module _ (final : SoFar) (travels : List (List Point)) where
     abbrev pub routed : Routed
-    routed = record { ends = map (end_or passes) final.links; links = map (loaded_or passes) final.links; entries = map (but_last passes) final.entries; arrivals = map last_entry final.entries; travels = travels }
+    routed = record { ends = map (end_or passes) final.links; links = map (loaded_or passes) final.links; entries =
+        map (but_last passes) final.entries; arrivals = map last_entry final.entries; travels = travels }
 
     pub record Grows (front : List ℕ) (s : SoFar) : Type 0 where
       pub links : (f : ℕ) → In f front → slice_get final.links f ≡ slice_get s.links f
-      pub entries : (r : ℕ) (xs : List (List Point)) → slice_get s.entries r ≡ Some xs → (ys : List (List Point)) × (more : List (List Point)) × (slice_get final.entries r ≡ Some ys) × (ys ≡ xs ++ more)
+      pub entries : (r : ℕ) (xs : List (List Point)) → slice_get s.entries r ≡ Some xs
+          → (ys : List (List Point)) × (more : List (List Point)) × (slice_get final.entries r ≡ Some ys) × (ys ≡ xs ++ more)
 
     loaded-is : (e : ℕ) (l : LoadedLink) → slice_get final.links e ≡ Some (Some l) → link_loaded routed e ≡ l.loaded
     loaded-is e l h = ap (λ (o : Option Loaded). unwrap_or o (record { queue = []; outflow = []; exit = [] })) (slice_get-image (loaded_or passes) final.links e (Some l) h)
@@ -265,7 +274,8 @@ module _ (passes : Passing) (net : Network) (routes : List Route) (horizon : ℚ
       pub ends : EndsBy routes horizon e (λ f. last_value (link_loaded routed f).exit) (number_at routed.ends e)
       pub over : (r place : ℕ) (route : Route) → slice_get routes r ≡ Some route → slice_get route.links place ≡ Some e → RouteOver e r place route begun
 
-    module _ (front : List ℕ) (s : SoFar) (e : ℕ) (link : Link) (next : SoFar) (d : LinkDone s e link next) (standing : RoutesStanding front s) (new : In e front → ⊥) (led : (f : ℕ) → PrecedesOnRoute routes f e → In f front)
+    module _ (front : List ℕ) (s : SoFar) (e : ℕ) (link : Link) (next : SoFar) (d : LinkDone s e link next) (standing : RoutesStanding front s)
+        (new : In e front → ⊥) (led : (f : ℕ) → PrecedesOnRoute routes f e → In f front)
         (is_link : IsLink net e link) (grows : Grows (front ++ e ∷ []) next) where
       below : e < length s.links
       below = let b = slice_get_within net.links e link is_link in let c = standing.link_count in omega arith
@@ -274,7 +284,8 @@ module _ (passes : Passing) (net : Network) (routes : List Route) (horizon : ℚ
       final_here = grows.links e (in-back e front (e ∷ []) (inl refl)) ∙ ap (λ (l : List (Option LoadedLink)). slice_get l e) d.links_are ∙ set-same s.links e _ below
 
       before_same : (f : ℕ) → In f front → slice_get final.links f ≡ slice_get s.links f
-      before_same f w = grows.links f (in-front f front (e ∷ []) w) ∙ ap (λ (l : List (Option LoadedLink)). slice_get l f) d.links_are ∙ set-other s.links e f _ (λ k. new (subst (λ (x : ℕ). In x front) (sym k) w))
+      before_same f w = grows.links f (in-front f front (e ∷ []) w) ∙ ap (λ (l : List (Option LoadedLink)). slice_get l f) d.links_are
+          ∙ set-other s.links e f _ (λ k. new (subst (λ (x : ℕ). In x front) (sym k) w))
 
       step-final : Grows front s
       step-final = record {
@@ -294,7 +305,8 @@ module _ (passes : Passing) (net : Network) (routes : List Route) (horizon : ℚ
       over : (r place : ℕ) (route : Route) → slice_get routes r ≡ Some route → slice_get route.links place ≡ Some e → RouteOver e r place route d.begun
       over r place route h k = by (route-done front s e link next d standing new led r route h)
         where
-          over_case : (rd : RouteDone front s e link next d r route) → place ≡ rd.was.n → Over passes e horizon route rd.was.entries rd.begun d.loaded.exit rd.was.n rd.after → RouteOver e r place route d.begun
+          over_case : (rd : RouteDone front s e link next d r route) → place ≡ rd.was.n
+              → Over passes e horizon route rd.was.entries rd.begun d.loaded.exit rd.was.n rd.after → RouteOver e r place route d.begun
           over_case rd at o =
               let g = grows.entries r rd.after rd.after_here in
               let whole : g.0 ≡ (rd.begun ++ o.next ∷ []) ++ g.1 = g.3 ∙ ap (λ (l : List (List Point)). l ++ g.1) o.after_is in
@@ -313,12 +325,14 @@ module _ (passes : Passing) (net : Network) (routes : List Route) (horizon : ℚ
                 first = λ z. subst (λ (l : List Point). IsEntryOf passes route.pieces horizon l) (sym entry_n) (o.begins.first z);
               })
             where
-              sent_same : (exit exit' entry entry' after after' : List Point) → exit ≡ exit' → entry ≡ entry' → after ≡ after' → next_entry passes exit' entry' ≡ Ok after' → next_entry passes exit entry ≡ Ok after
+              sent_same : (exit exit' entry entry' after after' : List Point) → exit ≡ exit' → entry ≡ entry' → after ≡ after'
+                  → next_entry passes exit' entry' ≡ Ok after' → next_entry passes exit entry ≡ Ok after
               sent_same exit exit' entry entry' after after' a b c h = cc
 
           by : RouteDone front s e link next d r route → RouteOver e r place route d.begun
           by rd = ⊎_elim
-              (λ (o : Over passes e horizon route rd.was.entries rd.begun d.loaded.exit rd.was.n rd.after). over_case rd (place-is routes front e new led r route h rd.was.n rd.was.stands place k) o)
+              (λ (o : Over passes e horizon route rd.was.entries rd.begun d.loaded.exit rd.was.n rd.after). over_case rd
+                  (place-is routes front e new led r route h rd.was.n rd.was.stands place k) o)
               (λ (p : ((place : ℕ) → slice_get route.links place ≡ Some e → ⊥) × (rd.after ≡ rd.was.entries)). absurd (p.0 place k))
               rd.case
 
@@ -347,7 +361,8 @@ module _ (passes : Passing) (net : Network) (routes : List Route) (horizon : ℚ
     unroll [] front s same standing h =
         let done : s ≡ final = same_Ok _ _ h in
         record {
-          grows = record { links = λ f w. ap (λ (z : SoFar). slice_get z.links f) (sym done); entries = λ r xs k. (xs, [], ap (λ (z : SoFar). slice_get z.entries r) (sym done) ∙ k, sym (append-nil xs)) };
+          grows = record { links = λ f w. ap (λ (z : SoFar). slice_get z.links f) (sym done); entries =
+              λ r xs k. (xs, [], ap (λ (z : SoFar). slice_get z.entries r) (sym done) ∙ k, sym (append-nil xs)) };
           stands = subst (λ (l : List ℕ). RoutesStanding l final) (sym (same ∙ append-nil front)) (subst (λ (z : SoFar). RoutesStanding front z) done standing);
           steps = λ e w. absurd w;
         }
@@ -359,7 +374,8 @@ module _ (passes : Passing) (net : Network) (routes : List Route) (horizon : ℚ
         let p = placed routes many many [] front e back same in
         let new : In e front → ⊥ = λ w. p.0 (subst (λ (l : List ℕ). In e l) (sym (append-nil front)) w) in
         let led : (f : ℕ) → PrecedesOnRoute routes f e → In f front = λ f b. subst (λ (l : List ℕ). In f l) (append-nil front) (p.1 f b) in
-        let rest : Unrolled (front ++ e ∷ []) step.between back = unroll back (front ++ e ∷ []) step.between (same ∙ sym (append_assoc front (e ∷ []) back)) (step-standing front s e l.0 step.between d standing new led) step.next in
+        let rest : Unrolled (front ++ e ∷ []) step.between back = unroll back (front ++ e ∷ []) step.between (same ∙ sym (append_assoc front (e ∷ []) back))
+            (step-standing front s e l.0 step.between d standing new led) step.next in
         record {
           grows = step-final front s e l.0 step.between d standing new led l.1 rest.grows;
           stands = rest.stands;

@@ -35,8 +35,10 @@ module _ (net : Network) (routes : List Route) (order : List ℕ) (is_order : or
         (stands_next passes net routes horizon (take i order) e link so_far next from_0 good is stands placed_at
         (steps_of passes horizon routes so_far e link next (ap (λ (o : Option Link). load_here passes horizon routes so_far e o) (sym is) ∙ was)))
 
-  pub stands_complete : (are : AreRoutes net routes) (so_far : SoFar) (i : ℕ) → Stands net routes (take i order) so_far → length order ≤ i → IsNetwork net → (HoldCircle routes → ⊥) → IsFullyLoaded net routes so_far
-  stands_complete are so_far i stands h good straight = stands_last net routes order so_far good are (all_taken (length net.links) routes order is_order (takes_all-straight net routes are straight))
+  pub stands_complete : (are : AreRoutes net routes) (so_far : SoFar) (i : ℕ) → Stands net routes (take i order) so_far → length order ≤ i → IsNetwork net
+      → (HoldCircle routes → ⊥) → IsFullyLoaded net routes so_far
+  stands_complete are so_far i stands h good straight =
+      stands_last net routes order so_far good are (all_taken (length net.links) routes order is_order (takes_all-straight net routes are straight))
       (subst (λ (l : List ℕ). Stands net routes l so_far) (take_all i order h) stands)
 
 -- ---- the loading of the links
@@ -45,7 +47,8 @@ pub record Loads (passes : Passing) (kept : Kept) (net : Network) (routes : List
   pub stands : Stands net routes (take i order) so_far
 
 module _ (passes : Passing) (kept : Kept) (net : Network) (routes : List Route) (horizon : ℚ) (order : List ℕ) (is_order : order ≡ loading_order (length net.links) routes) where
-  pub loads_first : (are : AreRoutes net routes) (so_far : SoFar) → so_far.links ≡ nothing_loaded net.links → so_far.entries ≡ nothing_sent routes → Loads passes kept net routes horizon order so_far 0
+  pub loads_first : (are : AreRoutes net routes) (so_far : SoFar) → so_far.links ≡ nothing_loaded net.links → so_far.entries ≡ nothing_sent routes
+      → Loads passes kept net routes horizon order so_far 0
   loads_first are so_far h k = record {
     same = ap (λ (l : List ℕ). load_kept passes kept net routes horizon l so_far) is_order
         ∙ ap (λ (l : List _). load_kept passes kept net routes horizon (loading_order (length net.links) routes) (record { links = l; entries = so_far.entries })) h
@@ -58,15 +61,19 @@ module _ (passes : Passing) (kept : Kept) (net : Network) (routes : List Route) 
     loads_last h = ap (at_part Load) (sym loads.same ∙ ap (λ (l : List ℕ). load_kept passes kept net routes horizon l so_far) (drop_all i order h))
 
     module _ (e : ℕ) (at : slice_get order i ≡ Some e) where
-      here : (load_here passes horizon routes so_far e (slice_get net.links e) >>= λ next. load_kept passes kept net routes horizon (drop (i + 1) order) (kept_after kept next)) ≡ all_kept passes kept net routes horizon
+      here : (load_here passes horizon routes so_far e (slice_get net.links e) >>= λ next. load_kept passes kept net routes horizon (drop (i + 1) order)
+          (kept_after kept next)) ≡ all_kept passes kept net routes horizon
       here = sym (ap (λ (l : List ℕ). load_kept passes kept net routes horizon l so_far) (drop_at order i e at)) ∙ loads.same
 
-      pub loads_stop : (h : Halt ℚ) → Stops (λ (q : ℚ). q) h (at_part Load (load_here passes horizon routes so_far e (slice_get net.links e))) → Stops (λ (q : ℚ). q) h (at_part Load (all_kept passes kept net routes horizon))
+      pub loads_stop : (h : Halt ℚ) → Stops (λ (q : ℚ). q) h (at_part Load (load_here passes horizon routes so_far e (slice_get net.links e)))
+          → Stops (λ (q : ℚ). q) h (at_part Load (all_kept passes kept net routes horizon))
       loads_stop h s = stops_on h (at_part Load (load_here passes horizon routes so_far e (slice_get net.links e))) (at_part Load (all_kept passes kept net routes horizon))
           (λ p k. ap (at_part Load) (sym here)
-          ∙ after_err Load (load_here passes horizon routes so_far e (slice_get net.links e)) (λ next. load_kept passes kept net routes horizon (drop (i + 1) order) (kept_after kept next)) p k) s
+          ∙ after_err Load (load_here passes horizon routes so_far e (slice_get net.links e))
+              (λ next. load_kept passes kept net routes horizon (drop (i + 1) order) (kept_after kept next)) p k) s
 
-      pub loads_go : (link : Link) (next : SoFar) → IsLink net e link → 0ℚ ≤ℚ horizon → IsNetwork net → at_part Load (load_here passes horizon routes so_far e (slice_get net.links e)) ≡ Ok next
+      pub loads_go : (link : Link) (next : SoFar) → IsLink net e link → 0ℚ ≤ℚ horizon → IsNetwork net
+          → at_part Load (load_here passes horizon routes so_far e (slice_get net.links e)) ≡ Ok next
           → Loads passes kept net routes horizon order (kept_after kept next) (i + 1)
       loads_go link next is from_0 good k =
           let was = was_ok Load (load_here passes horizon routes so_far e (slice_get net.links e)) next k in

@@ -88,7 +88,8 @@ along_alone taken (route ∷ routes) (sent ∷ rest) along = (alone_sound taken 
 stands_alone : (net : Network) (routes : List Route) (taken : List ℕ) (so_far : SoFar) → Stands net routes taken so_far → Stands net routes taken (keeping_last so_far)
 stands_alone net routes taken so_far s = record { count = s.count; loaded = s.loaded; exits = s.exits; entries = along_alone taken routes so_far.entries s.entries }
 
-pub stands_kept : (net : Network) (routes : List Route) (taken : List ℕ) (kept : Kept) (so_far : SoFar) → Stands net routes taken so_far → Stands net routes taken (kept_after kept so_far)
+pub stands_kept : (net : Network) (routes : List Route) (taken : List ℕ) (kept : Kept) (so_far : SoFar) → Stands net routes taken so_far
+    → Stands net routes taken (kept_after kept so_far)
 stands_kept net routes taken Every so_far s = s
 stands_kept net routes taken Last so_far s = stands_alone net routes taken so_far s
 
@@ -131,10 +132,12 @@ module _ (passes : Passing) where
   begin_alone true horizon route sent = refl
   begin_alone false horizon route sent = ap Ok (alone_twice sent)
 
-  begins_alone : (horizon : ℚ) (e : ℕ) (routes : List Route) (entries : List Sent) → all_alone (begin_all passes horizon e routes (map last_alone entries)) ≡ all_alone (begin_all passes horizon e routes entries)
+  begins_alone : (horizon : ℚ) (e : ℕ) (routes : List Route) (entries : List Sent)
+      → all_alone (begin_all passes horizon e routes (map last_alone entries)) ≡ all_alone (begin_all passes horizon e routes entries)
   begins_alone horizon e routes entries =
       ap all_alone (begin_all-is passes horizon e routes (map last_alone entries))
-      ∙ steps_alone (λ (route : Route) (sent : Sent). begin_if passes (begins_with route.links e) horizon route sent) (λ route sent. begin_alone (begins_with route.links e) horizon route sent) routes entries
+      ∙ steps_alone (λ (route : Route) (sent : Sent). begin_if passes (begins_with route.links e) horizon route sent)
+          (λ route sent. begin_alone (begins_with route.links e) horizon route sent) routes entries
       ∙ ap all_alone (sym (begin_all-is passes horizon e routes entries))
 
   sum_alone : (e : ℕ) (total : List Point) (routes : List Route) (entries : List Sent) → sum_from passes e total routes (map last_alone entries) ≡ sum_from passes e total routes entries
@@ -142,7 +145,8 @@ module _ (passes : Passing) where
   sum_alone e total (route ∷ routes) [] = refl
   sum_alone e total (route ∷ routes) (sent ∷ rest) =
       ap (λ (entry : List Point). add_if passes (goes_over route.links e) total entry >>= λ next. sum_from passes e next routes (map last_alone rest)) (last_of_alone sent)
-      ∙ after_same (add_if passes (goes_over route.links e) total (last_entry sent)) (λ (next : List Point). sum_from passes e next routes (map last_alone rest)) (λ (next : List Point). sum_from passes e next routes rest)
+      ∙ after_same (add_if passes (goes_over route.links e) total (last_entry sent))
+          (λ (next : List Point). sum_from passes e next routes (map last_alone rest)) (λ (next : List Point). sum_from passes e next routes rest)
       (λ next. sum_alone e next routes rest)
 
   pushed_alone : (front : Sent) (r : Checked (List Point)) → alone (r >>= λ next. Ok (front ++ next ∷ [])) ≡ (r >>= λ next. Ok (next ∷ []))
@@ -156,7 +160,8 @@ module _ (passes : Passing) where
       ∙ sym (pushed_alone sent (next_entry passes exit (last_entry sent)))
   next_alone false exit sent = ap Ok (alone_twice sent)
 
-  nexts_alone : (e : ℕ) (exit : List Point) (routes : List Route) (entries : List Sent) → all_alone (next_all passes e exit routes (map last_alone entries)) ≡ all_alone (next_all passes e exit routes entries)
+  nexts_alone : (e : ℕ) (exit : List Point) (routes : List Route) (entries : List Sent)
+      → all_alone (next_all passes e exit routes (map last_alone entries)) ≡ all_alone (next_all passes e exit routes entries)
   nexts_alone e exit routes entries =
       ap all_alone (next_all-is passes e exit routes (map last_alone entries))
       ∙ steps_alone (λ (route : Route) (sent : Sent). next_if passes (goes_over route.links e) exit sent) (λ route sent. next_alone (goes_over route.links e) exit sent) routes entries
@@ -222,7 +227,8 @@ module _ (passes : Passing) where
     here_alone (Some link) = link_alone link
 
   here_kept : (kept : Kept) (horizon : ℚ) (routes : List Route) (s : SoFar) (e : ℕ) (link : Option Link)
-      → (load_here passes horizon routes (kept_after kept s) e link >>= λ next. Ok (kept_after kept next)) ≡ (load_here passes horizon routes s e link >>= λ next. Ok (kept_after kept next))
+      → (load_here passes horizon routes (kept_after kept s) e link >>= λ next. Ok (kept_after kept next))
+          ≡ (load_here passes horizon routes s e link >>= λ next. Ok (kept_after kept next))
   here_kept Every horizon routes s e link = refl
   here_kept Last horizon routes s e link = here_alone horizon routes s e link
 
@@ -231,17 +237,21 @@ module _ (passes : Passing) where
       → load_kept passes kept net routes horizon order (kept_after kept s) ≡ (load_all passes net routes horizon order s >>= λ all. Ok (kept_after kept all))
   kept_is kept net routes horizon [] s = refl
   kept_is kept net routes horizon (e ∷ order) s =
-      sym (chain (load_here passes horizon routes (kept_after kept s) e (slice_get net.links e)) (λ next. Ok (kept_after kept next)) (λ next. load_kept passes kept net routes horizon order next))
+      sym (chain (load_here passes horizon routes (kept_after kept s) e (slice_get net.links e)) (λ next. Ok (kept_after kept next))
+          (λ next. load_kept passes kept net routes horizon order next))
       ∙ ap (λ (r : Checked SoFar). r >>= λ next. load_kept passes kept net routes horizon order next) (here_kept kept horizon routes s e (slice_get net.links e))
       ∙ later (load_here passes horizon routes s e (slice_get net.links e)) (λ next. kept_is kept net routes horizon order next)
     where
-      later : (r : Checked SoFar) → ((next : SoFar) → load_kept passes kept net routes horizon order (kept_after kept next) ≡ (load_all passes net routes horizon order next >>= λ all. Ok (kept_after kept all)))
+      later : (r : Checked SoFar) → ((next : SoFar) → load_kept passes kept net routes horizon order
+          (kept_after kept next) ≡ (load_all passes net routes horizon order next >>= λ all. Ok (kept_after kept all)))
           → ((r >>= λ next. Ok (kept_after kept next)) >>= λ next. load_kept passes kept net routes horizon order next)
           ≡ ((r >>= λ next. load_all passes net routes horizon order next) >>= λ all. Ok (kept_after kept all))
       later (Ok next) same = same next
       later (Err p) same = refl
 
-  pub all_kept-is : (kept : Kept) (net : Network) (routes : List Route) (horizon : ℚ) → all_kept passes kept net routes horizon ≡ (all_loaded passes net routes horizon >>= λ all. Ok (kept_after kept all))
+  pub all_kept-is : (kept : Kept) (net : Network) (routes : List Route) (horizon : ℚ)
+      → all_kept passes kept net routes horizon ≡ (all_loaded passes net routes horizon >>= λ all. Ok (kept_after kept all))
   all_kept-is kept net routes horizon =
-      ap (λ (s : SoFar). load_kept passes kept net routes horizon (loading_order (length net.links) routes) s) (sym (first_kept kept (record { links = nothing_loaded net.links; entries = nothing_sent routes }) (none_alone routes)))
+      ap (λ (s : SoFar). load_kept passes kept net routes horizon (loading_order (length net.links) routes) s)
+          (sym (first_kept kept (record { links = nothing_loaded net.links; entries = nothing_sent routes }) (none_alone routes)))
       ∙ kept_is kept net routes horizon (loading_order (length net.links) routes) (record { links = nothing_loaded net.links; entries = nothing_sent routes })

@@ -22,7 +22,8 @@ pub begin_all-is : (passes : Passing) (horizon : ℚ) (e : ℕ) (routes : List R
 begin_all-is passes horizon e [] entries = refl
 begin_all-is passes horizon e (route ∷ routes) [] = refl
 begin_all-is passes horizon e (route ∷ routes) (sent ∷ rest) =
-    ap (λ (r : Checked (List Sent)). begin_if passes (begins_with route.links e) horizon route sent >>= λ here. r >>= λ later. Ok (here ∷ later)) (begin_all-is passes horizon e routes rest)
+    ap (λ (r : Checked (List Sent)). begin_if passes (begins_with route.links e) horizon route sent >>= λ here. r >>= λ later. Ok (here ∷ later))
+        (begin_all-is passes horizon e routes rest)
 
 pub next_all-is : (passes : Passing) (e : ℕ) (exit : List Point) (routes : List Route) (entries : List Sent)
     → next_all passes e exit routes entries ≡ step_all (λ (route : Route) (sent : Sent). next_if passes (goes_over route.links e) exit sent) routes entries
@@ -75,7 +76,8 @@ module _ (f : Route → Sent → Checked Sent) (routes : List Route) (old : List
 
       pub steps_stop : (h : Halt ℚ) → Stops (λ (q : ℚ). q) h (at_part Load (f route sent)) → Stops (λ (q : ℚ). q) h (at_part Load (step_all f routes old))
       steps_stop h s = stops_on h (at_part Load (f route sent)) (at_part Load (step_all f routes old))
-          (λ p e. ap (at_part Load) (sym here) ∙ front_err Load (take i now) (f route sent >>= λ here. step_all f (drop (i + 1) routes) (drop (i + 1) old) >>= λ later. Ok (here ∷ later)) p
+          (λ p e. ap (at_part Load) (sym here) ∙ front_err Load (take i now)
+              (f route sent >>= λ here. step_all f (drop (i + 1) routes) (drop (i + 1) old) >>= λ later. Ok (here ∷ later)) p
           (after_err Load (f route sent) (λ here. step_all f (drop (i + 1) routes) (drop (i + 1) old) >>= λ later. Ok (here ∷ later)) p e)) s
 
       pub steps_go : (next : Sent) → at_part Load (f route sent) ≡ Ok next → Steps f routes old (set now i next) (i + 1)
@@ -84,7 +86,8 @@ module _ (f : Route → Sent → Checked Sent) (routes : List Route) (old : List
           record {
             same = ap (λ (l : List Sent). with_front l (step_all f (drop (i + 1) routes) (drop (i + 1) old))) (take_more_set now i next inside)
                 ∙ sym (front_cons (take i now) next (step_all f (drop (i + 1) routes) (drop (i + 1) old)))
-                ∙ ap (λ (r : Checked Sent). with_front (take i now) (r >>= λ here. step_all f (drop (i + 1) routes) (drop (i + 1) old) >>= λ later. Ok (here ∷ later))) (sym (was_ok Load (f route sent) next e))
+                ∙ ap (λ (r : Checked Sent). with_front (take i now) (r >>= λ here. step_all f (drop (i + 1) routes) (drop (i + 1) old) >>= λ later. Ok
+                    (here ∷ later))) (sym (was_ok Load (f route sent) next e))
                 ∙ here;
             rest = drop-set-lt (i + 1) now i next (omega arith) ∙ next_rest now old i so_far.rest;
             count = length-set now i next ∙ so_far.count;
@@ -112,13 +115,15 @@ steps_keep f P Q keeps (route ∷ routes) (sent ∷ rest) next along e = by (f r
     ok_same : {x y : List Sent} → ◌≡◌ {A = Checked (List Sent)} (Ok x) (Ok y) → x ≡ y
     ok_same e = cc
 
-    by : (r : Checked Sent) → f route sent ≡ r → (s : Checked (List Sent)) → ((later : List Sent) → s ≡ Ok later → Along Q routes later) → (r >>= λ here. s >>= λ later. Ok (here ∷ later)) ≡ Ok next → Along Q (route ∷ routes) next
+    by : (r : Checked Sent) → f route sent ≡ r → (s : Checked (List Sent)) → ((later : List Sent) → s ≡ Ok later → Along Q routes later)
+        → (r >>= λ here. s >>= λ later. Ok (here ∷ later)) ≡ Ok next → Along Q (route ∷ routes) next
     by (Ok here) h (Ok later) on e = subst (λ (l : List Sent). Along Q (route ∷ routes) l) (ok_same e) (keeps route sent here along.0 h, on later refl)
     by (Ok here) h (Err p) on e = absurd (cc)
     by (Err p) h s on e = absurd (cc)
 
 -- of the route at a place, and what it has sent
-pub along_at : (P : Route → Sent → Type 0) (routes : List Route) (entries : List Sent) (i : ℕ) (route : Route) (sent : Sent) → Along P routes entries → slice_get routes i ≡ Some route → slice_get entries i ≡ Some sent → P route sent
+pub along_at : (P : Route → Sent → Type 0) (routes : List Route) (entries : List Sent) (i : ℕ) (route : Route) (sent : Sent) → Along P routes entries
+    → slice_get routes i ≡ Some route → slice_get entries i ≡ Some sent → P route sent
 along_at P [] entries i route sent along h k = absurd (cc)
 along_at P (x ∷ routes) [] i route sent along h k = absurd along
 along_at P (x ∷ routes) (y ∷ entries) zero route sent along h k =
@@ -133,7 +138,8 @@ along-count P [] (y ∷ entries) along = absurd along
 along-count P (x ∷ routes) [] along = absurd along
 along-count P (x ∷ routes) (y ∷ entries) along = ap suc (along-count P routes entries along.1)
 
-pub along_as : (P Q : Route → Sent → Type 0) → ((route : Route) (sent : Sent) → P route sent → Q route sent) → (routes : List Route) (entries : List Sent) → Along P routes entries → Along Q routes entries
+pub along_as : (P Q : Route → Sent → Type 0) → ((route : Route) (sent : Sent) → P route sent → Q route sent) → (routes : List Route) (entries : List Sent)
+    → Along P routes entries → Along Q routes entries
 along_as P Q gives [] [] along = tt
 along_as P Q gives [] (y ∷ entries) along = absurd along
 along_as P Q gives (x ∷ routes) [] along = absurd along
@@ -146,13 +152,17 @@ pub record Sums (passes : Passing) (e : ℕ) (first : List Point) (routes : List
 module _ (passes : Passing) (e : ℕ) (first : List Point) (routes : List Route) (entries : List Sent) where
   module _ (total : List Point) (i : ℕ) (so_far : Sums passes e first routes entries total i) where
     module _ (route : Route) (sent : Sent) (at : slice_get routes i ≡ Some route) (is : slice_get entries i ≡ Some sent) where
-      sum_here : (add_if passes (goes_over route.links e) total (last_entry sent) >>= λ next. sum_from passes e next (drop (i + 1) routes) (drop (i + 1) entries)) ≡ sum_from passes e first routes entries
+      sum_here : (add_if passes (goes_over route.links e) total (last_entry sent) >>= λ next. sum_from passes e next (drop (i + 1) routes)
+          (drop (i + 1) entries)) ≡ sum_from passes e first routes entries
       sum_here = sym (ap (λ (l : List Route). sum_from passes e total l (drop i entries)) (drop_at routes i route at)
           ∙ ap (λ (l : List Sent). sum_from passes e total (route ∷ drop (i + 1) routes) l) (drop_at entries i sent is)) ∙ so_far.same
 
-      pub sums_stop : (h : Halt ℚ) → Stops (λ (q : ℚ). q) h (at_part Load (add_if passes (goes_over route.links e) total (last_entry sent))) → Stops (λ (q : ℚ). q) h (at_part Load (sum_from passes e first routes entries))
+      pub sums_stop : (h : Halt ℚ) → Stops (λ (q : ℚ). q) h (at_part Load (add_if passes (goes_over route.links e) total (last_entry sent)))
+          → Stops (λ (q : ℚ). q) h (at_part Load (sum_from passes e first routes entries))
       sums_stop h s = stops_on h (at_part Load (add_if passes (goes_over route.links e) total (last_entry sent))) (at_part Load (sum_from passes e first routes entries))
-          (λ p k. ap (at_part Load) (sym sum_here) ∙ after_err Load (add_if passes (goes_over route.links e) total (last_entry sent)) (λ next. sum_from passes e next (drop (i + 1) routes) (drop (i + 1) entries)) p k) s
+          (λ p k. ap (at_part Load) (sym sum_here) ∙ after_err Load (add_if passes (goes_over route.links e) total (last_entry sent))
+              (λ next. sum_from passes e next (drop (i + 1) routes) (drop (i + 1) entries)) p k) s
 
       pub sums_go : (next : List Point) → at_part Load (add_if passes (goes_over route.links e) total (last_entry sent)) ≡ Ok next → Sums passes e first routes entries next (i + 1)
-      sums_go next k = record { same = ap (λ (r : Checked (List Point)). r >>= λ t. sum_from passes e t (drop (i + 1) routes) (drop (i + 1) entries)) (sym (was_ok Load (add_if passes (goes_over route.links e) total (last_entry sent)) next k)) ∙ sum_here }
+      sums_go next k = record { same = ap (λ (r : Checked (List Point)). r >>= λ t. sum_from passes e t (drop (i + 1) routes) (drop (i + 1) entries))
+          (sym (was_ok Load (add_if passes (goes_over route.links e) total (last_entry sent)) next k)) ∙ sum_here }

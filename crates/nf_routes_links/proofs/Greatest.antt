@@ -42,7 +42,8 @@ pub end-other : (least : ℚ) (p : ℕ × ℕ) (pairs : List (ℕ × ℕ)) (link
 end-other least p pairs links e t = sym (ap (λ (b : Bool). if b then max_ℚ (exit_end (slice_get links p.0)) (end_by least pairs links e) else end_by least pairs links e) t)
 
 -- some pairs and then others
-pub end-append : (least : ℚ) (pairs more : List (ℕ × ℕ)) (links : List (Option LoadedLink)) (e : ℕ) → end_by (end_by least pairs links e) more links e ≡ end_by least (pairs ++ more) links e
+pub end-append : (least : ℚ) (pairs more : List (ℕ × ℕ)) (links : List (Option LoadedLink)) (e : ℕ)
+    → end_by (end_by least pairs links e) more links e ≡ end_by least (pairs ++ more) links e
 end-append least [] more links e = refl
 end-append least (p ∷ pairs) more links e = by (eqb p.1 e) refl (end-append least pairs more links e)
   where
@@ -70,7 +71,8 @@ module _ (along : List ℕ) (links : List (Option LoadedLink)) (link i : ℕ) (e
     first : end_by end ((e, f) ∷ pairs_of (drop i along)) links link ≡ all
     first =
         let n : suc (i - 1) ≡ i = omega arith in
-        sym (ap (λ (ps : List (ℕ × ℕ)). end_by end ps links link) (pairs_at along (i - 1) e f before (ap (slice_get along) n ∙ here) ∙ ap (λ (k : ℕ). (e, f) ∷ pairs_of (drop k along)) n)) ∙ so_far
+        sym (ap (λ (ps : List (ℕ × ℕ)). end_by end ps links link) (pairs_at along (i - 1) e f before (ap (slice_get along) n ∙ here)
+            ∙ ap (λ (k : ℕ). (e, f) ∷ pairs_of (drop k along)) n)) ∙ so_far
 
     later : (least : ℚ) → end_by least (pairs_of (drop (i + 1 - 1) along)) links link ≡ end_by least (pairs_of (drop i along)) links link
     later least = ap (λ (k : ℕ). end_by least (pairs_of (drop k along)) links link) (let n : i + 1 - 1 ≡ i = omega arith in n)
@@ -83,7 +85,8 @@ module _ (along : List ℕ) (links : List (Option LoadedLink)) (link i : ℕ) (e
 
 -- over one more route
 pub end_route : (routes : List NamedRoute) (links : List (Option LoadedLink)) (link i : ℕ) (end next all : ℚ) (route : NamedRoute) → slice_get routes i ≡ Some route
-    → end_by end (all_pairs (routes_of (drop i routes))) links link ≡ all → next ≡ end_by end (pairs_of route.route.links) links link → end_by next (all_pairs (routes_of (drop (i + 1) routes))) links link ≡ all
+    → end_by end (all_pairs (routes_of (drop i routes))) links link ≡ all → next ≡ end_by end (pairs_of route.route.links) links link
+        → end_by next (all_pairs (routes_of (drop (i + 1) routes))) links link ≡ all
 end_route routes links link i end next all route at so_far is =
     ap (λ (z : ℚ). end_by z (all_pairs (routes_of (drop (i + 1) routes))) links link) is
     ∙ end-append end (pairs_of route.route.links) (all_pairs (routes_of (drop (i + 1) routes))) links link

@@ -42,7 +42,8 @@ module _ (passes : Passing) where
       ap (λ (v : Checked ℚ). v >>= λ l. checked_value passes right time >>= λ r. Ok (record { time = time; left = l; right = r })) h
       ∙ ap (λ (v : Checked ℚ). v >>= λ r. Ok (record { time = time; left = l; right = r })) k
 
-pub sides_there : (left right known : List Point) (time : ℚ) (sides : Sides) → IsCurve left → AreKnown right known → AreThere left known time sides → sides_at passes_Q left right time ≡ Ok sides
+pub sides_there : (left right known : List Point) (time : ℚ) (sides : Sides) → IsCurve left → AreKnown right known → AreThere left known time sides
+    → sides_at passes_Q left right time ≡ Ok sides
 sides_there left right known time sides c are there =
     sides_of-values passes_Q left right time sides.left sides.right (value_at-point passes_Q left there.left_is.place (time, sides.left) c there.left_is.is)
     (are.each there.right_is.place (time, sides.right) there.right_is.is)

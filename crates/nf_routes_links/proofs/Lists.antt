@@ -29,15 +29,18 @@ pub same_next : {A B : Type 0} (y : B) (xs : List A) (i : ℕ) → i < length xs
 same_next {A} y xs i h = same_more y xs i h ∙ ap (λ (k : ℕ). map (λ (_ : A). y) (take k xs)) (let n : suc i ≡ i + 1 = omega arith in n)
 
 -- the same for each of what one more stands for
-same_of-more : {A B C : Type 0} (f : A → C) (y : B) (xs : List A) (i : ℕ) → i < length xs → map (λ (_ : C). y) (map f (take i xs)) ++ y ∷ [] ≡ map (λ (_ : C). y) (map f (take (suc i) xs))
+same_of-more : {A B C : Type 0} (f : A → C) (y : B) (xs : List A) (i : ℕ) → i < length xs
+    → map (λ (_ : C). y) (map f (take i xs)) ++ y ∷ [] ≡ map (λ (_ : C). y) (map f (take (suc i) xs))
 same_of-more f y [] i h = absurd (omega arith)
 same_of-more f y (x ∷ xs) zero h = refl
 same_of-more {A} {B} f y (x ∷ xs) (suc i) h = ap (λ (l : List B). y ∷ l) (same_of-more f y xs i (omega arith))
 
-pub same_of-next : {A B C : Type 0} (f : A → C) (y : B) (xs : List A) (i : ℕ) → i < length xs → map (λ (_ : C). y) (map f (take i xs)) ++ y ∷ [] ≡ map (λ (_ : C). y) (map f (take (i + 1) xs))
+pub same_of-next : {A B C : Type 0} (f : A → C) (y : B) (xs : List A) (i : ℕ) → i < length xs
+    → map (λ (_ : C). y) (map f (take i xs)) ++ y ∷ [] ≡ map (λ (_ : C). y) (map f (take (i + 1) xs))
 same_of-next {A} {B} {C} f y xs i h = same_of-more f y xs i h ∙ ap (λ (k : ℕ). map (λ (_ : C). y) (map f (take k xs))) (let n : suc i ≡ i + 1 = omega arith in n)
 
 -- two lists that come to the same, each with one more that does
-pub same_pushed : {A B C : Type 0} (f : A → C) (g : B → C) (xs : List A) (x : A) (ys : List B) (y : B) (more : List A) → more ≡ xs ++ x ∷ [] → map f xs ≡ map g ys → f x ≡ g y → map f more ≡ map g (ys ++ y ∷ [])
+pub same_pushed : {A B C : Type 0} (f : A → C) (g : B → C) (xs : List A) (x : A) (ys : List B) (y : B) (more : List A) → more ≡ xs ++ x ∷ []
+    → map f xs ≡ map g ys → f x ≡ g y → map f more ≡ map g (ys ++ y ∷ [])
 same_pushed {A} {B} {C} f g xs x ys y more pushed same here =
     ap (λ (l : List A). map f l) pushed ∙ map-append f xs (x ∷ []) ∙ ap (λ (l : List C). l ++ f x ∷ []) same ∙ ap (λ (z : C). map g ys ++ z ∷ []) here ∙ sym (map-append g ys (y ∷ []))

@@ -103,6 +103,7 @@ module _ (passes : Passing) (exit entry : List Point) (exits : AreExits exit) (a
   sides_go sides e = after_ok Load (each (sides_at passes entry exit) (both_times entry exit)) (λ sides. checked_short passes ((0ℚ, 0ℚ) ∷ next_from 0ℚ sides)) sides e
 
 -- what holds of a list's value holds of what a call gives by it
-pub gives_ok : {X A : Type 0} (value : X → A) (result : Result X (Halt ℚ)) (said : Checked A) (P : A → Type 0) → Gives value (λ (q : ℚ). q) result (at_part Load said) → ((y : A) → said ≡ Ok y → P y) → IfOk result (λ x. P (value x))
+pub gives_ok : {X A : Type 0} (value : X → A) (result : Result X (Halt ℚ)) (said : Checked A) (P : A → Type 0)
+    → Gives value (λ (q : ℚ). q) result (at_part Load said) → ((y : A) → said ≡ Ok y → P y) → IfOk result (λ x. P (value x))
 gives_ok value (Ok x) said P g f = f (value x) (was_ok Load said (value x) g)
 gives_ok value (Err h) said P g f = tt

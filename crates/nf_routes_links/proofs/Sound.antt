@@ -65,7 +65,8 @@ pub record IsReady (taken : List ℕ) (e : ℕ) (route : Route) (sent : Sent) : 
   pub sound : IsSound taken route sent
   pub may : MayBegin e route sent
 
-pub all_ready : (taken : List ℕ) (e : ℕ) (routes : List Route) (entries : List Sent) → Along (IsSound taken) routes entries → list_all (test taken e) (all_pairs routes) ≡ true → Along (IsReady taken e) routes entries
+pub all_ready : (taken : List ℕ) (e : ℕ) (routes : List Route) (entries : List Sent) → Along (IsSound taken) routes entries
+    → list_all (test taken e) (all_pairs routes) ≡ true → Along (IsReady taken e) routes entries
 all_ready taken e [] [] along h = tt
 all_ready taken e [] (y ∷ entries) along h = absurd along
 all_ready taken e (x ∷ routes) [] along h = absurd along
@@ -89,7 +90,8 @@ begun_sends passes e horizon from_0 route sent next m h = by (begins_with route.
     by false t k = subst (λ (l : Sent). Sends e route l) (same_Ok _ _ k) (record { amounts = m.amounts; some = λ over. m.some over t })
 
 -- where something was sent there is something still
-begun_more : (passes : Passing) (e : ℕ) (horizon : ℚ) (route : Route) (sent next : Sent) → begin_if passes (begins_with route.links e) horizon route sent ≡ Ok next → 0 < length sent → 0 < length next
+begun_more : (passes : Passing) (e : ℕ) (horizon : ℚ) (route : Route) (sent next : Sent)
+    → begin_if passes (begins_with route.links e) horizon route sent ≡ Ok next → 0 < length sent → 0 < length next
 begun_more passes e horizon route sent next h some = by (begins_with route.links e) h
   where
     by : (b : Bool) → begin_if passes b horizon route sent ≡ Ok next → 0 < length next

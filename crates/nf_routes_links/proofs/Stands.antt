@@ -26,7 +26,8 @@ none_there [] f link h = absurd (cc)
 none_there (x ∷ links) zero link h = absurd (cc)
 none_there (x ∷ links) (suc f) link h = none_there links f link h
 
-pub stands_first : (net : Network) (routes : List Route) (so_far : SoFar) → AreRoutes net routes → so_far.links ≡ nothing_loaded net.links → so_far.entries ≡ nothing_sent routes → Stands net routes [] so_far
+pub stands_first : (net : Network) (routes : List Route) (so_far : SoFar) → AreRoutes net routes → so_far.links ≡ nothing_loaded net.links
+    → so_far.entries ≡ nothing_sent routes → Stands net routes [] so_far
 stands_first net routes so_far are h k = record {
   count = ap length h ∙ length-map net.links (λ _. None);
   loaded = λ f t e. absurd (cc);
@@ -35,7 +36,8 @@ stands_first net routes so_far are h k = record {
 }
 
 -- ---- a link that comes after those right before it can be loaded
-pub may_load : (net : Network) (routes : List Route) (taken : List ℕ) (e : ℕ) (so_far : SoFar) → Stands net routes taken so_far → IsPlaced (all_pairs routes) (length net.links) taken e → MayLoad net routes e so_far
+pub may_load : (net : Network) (routes : List Route) (taken : List ℕ) (e : ℕ) (so_far : SoFar) → Stands net routes taken so_far
+    → IsPlaced (all_pairs routes) (length net.links) taken e → MayLoad net routes e so_far
 may_load net routes taken e so_far s p = record {
   count = s.count;
   entries = along_as (IsReady taken e) (MayBegin e) (λ route sent r. r.may) routes so_far.entries (all_ready taken e routes so_far.entries s.entries p.after);
@@ -62,7 +64,8 @@ pub record Steps (passes : Passing) (horizon : ℚ) (routes : List Route) (so_fa
   pub sends : next_all passes e loaded.exit routes begun ≡ Ok entries
   pub comes : record { links = set so_far.links e (Some (record { end = end_by horizon (all_pairs routes) so_far.links e; loaded = loaded })); entries = entries } ≡ next
 
-pub steps_of : (passes : Passing) (horizon : ℚ) (routes : List Route) (so_far : SoFar) (e : ℕ) (link : Link) (next : SoFar) → load_here passes horizon routes so_far e (Some link) ≡ Ok next → Steps passes horizon routes so_far e link next
+pub steps_of : (passes : Passing) (horizon : ℚ) (routes : List Route) (so_far : SoFar) (e : ℕ) (link : Link) (next : SoFar)
+    → load_here passes horizon routes so_far e (Some link) ≡ Ok next → Steps passes horizon routes so_far e link next
 steps_of passes horizon routes so_far e link next h =
     let b = then_ok (begin_all passes horizon e routes so_far.entries) _ next h in
     let s = then_ok (sum_from passes e ((0ℚ, 0ℚ) ∷ []) routes b.between) _ next b.next in
@@ -80,13 +83,16 @@ steps_of passes horizon routes so_far e link next h =
       comes = same_Ok _ _ n.next;
     }
 
-module _ (passes : Passing) (net : Network) (routes : List Route) (horizon : ℚ) (taken : List ℕ) (e : ℕ) (link : Link) (so_far next : SoFar) (from_0 : 0ℚ ≤ℚ horizon) (good : IsNetwork net) (is : IsLink net e link)
+module _ (passes : Passing) (net : Network) (routes : List Route) (horizon : ℚ) (taken : List ℕ) (e : ℕ) (link : Link) (so_far next : SoFar)
+    (from_0 : 0ℚ ≤ℚ horizon) (good : IsNetwork net) (is : IsLink net e link)
     (s : Stands net routes taken so_far) (p : IsPlaced (all_pairs routes) (length net.links) taken e) (w : Steps passes horizon routes so_far e link next) where
   abbrev end : ℚ
   end = end_by horizon (all_pairs routes) so_far.links e
 
   begun-is : Along (IsBegun taken e) routes w.begun
-  begun-is = steps_keep (λ route sent. begin_if passes (begins_with route.links e) horizon route sent) (IsReady taken e) (IsBegun taken e) (begun_keeps passes taken e horizon from_0) routes so_far.entries w.begun
+  begun-is =
+      steps_keep (λ route sent. begin_if passes (begins_with route.links e) horizon route sent) (IsReady taken e) (IsBegun taken e)
+      (begun_keeps passes taken e horizon from_0) routes so_far.entries w.begun
       (all_ready taken e routes so_far.entries s.entries p.after) (sym (begin_all-is passes horizon e routes so_far.entries) ∙ w.begins)
 
   inflow-is : IsAmount w.inflow
@@ -97,7 +103,9 @@ module _ (passes : Passing) (net : Network) (routes : List Route) (horizon : ℚ
       (≤ℚ_trans _ _ _ from_0 (end-least horizon (all_pairs routes) so_far.links e)) w.loads
 
   entries-are : Along (IsSound (taken ++ e ∷ [])) routes w.entries
-  entries-are = steps_keep (λ route sent. next_if passes (goes_over route.links e) w.loaded.exit sent) (IsBegun taken e) (IsSound (taken ++ e ∷ [])) (next_keeps passes taken e w.loaded.exit exits-are) routes w.begun w.entries
+  entries-are =
+      steps_keep (λ route sent. next_if passes (goes_over route.links e) w.loaded.exit sent) (IsBegun taken e) (IsSound (taken ++ e ∷ []))
+      (next_keeps passes taken e w.loaded.exit exits-are) routes w.begun w.entries
       begun-is (sym (next_all-is passes e w.loaded.exit routes w.begun) ∙ w.sends)
 
   inside : e < length so_far.links
@@ -117,7 +125,8 @@ module _ (passes : Passing) (net : Network) (routes : List Route) (horizon : ℚ
 
   exits_then : (f : ℕ) (l : LoadedLink) → slice_get (set so_far.links e (Some here)) f ≡ Some (Some l) → AreExits l.loaded.exit
   exits_then f l h = ⊎_elim
-      (λ (v : (eqb e f ≡ true) × (e ≡ f)). subst (λ (x : LoadedLink). AreExits x.loaded.exit) (same (sym (set-same so_far.links e (Some here) inside) ∙ ap (slice_get (set so_far.links e (Some here))) v.1 ∙ h)) exits-are)
+      (λ (v : (eqb e f ≡ true) × (e ≡ f)). subst (λ (x : LoadedLink). AreExits x.loaded.exit)
+          (same (sym (set-same so_far.links e (Some here) inside) ∙ ap (slice_get (set so_far.links e (Some here))) v.1 ∙ h)) exits-are)
       (λ (v : (eqb e f ≡ false) × (e ≢ f)). s.exits f l (sym (set_other so_far.links e f (Some here) v.1) ∙ h))
       (eqb_tells e f)
     where
@@ -148,7 +157,8 @@ in_range t start (suc count) e h i k =
 
 module _ (net : Network) (routes : List Route) (order : List ℕ) (so_far : SoFar) (good : IsNetwork net) (are : AreRoutes net routes)
     (all : (f : ℕ) → f < length net.links → is_taken order f ≡ true) (s : Stands net routes order so_far) where
-  sent_there : (rs : List Route) (es : List Sent) (r : ℕ) (sent : Sent) → Along (IsSound order) rs es → slice_get es r ≡ Some sent → (route : Route) × (slice_get rs r ≡ Some route) × IsSound order route sent
+  sent_there : (rs : List Route) (es : List Sent) (r : ℕ) (sent : Sent) → Along (IsSound order) rs es → slice_get es r ≡ Some sent
+      → (route : Route) × (slice_get rs r ≡ Some route) × IsSound order route sent
   sent_there [] [] r sent along h = absurd (cc)
   sent_there [] (y ∷ es) r sent along h = absurd along
   sent_there (x ∷ rs) [] r sent along h = absurd along
@@ -171,7 +181,8 @@ module _ (net : Network) (routes : List Route) (order : List ℕ) (so_far : SoFa
     count = s.count;
     links = record { each = λ e h. s.loaded e (all e (let w = slice_get_within so_far.links e None h in let c = s.count in omega arith)) h };
     exits = s.exits;
-    sent = record { each = λ r sent h. let t = sent_there routes so_far.entries r sent s.entries h in let f = first_link t.0.links (are.walks r t.0 t.1) in t.2.some f.0 (all f.0 f.1) f.2 };
+    sent = record { each = λ r sent h. let t = sent_there routes so_far.entries r sent s.entries h in let f = first_link t.0.links (are.walks r t.0 t.1) in
+        t.2.some f.0 (all f.0 f.1) f.2 };
   }
 
 pub all_taken : (links : ℕ) (routes : List Route) (order : List ℕ) → order ≡ loading_order links routes → takes_all links routes ≡ true → (f : ℕ) → f < links → is_taken order f ≡ true

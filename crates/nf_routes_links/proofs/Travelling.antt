@@ -19,7 +19,8 @@ exit_same passes (None ∷ links) zero = refl
 exit_same passes (Some l ∷ links) zero = refl
 exit_same passes (o ∷ links) (suc e) = exit_same passes links e
 
-pub travel_on-is : (passes : Passing) (horizon : ℚ) (links : List (Option LoadedLink)) (route : List ℕ) (travel : List Point) → travel_on passes horizon links route travel ≡ travel_along passes horizon (map (loaded_or passes) links) route travel
+pub travel_on-is : (passes : Passing) (horizon : ℚ) (links : List (Option LoadedLink)) (route : List ℕ) (travel : List Point)
+    → travel_on passes horizon links route travel ≡ travel_along passes horizon (map (loaded_or passes) links) route travel
 travel_on-is passes horizon links [] travel = refl
 travel_on-is passes horizon links (e ∷ rest) travel =
     ap (λ (x : List Point). checked_composed passes x travel horizon >>= λ next. travel_on passes horizon links rest next) (exit_same passes links e)
@@ -47,7 +48,8 @@ complete_exits passes net routes so_far c = record { each = λ e link h. at so_f
     at (Some l ∷ links) zero link h none some = let same : l.loaded ≡ link = cc in subst (λ (x : Loaded). AreExits x.exit) same (some l refl)
     at (o ∷ links) (suc e) link h none some = at links e link h none some
 
-pub complete_over : (passes : Passing) (net : Network) (routes : List Route) (so_far : SoFar) → IsFullyLoaded net routes so_far → AreRoutes net routes → GoOverAll (map (loaded_or passes) so_far.links) routes
+pub complete_over : (passes : Passing) (net : Network) (routes : List Route) (so_far : SoFar) → IsFullyLoaded net routes so_far → AreRoutes net routes
+    → GoOverAll (map (loaded_or passes) so_far.links) routes
 complete_over passes net routes so_far c are = record {
   each = λ r route h. record {
     each = λ place e k.
@@ -101,7 +103,9 @@ pub record Travels (passes : Passing) (horizon : ℚ) (loaded : List Loaded) (li
 
 module _ (passes : Passing) (horizon : ℚ) (loaded : List Loaded) (links : List ℕ) where
   pub travels_first : (line : List Point) → 0ℚ ≤ℚ horizon → line ≡ departures horizon → Travels passes horizon loaded links line 0
-  travels_first line from_0 e = record { same = ap (λ (t : List Point). travel_along passes horizon loaded links t) e; positive = subst (λ (l : List Point). NoneNegative horizon l) (sym e) (departures_nn horizon from_0) }
+  travels_first line from_0 e =
+      record { same = ap (λ (t : List Point). travel_along passes horizon loaded links t) e; positive =
+      subst (λ (l : List Point). NoneNegative horizon l) (sym e) (departures_nn horizon from_0) }
 
   module _ (travel : List Point) (i : ℕ) (so_far : Travels passes horizon loaded links travel i) where
     pub travels_last : length links ≤ i → travel_along passes horizon loaded [] travel ≡ travel_along passes horizon loaded links (departures horizon)
@@ -111,16 +115,21 @@ module _ (passes : Passing) (horizon : ℚ) (loaded : List Loaded) (links : List
       exit_is : (loaded_at loaded e).exit ≡ link.exit
       exit_is = ap (λ (o : Option Loaded). (unwrap_or o (record { queue = []; outflow = []; exit = [] })).exit) is
 
-      here : (checked_composed passes link.exit travel horizon >>= λ next. travel_along passes horizon loaded (drop (i + 1) links) next) ≡ travel_along passes horizon loaded links (departures horizon)
+      here : (checked_composed passes link.exit travel horizon >>= λ next. travel_along passes horizon loaded (drop (i + 1) links) next)
+          ≡ travel_along passes horizon loaded links (departures horizon)
       here = ap (λ (x : List Point). checked_composed passes x travel horizon >>= λ next. travel_along passes horizon loaded (drop (i + 1) links) next) (sym exit_is)
           ∙ sym (ap (λ (l : List ℕ). travel_along passes horizon loaded l travel) (drop_at links i e at)) ∙ so_far.same
 
-      pub travels_stop : (h : Halt ℚ) → Stops (λ (q : ℚ). q) h (at_part Load (checked_composed passes link.exit travel horizon)) → Stops (λ (q : ℚ). q) h (at_part Load (travel_along passes horizon loaded links (departures horizon)))
+      pub travels_stop : (h : Halt ℚ) → Stops (λ (q : ℚ). q) h (at_part Load (checked_composed passes link.exit travel horizon))
+          → Stops (λ (q : ℚ). q) h (at_part Load (travel_along passes horizon loaded links (departures horizon)))
       travels_stop h s = stops_on h (at_part Load (checked_composed passes link.exit travel horizon)) (at_part Load (travel_along passes horizon loaded links (departures horizon)))
-          (λ p k. ap (at_part Load) (sym here) ∙ after_err Load (checked_composed passes link.exit travel horizon) (λ next. travel_along passes horizon loaded (drop (i + 1) links) next) p k) s
+          (λ p k. ap (at_part Load) (sym here) ∙ after_err Load (checked_composed passes link.exit travel horizon)
+              (λ next. travel_along passes horizon loaded (drop (i + 1) links) next) p k) s
 
-      pub travels_go : (next : List Point) → AreExits link.exit → at_part Load (checked_composed passes link.exit travel horizon) ≡ Ok next → IsComposedOf link.exit travel horizon next → Travels passes horizon loaded links next (i + 1)
+      pub travels_go : (next : List Point) → AreExits link.exit → at_part Load (checked_composed passes link.exit travel horizon) ≡ Ok next
+          → IsComposedOf link.exit travel horizon next → Travels passes horizon loaded links next (i + 1)
       travels_go next exits k w = record {
-        same = ap (λ (r : Checked (List Point)). r >>= λ t. travel_along passes horizon loaded (drop (i + 1) links) t) (sym (was_ok Load (checked_composed passes link.exit travel horizon) next k)) ∙ here;
+        same = ap (λ (r : Checked (List Point)). r >>= λ t. travel_along passes horizon loaded (drop (i + 1) links) t)
+            (sym (was_ok Load (checked_composed passes link.exit travel horizon) next k)) ∙ here;
         positive = composed_nn horizon link.exit travel next exits so_far.positive w;
       }

@@ -11,7 +11,8 @@ use Rattle.nf_frac_def.specs.Checked.{each, at_part}
 use Rattle.nf_frac_def.proofs.Each.{with_front, each_ok, each_err}
 
 -- after the last one
-pub all_said : {A : Type 0} (f : A → Result ℚ (Passed ℚ)) (xs : List A) (front : List ℚ) (i : ℕ) → length xs ≤ i → each f xs ≡ with_front front (each f (drop i xs)) → each f xs ≡ Ok front
+pub all_said : {A : Type 0} (f : A → Result ℚ (Passed ℚ)) (xs : List A) (front : List ℚ) (i : ℕ) → length xs ≤ i
+    → each f xs ≡ with_front front (each f (drop i xs)) → each f xs ≡ Ok front
 all_said f xs front i end h = h ∙ (ap (λ (rest : List _). with_front front (each f rest)) (drop_of_length-le xs end) ∙ ap Ok (append-nil front))
 
 -- at one that passes

@@ -30,7 +30,8 @@ same_read {B = B} {Rule = Rule} seen result read other e h =
     subst (λ (r : Result B (Broken Rule)). MatchResult result (λ x. r ≡ Ok (seen x)) (λ fault. IfBroken fault (λ broken. r ≡ Err broken))) (sym e) h
 
 -- ---- a line among others
-module _ {Draft Rule : Type 0} (add : Draft → List (List ℕ) → Result Draft Rule) (draft : Draft) (lines : List ReadLine) (i : ℕ) (line : ReadLine) (lt : i < length lines) (is : line ≡ get_or lines i line) where
+module _ {Draft Rule : Type 0} (add : Draft → List (List ℕ) → Result Draft Rule) (draft : Draft) (lines : List ReadLine) (i : ℕ) (line : ReadLine)
+    (lt : i < length lines) (is : line ≡ get_or lines i line) where
   abbrev read_on : Result Draft (Broken Rule) → Result Draft (Broken Rule)
   read_on r = r >>= λ next. add_lines add next (drop (i + 1) lines)
 
@@ -73,7 +74,8 @@ module _ {Rule Draft Given : Type 0} (frame : Frame Rule Draft Given) where
       pub other_first : (number : ℕ) → number ≡ first.number → is_head head.keyword.now first.words ≡ false → draft_of frame lines ≡ Err (record { rule = head.no_head; line = number })
       other_first number same e = by_first false e ∙ λ i. Err (record { rule = sym of_frame.no_head i; line = sym same i })
 
-      pub head_then : (draft : Draft) → draft ≡ frame.empty → is_head head.keyword.now first.words ≡ true → draft_of frame lines ≡ add_lines frame.add draft (take (length lines - 1) (drop 1 lines))
+      pub head_then : (draft : Draft) → draft ≡ frame.empty → is_head head.keyword.now first.words ≡ true
+          → draft_of frame lines ≡ add_lines frame.add draft (take (length lines - 1) (drop 1 lines))
       head_then draft same e =
           by_first true e
           ∙ ap (λ (d : Draft). add_lines frame.add d (drop 1 lines)) (sym same)
@@ -88,7 +90,8 @@ module _ {Rule Draft Given : Type 0} (frame : Frame Rule Draft Given) where
     abbrev content : List ReadLine
     content = content_lines (read_lines text)
 
-    open_file : (fault : Option TextLineFault) → by_bytes frame fault (draft_of frame content >>= frame.close) ≡ (by_bytes (open_frame frame) fault (draft_of (open_frame frame) content) >>= frame.close)
+    open_file : (fault : Option TextLineFault) → by_bytes frame fault (draft_of frame content >>= frame.close)
+        ≡ (by_bytes (open_frame frame) fault (draft_of (open_frame frame) content) >>= frame.close)
     open_file (Some (NotAscii line)) = refl
     open_file (Some (LongLine line)) = refl
     open_file None = ap (λ (r : Result Draft (Broken Rule)). r >>= frame.close) (sym (open_draft content))
@@ -109,7 +112,8 @@ module _ {Rule Draft : Type 0} (frame : Frame Rule Draft Draft) (text : List ℕ
   by_fault fault = by_bytes frame fault (draft_of frame (content_lines (read_lines text)))
 
   -- a line with a fault
-  pub text_refused : (head : FileHead Rule) → IsHeadOf frame head → (fault : TextFault) (answer : FileFault Rule) → answer ≡ fault_of_text head.not_ascii head.long_line fault → MatchesFault fault (first_fault text)
+  pub text_refused : (head : FileHead Rule) → IsHeadOf frame head → (fault : TextFault) (answer : FileFault Rule)
+      → answer ≡ fault_of_text head.not_ascii head.long_line fault → MatchesFault fault (first_fault text)
       → IfBroken answer (λ broken. drafted_in frame text ≡ Err broken)
   text_refused head of_frame fault answer e tells = subst (λ (f : FileFault Rule). IfBroken f (λ broken. drafted_in frame text ≡ Err broken)) (sym e) (at fault tells)
     where

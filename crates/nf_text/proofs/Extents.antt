@@ -55,7 +55,8 @@ ended_by n text place h = at (ends_with_cr (take place text))
     bytes : take (length part - 1) part ≡ take (place - 1) text
     bytes = ap (λ k. take (k - 1) (take place text)) (length-front text place h) ∙ take-take (place - 1) place text (omega arith)
 
-    at : (cr : Bool) → cond cr (record { number = n; bytes = take (length part - 1) part; ending = 13 ∷ 10 ∷ [] }) (record { number = n; bytes = part; ending = 10 ∷ [] }) ≡ line_by n text place true cr
+    at : (cr : Bool) → cond cr (record { number = n; bytes = take (length part - 1) part; ending = 13 ∷ 10 ∷ [] })
+        (record { number = n; bytes = part; ending = 10 ∷ [] }) ≡ line_by n text place true cr
     at true = ap (λ bytes. record { number = n; bytes = bytes; ending = 13 ∷ 10 ∷ [] }) bytes
     at false = refl
 
@@ -123,7 +124,8 @@ module _ (text : List ℕ) (start : ℕ) (h : start < length text) where
       let rest : length (take (length text - start) (drop start text)) ≡ length (drop start text) = ap length (take_rest text start) in omega (arith, rest, length-drop start text, h)
 
 -- the bytes that are cut out of a text as its first line from a place on
-pub line_bytes : (text : List ℕ) (start bytes : ℕ) → bytes ≡ bytes_len (take (length text - start) (drop start text)) → take (start + bytes - start) (drop start text) ≡ take (bytes_len (drop start text)) (drop start text)
+pub line_bytes : (text : List ℕ) (start bytes : ℕ) → bytes ≡ bytes_len (take (length text - start) (drop start text))
+    → take (start + bytes - start) (drop start text) ≡ take (bytes_len (drop start text)) (drop start text)
 line_bytes text start bytes e =
     let some : start + bytes - start ≡ bytes = omega arith in
     ap (λ n. take n (drop start text)) (some ∙ e ∙ ap bytes_len (take_rest text start))

@@ -65,9 +65,11 @@ stops_at_fault text first fault before n start h b t f =
     tells_same fault (option_or (line_fault (first_line n (drop start text))) (first_fault_of (lines_from (n + 1) (drop next text)))) first left
     (tells_or fault (line_fault (first_line n (drop start text))) (first_fault_of (lines_from (n + 1) (drop next text))) t)
 
-pub step_rise : (lines : List Line) (line : Line) (start next : ℕ) → start ≤ next → Rise 0 start (spans_of lines) → Rise start next line.words.items → Rise 0 next (spans_of (lines ++ line ∷ []))
+pub step_rise : (lines : List Line) (line : Line) (start next : ℕ) → start ≤ next → Rise 0 start (spans_of lines) → Rise start next line.words.items
+    → Rise 0 next (spans_of (lines ++ line ∷ []))
 step_rise lines line start next h r t =
-    let both : spans_of (lines ++ line ∷ []) ≡ spans_of lines ++ line.words.items = flat_map-append (λ line. line.words.items) lines (line ∷ []) ∙ ap (λ t. spans_of lines ++ t) (append-nil line.words.items) in
+    let both : spans_of (lines ++ line ∷ []) ≡ spans_of lines ++ line.words.items = flat_map-append (λ line. line.words.items) lines (line ∷ [])
+        ∙ ap (λ t. spans_of lines ++ t) (append-nil line.words.items) in
     rw both (Rise-append 0 start next (spans_of lines) line.words.items (omega arith) h r t)
 
 -- each word of each line is in the text

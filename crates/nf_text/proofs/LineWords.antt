@@ -32,10 +32,13 @@ line_is_read number rest plain read start whole e h p =
     let all : List (List ℕ) = words (take (bytes_len rest) rest) in
     let same : start + whole - start ≡ whole_len rest = omega (arith, h) in
     let line : take (start + whole - start) rest ≡ (first_line number rest).bytes ++ (first_line number rest).ending = ap (λ n. take n rest) same ∙ sym (whole_bytes number rest) in
-    let q : plain ≡ bytes_eq ((first_line number rest).bytes ++ (first_line number rest).ending) (line_of_words all) = p ∙ ap (λ t. bytes_eq t (line_of_words read)) line ∙ ap (λ ws. bytes_eq ((first_line number rest).bytes ++ (first_line number rest).ending) (line_of_words ws)) e in
+    let q : plain ≡ bytes_eq ((first_line number rest).bytes ++ (first_line number rest).ending) (line_of_words all) = p
+        ∙ ap (λ t. bytes_eq t (line_of_words read)) line ∙ ap (λ ws. bytes_eq ((first_line number rest).bytes ++ (first_line number rest).ending)
+        (line_of_words ws)) e in
     at q
   where
-    at : plain ≡ bytes_eq ((first_line number rest).bytes ++ (first_line number rest).ending) (line_of_words (words (take (bytes_len rest) rest))) → record { number = number; plain = plain; words = read } ≡ read_line (first_line number rest)
+    at : plain ≡ bytes_eq ((first_line number rest).bytes ++ (first_line number rest).ending) (line_of_words (words (take (bytes_len rest) rest)))
+        → record { number = number; plain = plain; words = read } ≡ read_line (first_line number rest)
     at q = ap (λ ws. record { number = number; plain = plain; words = ws }) e ∙ ap (λ b. record { number = number; plain = b; words = words (take (bytes_len rest) rest) }) q
 
 -- what stands before the comment ends before the line does

@@ -117,12 +117,14 @@ pub Rise_lower : (less first last : ℕ) (spans : List Span) → less ≤ first 
 Rise_lower less first last [] h r = tt
 Rise_lower less first last (s ∷ spans) h r = (omega (arith, r.0, h), r.1, r.2, r.3)
 
-pub Rise-append : (first middle last : ℕ) (spans others : List Span) → first ≤ middle → middle ≤ last → Rise first middle spans → Rise middle last others → Rise first last (spans ++ others)
+pub Rise-append : (first middle last : ℕ) (spans others : List Span) → first ≤ middle → middle ≤ last → Rise first middle spans → Rise middle last others
+    → Rise first last (spans ++ others)
 Rise-append first middle last [] others h k r t = Rise_lower first middle last others h t
 Rise-append first middle last (s ∷ spans) others h k r t =
     (r.0, r.1, omega (arith, r.2, k), Rise-append (s.start + s.len) middle last spans others r.2 k r.3 t)
 
-pub Rise_push : (first at len last : ℕ) (spans : List Span) → first ≤ at → 0 < len → at + len ≤ last → Rise first at spans → Rise first last (spans ++ record { start = at; len = len } ∷ [])
+pub Rise_push : (first at len last : ℕ) (spans : List Span) → first ≤ at → 0 < len → at + len ≤ last → Rise first at spans
+    → Rise first last (spans ++ record { start = at; len = len } ∷ [])
 Rise_push first at len last spans h some k r =
     Rise-append first at last spans (record { start = at; len = len } ∷ []) h (omega (arith, k)) r (omega arith, some, k, tt)
 

@@ -31,20 +31,24 @@ module _ (passes : Passing) (net : Network) (sets : Sets) (rate : ℚ) (base : P
     found_is_only : SlopesAreOnly net sets rate slopes
     found_is_only no_cycle other_flows other is_thin = slopes-unique net sets rate good no_cycle other_flows other flows slopes is_thin found_is_thin
 
-  pub result_is_thin : (result : Result Thin SearchFault) → Searches (IsSearch passes net sets rate base budget) budget result → IfOk result (λ thin. IsThinFlow net sets rate thin.flows.items thin.labels.items)
+  pub result_is_thin : (result : Result Thin SearchFault) → Searches (IsSearch passes net sets rate base budget) budget result
+      → IfOk result (λ thin. IsThinFlow net sets rate thin.flows.items thin.labels.items)
   result_is_thin (Ok thin) s = found_is_thin thin.place thin.pattern thin.flows.items thin.labels.items s
   result_is_thin (Err fault) s = tt
 
-  pub result_is_only : (result : Result Thin SearchFault) → Searches (IsSearch passes net sets rate base budget) budget result → IfOk result (λ thin. SlopesAreOnly net sets rate thin.labels.items)
+  pub result_is_only : (result : Result Thin SearchFault) → Searches (IsSearch passes net sets rate base budget) budget result
+      → IfOk result (λ thin. SlopesAreOnly net sets rate thin.labels.items)
   result_is_only (Ok thin) s = found_is_only thin.place thin.pattern thin.flows.items thin.labels.items s
   result_is_only (Err fault) s = tt
 
   -- The place does not matter.
-  pub flow_is_thin : (result : Result ThinFlow SearchFault) → Finds (IsSearch passes net sets rate base budget) budget result → IfOk result (λ found. IsThinFlow net sets rate found.flows.items found.slopes.items)
+  pub flow_is_thin : (result : Result ThinFlow SearchFault) → Finds (IsSearch passes net sets rate base budget) budget result
+      → IfOk result (λ found. IsThinFlow net sets rate found.flows.items found.slopes.items)
   flow_is_thin (Ok found) s = found_is_thin s.0 found.pattern found.flows.items found.slopes.items s.1
   flow_is_thin (Err fault) s = tt
 
-  pub flow_is_only : (result : Result ThinFlow SearchFault) → Finds (IsSearch passes net sets rate base budget) budget result → IfOk result (λ found. SlopesAreOnly net sets rate found.slopes.items)
+  pub flow_is_only : (result : Result ThinFlow SearchFault) → Finds (IsSearch passes net sets rate base budget) budget result
+      → IfOk result (λ found. SlopesAreOnly net sets rate found.slopes.items)
   flow_is_only (Ok found) s = found_is_only s.0 found.pattern found.flows.items found.slopes.items s.1
   flow_is_only (Err fault) s = tt
 

@@ -69,7 +69,8 @@ module _ (passes : Passing) (net : Network) (sets : Sets) (rate : ℚ) (first : 
       loop_finds now thin t = done (Ok thin) (found passes net sets rate listing q is given.last vain (so.2 listing is) pattern next budget thin t.0 t.1)
 
       pub loop_fails : (now : Vain) (fault : SearchFault) → TriesNext passes net sets rate budget pattern vain now (Err fault) → Finds (Err fault)
-      loop_fails now (SearchFault.Budget tried) t = done (Err (SearchFault.Budget tried)) (t.1, over_budget passes net sets rate listing q is given.last vain (so.2 listing is) pattern next budget t.0)
+      loop_fails now (SearchFault.Budget tried) t = done (Err (SearchFault.Budget tried))
+          (t.1, over_budget passes net sets rate listing q is given.last vain (so.2 listing is) pattern next budget t.0)
       loop_fails now (SearchFault.Passed place at) t = absurd t
       loop_fails now SearchFault.NoPattern t = absurd t
       loop_fails now SearchFault.Memory t = tt

@@ -55,10 +55,12 @@ module _ (passes : Passing) (net : Network) (sets : Sets) (rate : ℚ) (base for
   pub next_later : IsPattern sets (unbounded net) base → (pace : Pace) → KeepsUp net sets base forced given.last pace → StaysBehind (question_of net sets base) pace (filled forced p)
   next_later is_base pace keeps all is =
       let w = keeps all is in
-      let later : IsBefore (question_left forced (question_of net sets base)).base w.part p = subst (λ (l : Last). IsLater (question_left forced (question_of net sets base)).base l p) w.is_last next.later in
+      let later : IsBefore (question_left forced (question_of net sets base)).base w.part p =
+          subst (λ (l : Last). IsLater (question_left forced (question_of net sets base)).base l p) w.is_last next.later in
       record {
         through = w.stands.through;
-        later = subst (λ (l : Last). IsLater base l (filled forced p)) (sym w.stands.last) (order_put sets (unbounded net) forced base w.part p forcing is_base w.listed.states next.listed.states later);
+        later = subst (λ (l : Last). IsLater base l (filled forced p)) (sym w.stands.last)
+            (order_put sets (unbounded net) forced base w.part p forcing is_base w.listed.states next.listed.states later);
       }
 
   pub next_kept : (pace : Pace) → IsInStep (question_of net sets base) pace (filled forced p) → KeepsUp net sets base forced after.last pace
@@ -99,7 +101,8 @@ module _ (passes : Passing) (net : Network) (sets : Sets) (rate : ℚ) (base for
       },
     )
 
-    pub narrow_failed : (fault : SearchFault) → SiftsNext passes net sets rate budget (filled forced p) before now (Err fault) → NarrowFinds passes net sets rate base forced budget (Err fault)
+    pub narrow_failed : (fault : SearchFault) → SiftsNext passes net sets rate budget (filled forced p) before now (Err fault)
+        → NarrowFinds passes net sets rate base forced budget (Err fault)
     narrow_failed (SearchFault.Budget tried) t listing narrow n = (
       t.1,
       record {
@@ -108,7 +111,8 @@ module _ (passes : Passing) (net : Network) (sets : Sets) (rate : ℚ) (base for
         has_place = (before.tried, refl, here listing narrow n);
         none = (vainly listing narrow n).1;
         beyond = λ there at.
-            (let le = no_earlier_place passes net sets rate base forced listing narrow n (suc before.tried) there p (before.tried, refl, here listing narrow n) at in let e = t.0 in omega arith);
+            (let le = no_earlier_place passes net sets rate base forced listing narrow n (suc before.tried) there p
+                (before.tried, refl, here listing narrow n) at in let e = t.0 in omega arith);
       },
     )
     narrow_failed (SearchFault.Passed place at) t listing narrow n = t

@@ -29,7 +29,8 @@ none_round net sets none e walk v s = none (e ∷ walk) (record {
 })
 
 -- So an order of the nodes along these links excludes cycles.
-pub ordered_round : {A : Type 0} (net : Network) (sets : Sets) (given : List Hop) (active : List Bool) (found : Option A) (order : A) → given ≡ hops net → active ≡ sets.active → found ≡ Some order
+pub ordered_round : {A : Type 0} (net : Network) (sets : Sets) (given : List Hop) (active : List Bool) (found : Option A) (order : A) → given ≡ hops net
+    → active ≡ sets.active → found ≡ Some order
     → (IsNone found ↔ ((cycle : List ℕ) × IsChosenCycle given active cycle)) → HoldNoCycle net sets
 ordered_round {A = A} net sets given active found order same_hops same_flags is none =
     none_round net sets (λ cycle chosen. no (subst (λ (o : Option A). IsNone o) is

@@ -65,7 +65,8 @@ module _ (passes : Passing) (net : Network) (sets : Sets) (rate : ℚ) (listing 
       none_accepted = subst (λ (n : ℕ). NoneAcceptedBefore passes net sets rate listing (suc n)) same so.none_accepted;
     }
 
-    pub found : (budget : ℕ) (thin : Thin) → vain.tried < budget → IsFound passes net sets rate pattern vain thin → Answers passes net sets rate listing budget (Found thin.place thin.pattern thin.flows.items thin.labels.items)
+    pub found : (budget : ℕ) (thin : Thin) → vain.tried < budget → IsFound passes net sets rate pattern vain thin
+        → Answers passes net sets rate listing budget (Found thin.place thin.pattern thin.flows.items thin.labels.items)
     found budget thin less f = record {
       within = (let s = f.place in omega arith);
       has_place = subst (λ (n : ℕ). HasPlace listing n thin.pattern) (sym f.place) (subst (λ (p : Pattern). HasPlace listing (suc vain.tried) p) (sym f.pattern_is) place_is);
@@ -95,7 +96,8 @@ module _ (passes : Passing) (net : Network) (sets : Sets) (rate : ℚ) (listing 
       still None all ok = all_more all ok
       still (Some (place, at)) first ok = first
 
-      now : (at : PassedAt ℚ) → pattern_lists passes net sets rate pattern ≡ Err at → (before : Option (ℕ × PassedAt ℚ)) → PassedBy vain.tried before → PassedBy after.tried (or_first before (suc vain.tried, at))
+      now : (at : PassedAt ℚ) → pattern_lists passes net sets rate pattern ≡ Err at → (before : Option (ℕ × PassedAt ℚ)) → PassedBy vain.tried before
+          → PassedBy after.tried (or_first before (suc vain.tried, at))
       now at passes_here None all = record { pattern = pattern; has_place = place_is; passed = passes_here; first = λ other p less has. all other p less has }
       now at passes_here (Some (place, first_at)) first = first
 
@@ -129,14 +131,16 @@ module _ (passes : Passing) (net : Network) (sets : Sets) (rate : ℚ) (listing 
     search_ends = ended vain.passed so.passed
 
 -- ---- with the listing
-module _ (passes : Passing) (net : Network) (sets : Sets) (rate : ℚ) (q : Question) (asked : q ≡ question_of net sets q.base) (listing : List Pattern) (is : IsListingOf q listing) (budget : ℕ) where
+module _ (passes : Passing) (net : Network) (sets : Sets) (rate : ℚ) (q : Question) (asked : q ≡ question_of net sets q.base) (listing : List Pattern)
+    (is : IsListingOf q listing) (budget : ℕ) where
   listing_in : IsListingIn net sets q.base listing
   listing_in = subst (λ (x : Question). IsListingOf x listing) asked is
 
   searched : (answer : SearchAnswer) → Answers passes net sets rate listing budget answer → IsSearch passes net sets rate q.base budget answer
   searched answer a = record { listing = listing; is_listing = listing_in; answers = a }
 
-  pub all_searched : (result : Result Thin SearchFault) → Searches (Answers passes net sets rate listing budget) budget result → Searches (IsSearch passes net sets rate q.base budget) budget result
+  pub all_searched : (result : Result Thin SearchFault) → Searches (Answers passes net sets rate listing budget) budget result
+      → Searches (IsSearch passes net sets rate q.base budget) budget result
   all_searched (Ok thin) a = searched (Found thin.place thin.pattern thin.flows.items thin.labels.items) a
   all_searched (Err (SearchFault.Budget tried)) a = (a.0, searched OverBudget a.1)
   all_searched (Err (SearchFault.Passed place at)) a = searched (PassesAt place at) a

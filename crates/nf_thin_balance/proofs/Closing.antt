@@ -83,7 +83,8 @@ within_set ranges e here flow below others is k range at = ⊎_elim
     (tell k e)
 
 -- Without the link, the others have the same flows.
-pub within_but : (ranges : List Range) (e : ℕ) (none : Range) (flow : ℕ → ℚ) → e < length ranges → AreWithin ranges flow → IsWithin none 0ℚ → AreWithin (slice_set ranges e none) (but e flow)
+pub within_but : (ranges : List Range) (e : ℕ) (none : Range) (flow : ℕ → ℚ) → e < length ranges → AreWithin ranges flow → IsWithin none 0ℚ
+    → AreWithin (slice_set ranges e none) (but e flow)
 within_but ranges e none flow below within is = within_set ranges e none (but e flow) below
     (λ k range other at. subst (λ (x : ℚ). IsWithin range x) (sym (but_other e k flow other)) (within k range at))
     (subst (λ (x : ℚ). IsWithin none x) (sym (but_here e flow)) is)

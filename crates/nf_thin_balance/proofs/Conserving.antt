@@ -283,5 +283,6 @@ module _ (net : Network) (ranges : List Range) (v e : ℕ) (range : Range) (link
         (sums _ _ (so_far flow within) (within e here at))
 
     pub bounds_difference : leaves ≡ false → ((x y : ℚ) → IsWithin range x → IsWithin here y → IsWithin more (x -ℚ y)) → BoundsFirst net ranges v (suc e) more
-    bounds_difference not_out differences flow within = subst (IsWithin more) (lesser_surplus net flow v e link is_link (tail_is ∙ not_out) (head_is ∙ other_true leaves enters apart not_out))
+    bounds_difference not_out differences flow within = subst (IsWithin more)
+        (lesser_surplus net flow v e link is_link (tail_is ∙ not_out) (head_is ∙ other_true leaves enters apart not_out))
         (differences _ _ (so_far flow within) (within e here at))

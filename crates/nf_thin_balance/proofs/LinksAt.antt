@@ -106,7 +106,8 @@ module _ (net : Network) (e : ℕ) (link : Link) (is_link : IsLink net e link) (
     once_long = ap (λ (l : List ℕ). length l) once_is ∙ length_set first t e
 
     first_at : (v : ℕ) → v ≢ t → v ≢ h → slice_get firsts v ≡ slice_get first v
-    first_at v not_tail not_head = ap (λ (l : List ℕ). slice_get l v) firsts_are ∙ (set_other once h v e not_head ∙ (ap (λ (l : List ℕ). slice_get l v) once_is ∙ set_other first t v e not_tail))
+    first_at v not_tail not_head = ap (λ (l : List ℕ). slice_get l v) firsts_are
+        ∙ (set_other once h v e not_head ∙ (ap (λ (l : List ℕ). slice_get l v) once_is ∙ set_other first t v e not_tail))
 
     at_own : (v : ℕ) → v ≡ t → v ≢ h → slice_get firsts v ≡ Some e
     at_own v own not_head = ap (λ (l : List ℕ). slice_get l v) firsts_are ∙ (set_other once h v e not_head ∙ (ap (λ (l : List ℕ). slice_get l v) once_is

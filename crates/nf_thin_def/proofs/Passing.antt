@@ -49,7 +49,8 @@ far_change = record {
 
 extend_passes : passing (phases_by far_change (n 1) (first_standing far_change (n 0 ∷ n 1 ∷ [])) ((Some Tight ∷ []) ∷ (Some Tight ∷ []) ∷ []))
     ≡ Some (Extend, Difference, (pos L, 1), (pos 1, 3))
-unfolding pattern_lists table_list equations verdict_list phase_lists extend_list advance_list labels_after curve_list checked beyond whole ratio gcd neg_ℚ inv_ℚ ◌+ℚ◌ ◌-ℚ◌ ◌*ℚ◌ ◌/ℚ◌ le_ℚ lt_ℚ min_ℚ
+unfolding pattern_lists table_list equations verdict_list phase_lists extend_list advance_list labels_after curve_list checked beyond whole ratio gcd neg_ℚ
+    inv_ℚ ◌+ℚ◌ ◌-ℚ◌ ◌*ℚ◌ ◌/ℚ◌ le_ℚ lt_ℚ min_ℚ
 extend_passes = refl
 
 -- ---- advance: a label at the greatest number cannot grow by 1
@@ -57,7 +58,8 @@ abbrev long : Network
 long = record { nodes = 2; source = 0; sink = 1; links = link 0 1 (n L) (Some (n 1)) ∷ []; pieces = record { start = n 0; rate = n 1 } ∷ [] }
 
 advance_passes : passing (phases_by long (n 1) (first_standing long (n 0 ∷ n L ∷ [])) ((Some Tight ∷ []) ∷ [])) ≡ Some (Advance, Sum, (pos L, 1), (pos 1, 1))
-unfolding pattern_lists table_list equations verdict_list phase_lists extend_list advance_list labels_after curve_list checked beyond whole ratio gcd neg_ℚ inv_ℚ ◌+ℚ◌ ◌-ℚ◌ ◌*ℚ◌ ◌/ℚ◌ le_ℚ lt_ℚ min_ℚ
+unfolding pattern_lists table_list equations verdict_list phase_lists extend_list advance_list labels_after curve_list checked beyond whole ratio gcd neg_ℚ
+    inv_ℚ ◌+ℚ◌ ◌-ℚ◌ ◌*ℚ◌ ◌/ℚ◌ le_ℚ lt_ℚ min_ℚ
 advance_passes = refl
 
 -- ---- curve: a flow of the greatest rate for a phase of length 2
@@ -65,5 +67,6 @@ abbrev strong : Network
 strong = record { nodes = 2; source = 0; sink = 1; links = link 0 1 (n 1) (Some (n L)) ∷ []; pieces = record { start = n 0; rate = n L } ∷ [] }
 
 curve_passes : passing (phases_by strong (n 2) (first_standing strong (n 0 ∷ n 1 ∷ [])) ((Some Tight ∷ []) ∷ [])) ≡ Some (Curve, Product, (pos 2, 1), (pos L, 1))
-unfolding pattern_lists table_list equations verdict_list phase_lists extend_list advance_list labels_after curve_list checked beyond whole ratio gcd neg_ℚ inv_ℚ ◌+ℚ◌ ◌-ℚ◌ ◌*ℚ◌ ◌/ℚ◌ le_ℚ lt_ℚ min_ℚ
+unfolding pattern_lists table_list equations verdict_list phase_lists extend_list advance_list labels_after curve_list checked beyond whole ratio gcd neg_ℚ
+    inv_ℚ ◌+ℚ◌ ◌-ℚ◌ ◌*ℚ◌ ◌/ℚ◌ le_ℚ lt_ℚ min_ℚ
 curve_passes = refl

@@ -99,7 +99,9 @@ pub range-only : (n k i w : ℕ) (c : ℚ) (xs : List ℚ) → w ≡ k + i → i
 range-only zero k i w c xs e h l = absurd (omega arith)
 range-only (suc n) k i w c [] e h l = absurd (cc)
 range-only (suc n) k zero w c (x ∷ xs) e h l = term_only (only w c k) c x _ (only-here w c k (omega arith)) (range-before n (k + 1) w c xs (omega arith))
-range-only (suc n) k (suc i) w c (x ∷ xs) e h l = term_skipped (only w c k) x _ (c *ℚ number_at xs i) (only-else w c k (λ same. absurd (omega arith))) (range-only n (k + 1) i w c xs (omega arith) (omega arith) (omega arith))
+range-only (suc n) k (suc i) w c (x ∷ xs) e h l =
+    term_skipped (only w c k) x _ (c *ℚ number_at xs i) (only-else w c k (λ same. absurd (omega arith)))
+    (range-only n (k + 1) i w c xs (omega arith) (omega arith) (omega arith))
 
 active-before : (active : List Bool) (k e : ℕ) (c : ℚ) (xs : List ℚ) → e < k → dot (only e c) (active_from k active) xs ≡ 0ℚ
 active-before [] k e c xs h = refl
@@ -112,7 +114,9 @@ pub active-only : (active : List Bool) (k i e : ℕ) (c : ℚ) (xs : List ℚ) �
 active-only [] k i e c xs same l = zero_of_times_zero c
 active-only (true ∷ active) k i e c [] same l = absurd (cc)
 active-only (true ∷ active) k zero e c (x ∷ xs) same l = term_only (only e c k) c x _ (only-here e c k (omega arith)) (active-before active (suc k) e c xs (omega arith))
-active-only (true ∷ active) k (suc i) e c (x ∷ xs) same l = term_skipped (only e c k) x _ (c *ℚ number_at (onto_links active xs) i) (only-else e c k (λ s. absurd (omega arith))) (active-only active (suc k) i e c xs (omega arith) (cc))
+active-only (true ∷ active) k (suc i) e c (x ∷ xs) same l =
+    term_skipped (only e c k) x _ (c *ℚ number_at (onto_links active xs) i) (only-else e c k (λ s. absurd (omega arith)))
+    (active-only active (suc k) i e c xs (omega arith) (cc))
 active-only (false ∷ active) k zero e c xs same l = active-before active (suc k) e c xs (omega arith) ∙ zero_of_times_zero c
 active-only (false ∷ active) k (suc i) e c xs same l = active-only active (suc k) i e c xs (omega arith) l
 

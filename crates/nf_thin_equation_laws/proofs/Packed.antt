@@ -27,7 +27,8 @@ not_set : Some false ≡ Some true → ⊥
 not_set e = cc
 
 -- No flow is lost if the others are 0.
-pub onto-packed : (active : List Bool) (flows : List ℚ) → length flows ≡ length active → ((e : ℕ) → (Has active e → ⊥) → number_at flows e ≡ 0ℚ) → onto_links active (packed active flows) ≡ flows
+pub onto-packed : (active : List Bool) (flows : List ℚ) → length flows ≡ length active → ((e : ℕ) → (Has active e → ⊥) → number_at flows e ≡ 0ℚ)
+    → onto_links active (packed active flows) ≡ flows
 onto-packed [] [] e z = refl
 onto-packed [] (x ∷ flows) e z = absurd (cc)
 onto-packed (b ∷ active) [] e z = absurd (cc)

@@ -73,7 +73,8 @@ module _ (P : Row → Type 0) where
     numbers_at zero k h v low high apart = absurd (omega arith)
     numbers_at (suc n) k h v low high apart = ⊎_elim
         (λ (e : (eqb v k ≡ true) × (v ≡ k)). picked_here e.1)
-        (λ (e : (eqb v k ≡ false) × (v ≢ k)). (let other = e.1 in numbers_at n (k + 1) (picked_rest (is_kept k) k (filter is_kept (range_with_len (k + 1) n)) h) v (later other) (omega arith) apart))
+        (λ (e : (eqb v k ≡ false) × (v ≢ k)). (let other = e.1 in numbers_at n (k + 1)
+            (picked_rest (is_kept k) k (filter is_kept (range_with_len (k + 1) n)) h) v (later other) (omega arith) apart))
         (eqb_tells v k)
       where
         later : v ≢ k → k + 1 ≤ v
@@ -101,13 +102,15 @@ module _ (P : Row → Type 0) where
     links_each (link ∷ links) k h = each-append (rows_if (k, link)) (flat_map rows_if (enumerate_from (k + 1) links)) (if_each (set k) (f k link) (λ s. h 0 k link (omega arith) refl s))
         (links_each links (k + 1) (λ i e l same at s. h (suc i) e l (omega arith) at s))
 
-    pub links_at : (links : List Link) (k : ℕ) → Each (flat_map rows_if (enumerate_from k links)) → (i e : ℕ) (link : Link) → e ≡ k + i → slice_get links i ≡ Some link → set e ≡ true → P (f e link)
+    pub links_at : (links : List Link) (k : ℕ) → Each (flat_map rows_if (enumerate_from k links)) → (i e : ℕ) (link : Link) → e ≡ k + i
+        → slice_get links i ≡ Some link → set e ≡ true → P (f e link)
     links_at [] k h i e link same at s = absurd (none-some link at)
     links_at (l ∷ links) k h zero e link same at s =
         let here : k ≡ e = omega arith in
         subst (λ (j : ℕ). P (f j link)) here (subst (λ (m : Link). P (f k m)) (same_Some l link at)
         (if_at (set k) (f k l) (ap set here ∙ s) (each-first (rows_if (k, l)) (flat_map rows_if (enumerate_from (k + 1) links)) h)))
-    links_at (l ∷ links) k h (suc i) e link same at s = links_at links (k + 1) (each-second (rows_if (k, l)) (flat_map rows_if (enumerate_from (k + 1) links)) h) i e link (omega arith) at s
+    links_at (l ∷ links) k h (suc i) e link same at s = links_at links (k + 1)
+        (each-second (rows_if (k, l)) (flat_map rows_if (enumerate_from (k + 1) links)) h) i e link (omega arith) at s
 
 -- ---- the number of rows
 -- The numbers below a bound, without one of them.
@@ -115,7 +118,8 @@ filtered_before : (n k w : ℕ) → w < k → length (filter (λ v. not (eqb v w
 filtered_before zero k w h = refl
 filtered_before (suc n) k w h = ⊎_elim
     (λ (e : (eqb k w ≡ true) × (k ≡ w)). (let s = e.1 in absurd (same s)))
-    (λ (e : (eqb k w ≡ false) × (k ≢ w)). ap (λ (b : Bool). length (cond (not b) (k ∷ filter (λ v. not (eqb v w)) (range_with_len (k + 1) n)) (filter (λ v. not (eqb v w)) (range_with_len (k + 1) n)))) e.0
+    (λ (e : (eqb k w ≡ false) × (k ≢ w)). ap (λ (b : Bool). length (cond (not b) (k ∷ filter (λ v. not (eqb v w)) (range_with_len (k + 1) n))
+        (filter (λ v. not (eqb v w)) (range_with_len (k + 1) n)))) e.0
     ∙ ap suc (filtered_before n (k + 1) w (omega arith)))
     (eqb_tells k w)
   where
@@ -125,9 +129,11 @@ filtered_before (suc n) k w h = ⊎_elim
 pub filtered-length : (n k w : ℕ) → k ≤ w → w < k + n → suc (length (filter (λ v. not (eqb v w)) (range_with_len k n))) ≡ n
 filtered-length zero k w low high = absurd (omega arith)
 filtered-length (suc n) k w low high = ⊎_elim
-    (λ (e : (eqb k w ≡ true) × (k ≡ w)). ap (λ (b : Bool). suc (length (cond (not b) (k ∷ filter (λ v. not (eqb v w)) (range_with_len (k + 1) n)) (filter (λ v. not (eqb v w)) (range_with_len (k + 1) n))))) e.0
+    (λ (e : (eqb k w ≡ true) × (k ≡ w)). ap (λ (b : Bool). suc (length (cond (not b) (k ∷ filter (λ v. not (eqb v w)) (range_with_len (k + 1) n))
+        (filter (λ v. not (eqb v w)) (range_with_len (k + 1) n))))) e.0
     ∙ ap suc (filtered_before n (k + 1) w (after e.1)))
-    (λ (e : (eqb k w ≡ false) × (k ≢ w)). ap (λ (b : Bool). suc (length (cond (not b) (k ∷ filter (λ v. not (eqb v w)) (range_with_len (k + 1) n)) (filter (λ v. not (eqb v w)) (range_with_len (k + 1) n))))) e.0
+    (λ (e : (eqb k w ≡ false) × (k ≢ w)). ap (λ (b : Bool). suc (length (cond (not b) (k ∷ filter (λ v. not (eqb v w)) (range_with_len (k + 1) n))
+        (filter (λ v. not (eqb v w)) (range_with_len (k + 1) n))))) e.0
     ∙ ap suc (filtered-length n (k + 1) w (later e.1) (omega arith)))
     (eqb_tells k w)
   where
@@ -142,7 +148,8 @@ module _ (set : ℕ → Bool) (f : ℕ → Link → Row) where
   abbrev set_rows : ℕ → List Link → List Row
   set_rows k links = flat_map (λ (p : ℕ × Link). if set p.0 then f p.0 p.1 ∷ [] else []) (enumerate_from k links)
 
-  one_more : (b : Bool) (j : ℕ) (active : List Bool) (row : Row) (rows : List Row) → length rows ≡ length (active_from (suc j) active) → length ((if b then row ∷ [] else []) ++ rows) ≡ length (active_from j (b ∷ active))
+  one_more : (b : Bool) (j : ℕ) (active : List Bool) (row : Row) (rows : List Row) → length rows ≡ length (active_from (suc j) active)
+      → length ((if b then row ∷ [] else []) ++ rows) ≡ length (active_from j (b ∷ active))
   one_more true j active row rows e = ap suc e
   one_more false j active row rows e = e
 

@@ -65,9 +65,12 @@ module _ (net : Network) (sets : Sets) (rate : ℚ) (pattern : Pattern) where
     unfolding equations
     rows-length =
         let a : length (node_rows ++ rows_of_links) ≡ length node_rows + length rows_of_links = length-append node_rows rows_of_links in
-        let b : length node_rows ≡ length (filter (λ v. not (eqb v net.sink)) (range_with_len 0 net.nodes)) = length-map (filter (λ v. not (eqb v net.sink)) (range_with_len 0 net.nodes)) (node_row net sets rate) in
-        let c : suc (length (filter (λ v. not (eqb v net.sink)) (range_with_len 0 net.nodes))) ≡ net.nodes = filtered-length net.nodes 0 net.sink (omega arith) (let s = good.sink in omega arith) in
-        let d : length rows_of_links ≡ flow_count net sets = set_rows-length set link_row net.links sets.active 0 0 sets_are.count (λ i e same. ap (λ (j : ℕ). unwrap_or (slice_get sets.active j) false) (let s : e ≡ i = omega arith in s)) in
+        let b : length node_rows ≡ length (filter (λ v. not (eqb v net.sink)) (range_with_len 0 net.nodes)) =
+            length-map (filter (λ v. not (eqb v net.sink)) (range_with_len 0 net.nodes)) (node_row net sets rate) in
+        let c : suc (length (filter (λ v. not (eqb v net.sink)) (range_with_len 0 net.nodes))) ≡ net.nodes =
+            filtered-length net.nodes 0 net.sink (omega arith) (let s = good.sink in omega arith) in
+        let d : length rows_of_links ≡ flow_count net sets = set_rows-length set link_row net.links sets.active 0 0 sets_are.count
+            (λ i e same. ap (λ (j : ℕ). unwrap_or (slice_get sets.active j) false) (let s : e ≡ i = omega arith in s)) in
         omega arith
 
     abbrev IsWide : Row → Type 0
@@ -124,10 +127,12 @@ module _ (net : Network) (sets : Sets) (rate : ℚ) (pattern : Pattern) (p : IsP
   bounded_rate e link is_link not_unbounded = go link.capacity refl
     where
       go : (o : Option ℚ) → link.capacity ≡ o → (capacity : ℚ) × (o ≡ Some capacity)
-      go None h = absurd (not_unbounded (slice_get-map (λ (l : Link). is_none l.capacity) net.links e ∙ ap (option_map (λ (l : Link). is_none l.capacity)) is_link ∙ ap (λ (o : Option ℚ). Some (is_none o)) h))
+      go None h = absurd (not_unbounded (slice_get-map (λ (l : Link). is_none l.capacity) net.links e
+          ∙ ap (option_map (λ (l : Link). is_none l.capacity)) is_link ∙ ap (λ (o : Option ℚ). Some (is_none o)) h))
       go (Some capacity) h = (capacity, refl)
 
-  filled_link : (e : ℕ) (link : Link) → IsLink net e link → (Has (unbounded net) e → ⊥) → (flow slope : ℚ) → neg_ℚ (unwrap_or link.capacity 0ℚ) *ℚ slope +ℚ flow ≡ 0ℚ → Fills link.capacity flow slope
+  filled_link : (e : ℕ) (link : Link) → IsLink net e link → (Has (unbounded net) e → ⊥) → (flow slope : ℚ)
+      → neg_ℚ (unwrap_or link.capacity 0ℚ) *ℚ slope +ℚ flow ≡ 0ℚ → Fills link.capacity flow slope
   filled_link e link is_link not_unbounded flow slope h =
       let c = bounded_rate e link is_link not_unbounded in
       (c.0, c.1, filled c.0 slope flow (ap (λ (o : Option ℚ). neg_ℚ (unwrap_or o 0ℚ) *ℚ slope +ℚ flow) (sym c.1) ∙ h))
@@ -165,11 +170,13 @@ module _ (net : Network) (sets : Sets) (rate : ℚ) (pattern : Pattern) (p : IsP
     module _ (h : Each Right (equations net sets rate pattern)) where
       parts : Right (source_row net sets rate pattern) × Each Right (node_rows net sets rate pattern) × Each Right (rows_of_links net sets rate pattern)
       unfolding equations
-      parts = (h.0, each-first Right (node_rows net sets rate pattern) (rows_of_links net sets rate pattern) h.1, each-second Right (node_rows net sets rate pattern) (rows_of_links net sets rate pattern) h.1)
+      parts = (h.0, each-first Right (node_rows net sets rate pattern) (rows_of_links net sets rate pattern) h.1,
+          each-second Right (node_rows net sets rate pattern) (rows_of_links net sets rate pattern) h.1)
 
       node_is : (v : ℕ) → v < net.nodes → v ≢ net.sink → surplus net flows v ≡ only net.source rate v
       node_is v inside apart = sym (node_total net sets good sets_are xs count v)
-          ∙ said net sets rate pattern good sets_are xs count (node_factor net v) (only net.source rate v) (numbers_at Right (node_row net sets rate) net.sink net.nodes 0 parts.1 v (omega arith) (omega arith) apart)
+          ∙ said net sets rate pattern good sets_are xs count (node_factor net v) (only net.source rate v)
+              (numbers_at Right (node_row net sets rate) net.sink net.nodes 0 parts.1 v (omega arith) (omega arith) apart)
 
       link_is : (e : ℕ) (link : Link) (state : Option State) → IsLink net e link → Has sets.active e → slice_get pattern e ≡ Some state → sum (link_factor e link state) ≡ 0ℚ
       link_is e link state is_link active at =
@@ -191,7 +198,8 @@ module _ (net : Network) (sets : Sets) (rate : ℚ) (pattern : Pattern) (p : IsP
             (flag-cases sets.resetting e)
 
         equation_is : (state : Option State) → slice_get pattern e ≡ Some state → Holds state (unwrap_or (slice_get sets.resetting e) false)
-        equation_is (Some Tight) at = same_from-less _ _ (sym (tight_total net sets good sets_are xs count e link is_link) ∙ link_is e link (Some Tight) is_link (active_with e Tight at) at)
+        equation_is (Some Tight) at = same_from-less _ _ (sym (tight_total net sets good sets_are xs count e link is_link)
+            ∙ link_is e link (Some Tight) is_link (active_with e Tight at) at)
         equation_is (Some Full) at = filled_link e link is_link (λ u. p.pattern_is.no_full e u at) (number_at flows e) (number_at slopes link.head)
             (sym (fills_total net sets good sets_are xs count e link is_link) ∙ link_is e link (Some Full) is_link (active_with e Full at) at)
         equation_is (Some Zero) at = sym (zero_total net sets good sets_are xs count e link is_link) ∙ link_is e link (Some Zero) is_link (active_with e Zero at) at
@@ -211,17 +219,20 @@ module _ (net : Network) (sets : Sets) (rate : ℚ) (pattern : Pattern) (p : IsP
       node_right : (v : ℕ) → v < net.nodes → v ≢ net.sink → Right (node_row net sets rate v)
       node_right v inside not_sink = says net sets rate pattern good sets_are xs count (node_factor net v) (only net.source rate v)
           (node_total net sets good sets_are xs count v ∙ ⊎_elim
-          (λ (e : (eqb v net.source ≡ true) × (v ≡ net.source)). subst (λ (w : ℕ). surplus net flows w ≡ only net.source rate w) (sym e.1) (s.source ∙ sym (only-here net.source rate net.source refl)))
+          (λ (e : (eqb v net.source ≡ true) × (v ≡ net.source)). subst (λ (w : ℕ). surplus net flows w ≡ only net.source rate w) (sym e.1)
+              (s.source ∙ sym (only-here net.source rate net.source refl)))
           (λ (e : (eqb v net.source ≡ false) × (v ≢ net.source)). s.inner v inside e.1 not_sink ∙ sym (only-else net.source rate v e.1))
           (eqb_tells v net.source))
 
       module _ (e : ℕ) (link : Link) (is_link : IsLink net e link) (active : Has sets.active e) where
         row_of : (state : Option State) → slice_get pattern e ≡ Some state → sum (link_factor e link state) ≡ 0ℚ
         row_of (Some Tight) at = tight_total net sets good sets_are xs count e link is_link ∙ zero_from_same _ _ (sym (s.links e link (Some Tight) is_link at))
-        row_of (Some Full) at = fills_total net sets good sets_are xs count e link is_link ∙ fills_link link.capacity (number_at flows e) (number_at slopes link.head) (s.links e link (Some Full) is_link at)
+        row_of (Some Full) at = fills_total net sets good sets_are xs count e link is_link
+            ∙ fills_link link.capacity (number_at flows e) (number_at slopes link.head) (s.links e link (Some Full) is_link at)
         row_of (Some Zero) at = zero_total net sets good sets_are xs count e link is_link ∙ s.links e link (Some Zero) is_link at
         row_of None at = fills_total net sets good sets_are xs count e link is_link ∙ fills_link link.capacity (number_at flows e) (number_at slopes link.head)
-            (subst (λ (b : Bool). Equation None b link.capacity (number_at flows e) (number_at slopes link.tail) (number_at slopes link.head)) (flag_set sets.resetting e (resets e active at)) (s.links e link None is_link at))
+            (subst (λ (b : Bool). Equation None b link.capacity (number_at flows e) (number_at slopes link.tail) (number_at slopes link.head))
+                (flag_set sets.resetting e (resets e active at)) (s.links e link None is_link at))
 
         has_entry : (state : Option State) × (slice_get pattern e ≡ Some state)
         has_entry = entry pattern e (let c = p.pattern_is.count in let d = sets_are.count in let w = slice_get_within net.links e link is_link in omega arith)
@@ -305,9 +316,12 @@ module _ (net : Network) (sets : Sets) (rate : ℚ) (pattern : Pattern) (p : IsP
         (subst (λ (f : List ℚ). Solves net sets rate pattern f slopes) (sym flows_back) s)))
 
   values_of : (xs : List ℚ) → length xs ≡ net.nodes + flow_count net sets → values (flows_in net.nodes sets.active xs) (slopes_in net.nodes xs) ≡ xs
-  values_of xs count = ap (λ (l : List ℚ). take net.nodes xs ++ l) (packed-onto sets.active 0 (drop net.nodes xs) (rest-length xs net.nodes (flow_count net sets) count)) ∙ both_parts xs net.nodes
+  values_of xs count =
+      ap (λ (l : List ℚ). take net.nodes xs ++ l) (packed-onto sets.active 0 (drop net.nodes xs) (rest-length xs net.nodes (flow_count net sets) count))
+      ∙ both_parts xs net.nodes
 
-  pub solves_alone : (passes : Passing) (xs : List ℚ) → table_list passes rows ≡ Ok (Some xs) → SolvesAlone net sets rate pattern (flows_in net.nodes sets.active xs) (slopes_in net.nodes xs)
+  pub solves_alone : (passes : Passing) (xs : List ℚ) → table_list passes rows ≡ Ok (Some xs)
+      → SolvesAlone net sets rate pattern (flows_in net.nodes sets.active xs) (slopes_in net.nodes xs)
   solves_alone passes xs h =
       let one = one_solution passes rows xs (is_square net sets rate pattern good sets_are) h in
       record {

@@ -16,7 +16,8 @@ use Rattle.nf_thin_equation_laws.specs.Equations.{IsPatternIn}
 pub by_place : (P : Type 0) (k e : ℕ) → (k ≡ e → P) → (k ≢ e → P) → P
 by_place P k e same apart = ⊎_elim same apart (tell k e)
 
-module _ (sets : Sets) (flags : List Bool) (pattern : Pattern) (is : IsPattern sets flags pattern) (e : ℕ) (old new : State) (has : HasState pattern e old) (fits : new ≡ Full → Has flags e → ⊥) where
+module _ (sets : Sets) (flags : List Bool) (pattern : Pattern) (is : IsPattern sets flags pattern) (e : ℕ) (old new : State) (has : HasState pattern e old)
+    (fits : new ≡ Full → Has flags e → ⊥) where
   abbrev changed : Pattern
   changed = set pattern e (Some new)
 
@@ -62,7 +63,8 @@ IsPatternIn-changed net sets pattern e link (Some old) new p is at some fits = r
 }
   where
     flag_is : Has (unbounded net) e → is_none link.capacity ≡ true
-    flag_is flag = same_Some (is_none link.capacity) true (sym (slice_get-map (λ (l : Link). is_none l.capacity) net.links e ∙ ap (option_map (λ (l : Link). is_none l.capacity)) is) ∙ flag)
+    flag_is flag = same_Some (is_none link.capacity) true (sym (slice_get-map (λ (l : Link). is_none l.capacity) net.links e
+        ∙ ap (option_map (λ (l : Link). is_none l.capacity)) is) ∙ flag)
 
     no : (o : Option ℚ) → IsSome o → is_none o ≡ true → ⊥
     no None s n = absurd (cc)

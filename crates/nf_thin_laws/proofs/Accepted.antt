@@ -14,11 +14,13 @@ data Exits (exit t x : ℚ) : Type 0 where
   idle : t ≤ℚ exit → x ≡ 0ℚ → Exits exit t x
 
 module _ (net : Network) (sets : Sets) (rate : ℚ) (pattern : Pattern) (flows slopes : List ℚ) (good : IsNetwork net) (are : AreSets net sets)
-    (is_pattern : IsPattern sets (unbounded net) pattern) (leads : EachIsLed net sets pattern) (solves : Solves net sets rate pattern flows slopes) (meets : Meets net pattern flows slopes) where
+    (is_pattern : IsPattern sets (unbounded net) pattern) (leads : EachIsLed net sets pattern) (solves : Solves net sets rate pattern flows slopes)
+        (meets : Meets net pattern flows slopes) where
   abbrev exit_of : ℕ → Link → ℚ
   exit_of e link = exit_slope_at sets flows slopes e link
 
-  by_flag : (e : ℕ) (link : Link) (b : Bool) (P : ℚ → Type 0) → flag sets.resetting e ≡ b → P (exit_slope b link.capacity (number_at flows e) (number_at slopes link.tail)) → P (exit_of e link)
+  by_flag : (e : ℕ) (link : Link) (b : Bool) (P : ℚ → Type 0) → flag sets.resetting e ≡ b
+      → P (exit_slope b link.capacity (number_at flows e) (number_at slopes link.tail)) → P (exit_of e link)
   by_flag e link b P h p = subst (λ (c : Bool). P (exit_slope c link.capacity (number_at flows e) (number_at slopes link.tail))) (sym h) p
 
   abbrev Just : ℕ → Link → Type 0
@@ -43,7 +45,9 @@ module _ (net : Network) (sets : Sets) (rate : ℚ) (pattern : Pattern) (flows s
   by_state : (e : ℕ) (link : Link) (state : State) → IsLink net e link → HasState pattern e state → flag sets.resetting e ≡ false → ExitsAt e link
   by_state e link Tight p h f = just (tight_just e link p h f)
   by_state e link Full p h f = just (full_just e link p h f)
-  by_state e link Zero p h f = idle (by_flag e link false (λ (z : ℚ). number_at slopes link.head ≤ℚ z) f (exit_zero link.capacity (number_at flows e) _ _ (meets.links e link (Some Zero) p h)))
+  by_state e link Zero p h f =
+      idle (by_flag e link false (λ (z : ℚ). number_at slopes link.head ≤ℚ z) f
+      (exit_zero link.capacity (number_at flows e) _ _ (meets.links e link (Some Zero) p h)))
       (solves.links e link (Some Zero) p h)
 
   exits : (e : ℕ) (link : Link) → IsLink net e link → Has sets.active e → ExitsAt e link

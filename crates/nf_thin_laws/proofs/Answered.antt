@@ -4,8 +4,10 @@ use Rattle.nf_thin_laws.proofs.Common.{ℚ, Passing, Network, Sets, Pattern, IsS
 use Rattle.nf_thin_laws.specs.NarrowLaws.{Narrows, NoneFilledBefore}
 use Rattle.nf_thin_laws.proofs.Narrowed.{found, beyond}
 
-module _ (passes : Passing) (net : Network) (sets : Sets) (rate : ℚ) (base forced : Pattern) (listing narrow : List Pattern) (n : Narrows net sets rate base forced listing narrow) (budget : ℕ) where
-  module _ (place : ℕ) (p : Pattern) (at : HasPlace narrow place p) (accepted : IsAccepted passes net sets rate (filled forced p)) (none : NoneFilledBefore passes net sets rate forced narrow place) where
+module _ (passes : Passing) (net : Network) (sets : Sets) (rate : ℚ) (base forced : Pattern) (listing narrow : List Pattern)
+    (n : Narrows net sets rate base forced listing narrow) (budget : ℕ) where
+  module _ (place : ℕ) (p : Pattern) (at : HasPlace narrow place p) (accepted : IsAccepted passes net sets rate (filled forced p))
+      (none : NoneFilledBefore passes net sets rate forced narrow place) where
     pub answer_within : (flows slopes : List ℚ) → IsSolution net sets rate (filled forced p) flows slopes → ((there : ℕ) → HasPlace listing there (filled forced p) → there ≤ budget)
         → (there : ℕ) × IsSearch passes net sets rate base budget (Found there (filled forced p) flows slopes)
     answer_within flows slopes solution few =

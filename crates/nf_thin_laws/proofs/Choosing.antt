@@ -8,7 +8,8 @@ abbrev EachIsIn : Pattern → List Bool → List Bool → Pattern → Type 0
 EachIsIn base us sole p = (e : ℕ) (b s : Option State) (u o : Bool) → slice_get base e ≡ Some b → slice_get us e ≡ Some u → slice_get sole e ≡ Some o → slice_get p e ≡ Some s
     → IsIn (states_of b u o) s
 
-all_in : (base : Pattern) (us sole : List Bool) (p : Pattern) → length base ≡ length p → length us ≡ length p → length sole ≡ length p → EachIsIn base us sole p → AreIn (choices_of base us sole) p
+all_in : (base : Pattern) (us sole : List Bool) (p : Pattern) → length base ≡ length p → length us ≡ length p → length sole ≡ length p
+    → EachIsIn base us sole p → AreIn (choices_of base us sole) p
 all_in [] us sole [] n m k each = tt
 all_in [] us sole (s ∷ p) n m k each = absurd (omega arith)
 all_in (b ∷ base) us sole [] n m k each = absurd (omega arith)

@@ -133,7 +133,8 @@ fewer_less choices base m (suc n) h = ⊎_elim
     ap (λ (i : ℕ). ways_fewer choices base i + ways choices base i) same in omega arith)
     (before_or_at m n (omega arith))
 
-pub before_less : (choices : Choices) (base p q : Pattern) → AreIn choices p → AreIn choices q → length base ≡ length choices → IsBefore base p q → ways_before choices base p < ways_before choices base q
+pub before_less : (choices : Choices) (base p q : Pattern) → AreIn choices p → AreIn choices q → length base ≡ length choices → IsBefore base p q
+    → ways_before choices base p < ways_before choices base q
 before_less choices base p q h k l (inl less) =
     let few = earlier_few choices base p (changes base p) h l refl in
     let more = fewer_less choices base (changes base p) (changes base q) less in

@@ -117,7 +117,8 @@ enumerated k (y ∷ xs) zero x h = ap (λ (p : ℕ × _). Some p) (let e : k ≡
 enumerated k (y ∷ xs) (suc e) x h = enumerated (k + 1) xs e x h ∙ ap (λ (i : ℕ). Some (i, x)) (let f : (k + 1) + e ≡ k + suc e = omega arith in f)
 
 -- ---- the moved labels
-pub number-moved : (labels slopes : List ℚ) (while : ℚ) (v : ℕ) → length slopes ≡ length labels → number_at (moved labels slopes while) v ≡ number_at labels v +ℚ while *ℚ number_at slopes v
+pub number-moved : (labels slopes : List ℚ) (while : ℚ) (v : ℕ) → length slopes ≡ length labels
+    → number_at (moved labels slopes while) v ≡ number_at labels v +ℚ while *ℚ number_at slopes v
 number-moved [] [] while v count = ring rationals (while ∷ []) (search reading depth 30) tt
 number-moved [] (r ∷ slopes) while v count = absurd (omega arith)
 number-moved (x ∷ labels) [] while v count = absurd (omega arith)
@@ -173,7 +174,8 @@ queue_end : (curve : GrowingCurve) (label : ℚ) (step : Option QueueStep) → (
 queue_end curve label None stands = stands refl
 queue_end curve label (Some step) stands = end-with_point _ curve.points (label, step.size)
 
-label_end : (time : ℚ) (labels slopes : List ℚ) (curves : List GrowingCurve) (v : ℕ) (curve : GrowingCurve) → slice_get (label_curves_after time labels slopes curves) v ≡ Some curve → end_of curve.points ≡ time
+label_end : (time : ℚ) (labels slopes : List ℚ) (curves : List GrowingCurve) (v : ℕ) (curve : GrowingCurve)
+    → slice_get (label_curves_after time labels slopes curves) v ≡ Some curve → end_of curve.points ≡ time
 label_end time [] slopes curves v curve h = absurd (none-some curve h)
 label_end time (x ∷ labels) [] curves v curve h = absurd (none-some curve h)
 label_end time (x ∷ labels) (r ∷ slopes) [] v curve h = absurd (none-some curve h)
@@ -210,12 +212,15 @@ pub record PhaseParts (passes : Passing) (net : Network) (s : Standing) (pattern
   pub links : curve_list passes net (sets_at net s.labels) pattern step.length flows slopes step.labels (map amount_so_far s.link_curves) ≡ Ok step.links
 
 module _ (passes : Passing) (net : Network) (is_network : IsNetwork net) (horizon : ℚ) (patterns : ℕ) where
-  parts_of_step : (s : Standing) (pattern : Pattern) (flows slopes : List ℚ) (step : PhaseStep) (while : ℚ) (labels : List ℚ) (links : List LinkStep) → record { length = while; labels = labels; links = links } ≡ step
+  parts_of_step : (s : Standing) (pattern : Pattern) (flows slopes : List ℚ) (step : PhaseStep) (while : ℚ) (labels : List ℚ) (links : List LinkStep)
+      → record { length = while; labels = labels; links = links } ≡ step
       → labels ≡ moved s.labels slopes while → curve_list passes net (sets_at net s.labels) pattern while flows slopes labels (map amount_so_far s.link_curves) ≡ Ok links
       → PhaseParts passes net s pattern flows slopes step
-  parts_of_step s pattern flows slopes step while labels links same h k = subst (λ (t : PhaseStep). PhaseParts passes net s pattern flows slopes t) same (record { labels = h; links = k })
+  parts_of_step s pattern flows slopes step while labels links same h k =
+      subst (λ (t : PhaseStep). PhaseParts passes net s pattern flows slopes t) same (record { labels = h; links = k })
 
-  pub phase_parts : (s : Standing) (pattern : Pattern) (flows slopes : List ℚ) (step : PhaseStep) → length slopes ≡ length s.labels → phase_lists passes net horizon s pattern flows slopes ≡ Ok step
+  pub phase_parts : (s : Standing) (pattern : Pattern) (flows slopes : List ℚ) (step : PhaseStep) → length slopes ≡ length s.labels
+      → phase_lists passes net horizon s pattern flows slopes ≡ Ok step
       → PhaseParts passes net s pattern flows slopes step
   unfolding phase_lists
   phase_parts s pattern flows slopes step count h =
@@ -238,20 +243,24 @@ module _ (passes : Passing) (net : Network) (is_network : IsNetwork net) (horizo
         term_of_zero (number_at s.labels v) step.length (number_at slopes v) (not_positive net is_network (number_at slopes v) (no_negative v) test)
         ∙ (sym (number-moved s.labels slopes step.length v count) ∙ ap (λ (l : List ℚ). number_at l v) (sym parts.labels))
 
-    still_tail : (e : ℕ) (link : Link) (one : LinkStep) → IsLink net e link → slice_get step.links e ≡ Some one → one.inflow_rate ≡ None → number_at s.labels link.tail ≡ number_at step.labels link.tail
+    still_tail : (e : ℕ) (link : Link) (one : LinkStep) → IsLink net e link → slice_get step.links e ≡ Some one → one.inflow_rate ≡ None
+        → number_at s.labels link.tail ≡ number_at step.labels link.tail
     still_tail e link one is_link at none =
         let facts = step_at s pattern flows slopes step parts e link one is_link at in
         stays_at link.tail (no_rate passes _ (number_at flows (0 + e)) (number_at slopes link.tail) (facts.inflow ∙ ap Ok none))
 
-    still_head : (e : ℕ) (link : Link) (one : LinkStep) → IsLink net e link → slice_get step.links e ≡ Some one → one.outflow_rate ≡ None → number_at s.labels link.head ≡ number_at step.labels link.head
+    still_head : (e : ℕ) (link : Link) (one : LinkStep) → IsLink net e link → slice_get step.links e ≡ Some one → one.outflow_rate ≡ None
+        → number_at s.labels link.head ≡ number_at step.labels link.head
     still_head e link one is_link at none =
         let facts = step_at s pattern flows slopes step parts e link one is_link at in
         stays_at link.head (no_rate passes _ (number_at flows (0 + e)) (number_at slopes link.head) (facts.outflow ∙ ap Ok none))
 
-    still_queue : (e : ℕ) (link : Link) (one : LinkStep) → IsLink net e link → slice_get step.links e ≡ Some one → one.queue ≡ None → number_at s.labels link.tail ≡ number_at step.labels link.tail
+    still_queue : (e : ℕ) (link : Link) (one : LinkStep) → IsLink net e link → slice_get step.links e ≡ Some one → one.queue ≡ None
+        → number_at s.labels link.tail ≡ number_at step.labels link.tail
     still_queue e link one is_link at none =
         let facts = step_at s pattern flows slopes step parts e link one is_link at in
-        still_tail e link one is_link at (no_queue_step passes (link_phase (sets_at net s.labels) pattern flows slopes step.labels (0 + e, link)) one.inflow_rate (facts.queue ∙ ap Ok none))
+        still_tail e link one is_link at (no_queue_step passes (link_phase (sets_at net s.labels) pattern flows slopes step.labels (0 + e, link))
+            one.inflow_rate (facts.queue ∙ ap Ok none))
 
     after_of : (e : ℕ) (link : Link) (curves : LinkCurves) → IsLink net e link → slice_get (link_curves_after step.labels net.links s.link_curves step.links) e ≡ Some curves
         → After step.labels net.links s.link_curves step.links e link curves

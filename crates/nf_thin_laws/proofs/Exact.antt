@@ -42,9 +42,11 @@ module _ (passes fewer : Passing) (none_more : PassesFewer passes fewer) where
   to_zero_as false least slack change = same (Ok least)
   to_zero_as true least slack change = bind _ _ _ _ (one passes fewer none_more Difference 0ℚ slack) (λ m. bind _ _ _ _ (one passes fewer none_more Quotient m change) (λ length. same _))
 
-  after_as : (zero : Bool) (least : Option ℚ) (slack tail_slope head_slope : ℚ) → GivesAs (after_link passes zero least slack tail_slope head_slope) (after_link fewer zero least slack tail_slope head_slope)
+  after_as : (zero : Bool) (least : Option ℚ) (slack tail_slope head_slope : ℚ)
+      → GivesAs (after_link passes zero least slack tail_slope head_slope) (after_link fewer zero least slack tail_slope head_slope)
   after_as true least slack tail_slope head_slope = same (Ok least)
-  after_as false least slack tail_slope head_slope = bind _ _ _ _ (one passes fewer none_more Difference head_slope tail_slope) (λ change. to_zero_as (are_opposite slack change) least slack change)
+  after_as false least slack tail_slope head_slope =
+      bind _ _ _ _ (one passes fewer none_more Difference head_slope tail_slope) (λ change. to_zero_as (are_opposite slack change) least slack change)
 
   until_as : (least : Option ℚ) (time : ℚ) (change : Option ℚ) → GivesAs (until_change passes least time change) (until_change fewer least time change)
   until_as least time None = same (Ok least)
@@ -69,7 +71,9 @@ module _ (passes fewer : Passing) (none_more : PassesFewer passes fewer) where
   advance_list_under : (horizon time : ℚ) (extension : Option ℚ) (labels slopes : List ℚ)
       → GivesAs (advance_list passes horizon time extension labels slopes) (advance_list fewer horizon time extension labels slopes)
   unfolding advance_list
-  advance_list_under horizon time extension labels slopes = bind _ _ _ _ (one passes fewer none_more Difference horizon time) (λ left. bind _ _ _ _ (labels_as (cut_at left extension) labels slopes) (λ new_labels. same _))
+  advance_list_under horizon time extension labels slopes =
+      bind _ _ _ _ (one passes fewer none_more Difference horizon time) (λ left. bind _ _ _ _ (labels_as (cut_at left extension) labels slopes)
+      (λ new_labels. same _))
 
   -- ---- curve
   rate_as : (moves : Bool) (flow slope : ℚ) → GivesAs (rate_over passes moves flow slope) (rate_over fewer moves flow slope)
@@ -110,7 +114,8 @@ slack_list_as passes = slack_list_under passes never (none_passes passes)
 pub verdict_list_as : (passes : Passing) (net : Network) (pattern : Pattern) (slopes : List ℚ) → GivesAs (verdict_list passes net pattern slopes) (verdict_list never net pattern slopes)
 verdict_list_as passes = verdict_list_under passes never (none_passes passes)
 
-pub extend_list_as : (passes : Passing) (net : Network) (slacks slopes : List ℚ) (time : ℚ) → GivesAs (extend_list passes net slacks slopes time) (extend_list never net slacks slopes time)
+pub extend_list_as : (passes : Passing) (net : Network) (slacks slopes : List ℚ) (time : ℚ)
+    → GivesAs (extend_list passes net slacks slopes time) (extend_list never net slacks slopes time)
 extend_list_as passes = extend_list_under passes never (none_passes passes)
 
 pub advance_list_as : (passes : Passing) (horizon time : ℚ) (extension : Option ℚ) (labels slopes : List ℚ)
@@ -129,7 +134,8 @@ slack_exact labels hop = refl
 pub slacks_exact : (passes : Passing) (hops : List Hop) (labels slacks : List ℚ) → slack_list passes hops labels ≡ Ok slacks → slacks ≡ slacks_of hops labels
 unfolding slack_list
 slacks_exact passes hops labels slacks e =
-    same_value (slack_list never hops labels) slacks (slacks_of hops labels) (slack_list_as passes hops labels slacks e) (each_exact (slack_of never labels) (slack labels) (slack_exact labels) hops)
+    same_value (slack_list never hops labels) slacks (slacks_of hops labels) (slack_list_as passes hops labels slacks e)
+        (each_exact (slack_of never labels) (slack labels) (slack_exact labels) hops)
 
 -- The moved labels of the nodes from a number on.
 abbrev moved_label : ℚ → List ℚ → ℕ × ℚ → ℚ
@@ -161,7 +167,8 @@ advance_exact : (horizon time : ℚ) (extension : Option ℚ) (labels slopes : L
     ≡ Ok (record { length = cut_at (horizon -ℚ time) extension; labels = moved labels slopes (cut_at (horizon -ℚ time) extension) })
 unfolding advance_list checked
 advance_exact horizon time extension labels slopes count =
-    ap (λ (w : Checked (List ℚ)). w >>= λ new. Ok (record { length = cut_at (horizon -ℚ time) extension; labels = new })) (labels_exact (cut_at (horizon -ℚ time) extension) labels slopes count)
+    ap (λ (w : Checked (List ℚ)). w >>= λ new. Ok (record { length = cut_at (horizon -ℚ time) extension; labels = new }))
+        (labels_exact (cut_at (horizon -ℚ time) extension) labels slopes count)
 
 pub advanced_exact : (passes : Passing) (horizon time : ℚ) (extension : Option ℚ) (labels slopes : List ℚ) (new : Advanced) → length slopes ≡ length labels
     → advance_list passes horizon time extension labels slopes ≡ Ok new → (new.length ≡ cut_at (horizon -ℚ time) extension) × (new.labels ≡ moved labels slopes new.length)

@@ -30,13 +30,16 @@ state_of b t f z s h = one (in_allowed t Tight (if_allowed f Full (if_allowed z 
     one (inl w) = inl w
     one (inr more) = two (in_allowed f Full (if_allowed z Zero []) s more)
 
-ascend_first : (flag : Bool) (state : State) (states : List (Option State)) → ((s : Option State) → IsIn states s → rank (Some state) < rank s) → Ascend states → Ascend (if_allowed flag state states)
+ascend_first : (flag : Bool) (state : State) (states : List (Option State)) → ((s : Option State) → IsIn states s → rank (Some state) < rank s)
+    → Ascend states → Ascend (if_allowed flag state states)
 ascend_first true state states less up = (less, up)
 ascend_first false state states less up = up
 
 ascend_by : (b : Option State) (t f z : Bool) → Ascend (states_by b t f z)
 ascend_by None t f z = (λ s h. absurd h, tt)
-ascend_by (Some b) t f z = ascend_first t Tight (if_allowed f Full (if_allowed z Zero [])) tight_less (ascend_first f Full (if_allowed z Zero []) full_less (ascend_first z Zero [] (λ s h. absurd h) tt))
+ascend_by (Some b) t f z =
+    ascend_first t Tight (if_allowed f Full (if_allowed z Zero [])) tight_less
+    (ascend_first f Full (if_allowed z Zero []) full_less (ascend_first z Zero [] (λ s h. absurd h) tt))
   where
     zero_less : (s : Option State) → IsIn (if_allowed z Zero []) s → rank s ≡ 3
     zero_less s h = go (in_allowed z Zero [] s h)
@@ -74,18 +77,21 @@ pub record Chosen (base : Pattern) (tight full zeros : List Bool) (e : ℕ) (s :
   pub at_zero : slice_get zeros e ≡ Some z
   pub is_in : IsIn (states_by b t f z) s
 
-chosen : (base : Pattern) (tight full zeros : List Bool) (q : Pattern) → AreIn (choices_by base tight full zeros) q → (e : ℕ) (s : Option State) → slice_get q e ≡ Some s → Chosen base tight full zeros e s
+chosen : (base : Pattern) (tight full zeros : List Bool) (q : Pattern) → AreIn (choices_by base tight full zeros) q → (e : ℕ) (s : Option State)
+    → slice_get q e ≡ Some s → Chosen base tight full zeros e s
 chosen base tight full zeros [] h e s at = absurd (none-some s at)
 chosen [] tight full zeros (r ∷ q) h e s at = absurd h
 chosen (b ∷ base) [] full zeros (r ∷ q) h e s at = absurd h
 chosen (b ∷ base) (t ∷ tight) [] zeros (r ∷ q) h e s at = absurd h
 chosen (b ∷ base) (t ∷ tight) (f ∷ full) [] (r ∷ q) h e s at = absurd h
 chosen (b ∷ base) (t ∷ tight) (f ∷ full) (z ∷ zeros) (r ∷ q) h zero s at =
-    record { b = b; t = t; f = f; z = z; at_base = refl; at_tight = refl; at_full = refl; at_zero = refl; is_in = subst (λ (x : Option State). IsIn (states_by b t f z) x) (same_Some r s at) h.0 }
+    record { b = b; t = t; f = f; z = z; at_base = refl; at_tight = refl; at_full = refl; at_zero = refl; is_in =
+        subst (λ (x : Option State). IsIn (states_by b t f z) x) (same_Some r s at) h.0 }
 chosen (b ∷ base) (t ∷ tight) (f ∷ full) (z ∷ zeros) (r ∷ q) h (suc e) s at = let w = chosen base tight full zeros q h.1 e s at in
     record { b = w.b; t = w.t; f = w.f; z = w.z; at_base = w.at_base; at_tight = w.at_tight; at_full = w.at_full; at_zero = w.at_zero; is_in = w.is_in }
 
-count_by : (base : Pattern) (tight full zeros : List Bool) → length tight ≡ length base → length full ≡ length base → length zeros ≡ length base → length (choices_by base tight full zeros) ≡ length base
+count_by : (base : Pattern) (tight full zeros : List Bool) → length tight ≡ length base → length full ≡ length base → length zeros ≡ length base
+    → length (choices_by base tight full zeros) ≡ length base
 count_by [] tight full zeros n m k = refl
 count_by (b ∷ base) [] full zeros n m k = absurd (omega arith)
 count_by (b ∷ base) (t ∷ tight) [] zeros n m k = absurd (omega arith)
@@ -93,7 +99,8 @@ count_by (b ∷ base) (t ∷ tight) (f ∷ full) [] n m k = absurd (omega arith)
 count_by (b ∷ base) (t ∷ tight) (f ∷ full) (z ∷ zeros) n m k = ap suc (count_by base tight full zeros (omega arith) (omega arith) (omega arith))
 
 module _ (nodes source : ℕ) (hops : List Hop) (sets : Sets) (unbounded : List Bool) (base listed : Pattern) (tight full zeros : List Bool) (is_base : IsPattern sets unbounded base)
-    (is_listed : IsListed nodes source hops sets unbounded listed) (firm : AreFirm nodes source hops sets unbounded listed tight full zeros) (q : Pattern) (in_q : AreIn (choices_by base tight full zeros) q) where
+    (is_listed : IsListed nodes source hops sets unbounded listed) (firm : AreFirm nodes source hops sets unbounded listed tight full zeros) (q : Pattern)
+        (in_q : AreIn (choices_by base tight full zeros) q) where
   count : length q ≡ length base
   count = sym (AreIn-length (choices_by base tight full zeros) q in_q)
       ∙ count_by base tight full zeros (firm.tight_count ∙ sym is_base.count) (firm.full_count ∙ sym is_base.count) (firm.zero_count ∙ sym is_base.count)
@@ -123,7 +130,8 @@ module _ (nodes source : ℕ) (hops : List Hop) (sets : Sets) (unbounded : List 
   needs : (e : ℕ) (s : State) → HasState q e s → NeedsState sets e
   needs e s at = let w = chosen base tight full zeros q in_q e (Some s) at in go w.b w.at_base w.is_in
     where
-      go : (b : Option State) → slice_get base e ≡ Some b → IsIn (states_by b (chosen base tight full zeros q in_q e (Some s) at).t (chosen base tight full zeros q in_q e (Some s) at).f (chosen base tight full zeros q in_q e (Some s) at).z) (Some s) → NeedsState sets e
+      go : (b : Option State) → slice_get base e ≡ Some b → IsIn (states_by b (chosen base tight full zeros q in_q e (Some s) at).t
+          (chosen base tight full zeros q in_q e (Some s) at).f (chosen base tight full zeros q in_q e (Some s) at).z) (Some s) → NeedsState sets e
       go None at_b (inl same) = absurd (none-some s (sym same))
       go None at_b (inr nothing) = absurd nothing
       go (Some b) at_b h = (is_base.states e).1 (b, at_b)

@@ -45,7 +45,8 @@ left_state forced p e s free h = entrywise-at free_state forced p e None (Some s
 state_filled : (forced p : Pattern) (e : ℕ) (s : State) → HasState (filled forced p) e s → ((slice_get forced e ≡ Some None) × HasState p e s) ⊎ HasState forced e s
 state_filled forced p e s h = let w = entrywise-parts given_state forced p e (Some s) h in go w.0 w.1 w.2 w.3 w.4
   where
-    go : (f t : Option State) → slice_get forced e ≡ Some f → slice_get p e ≡ Some t → Some s ≡ given_state f t → ((slice_get forced e ≡ Some None) × HasState p e s) ⊎ HasState forced e s
+    go : (f t : Option State) → slice_get forced e ≡ Some f → slice_get p e ≡ Some t → Some s ≡ given_state f t
+        → ((slice_get forced e ≡ Some None) × HasState p e s) ⊎ HasState forced e s
     go None t at_f at_t is = inl (at_f, at_t ∙ ap (λ (x : Option State). Some x) (sym is))
     go (Some f) t at_f at_t is = inr (at_f ∙ ap (λ (x : Option State). Some x) (sym is))
 

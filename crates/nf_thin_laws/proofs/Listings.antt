@@ -74,4 +74,6 @@ module _ (nodes source : ℕ) (hops : List Hop) (sets : Sets) (unbounded : List 
   into listing other h k p here = let there = k.whole p (h.listed (suc here.0) p (here.0, refl, here.1)) in (there.1.0, there.1.2)
 
   pub one_listing : (listing other : List Pattern) → IsListing nodes source hops sets unbounded base listing → IsListing nodes source hops sets unbounded base other → listing ≡ other
-  one_listing listing other h k = same_list (IsBefore base) (IsBefore-asymmetric base) listing other (in_order listing h) (in_order other k) (into listing other h k) (into other listing k h)
+  one_listing listing other h k =
+      same_list (IsBefore base) (IsBefore-asymmetric base) listing other (in_order listing h) (in_order other k) (into listing other h k)
+      (into other listing k h)

@@ -192,7 +192,9 @@ abbrev InequalityAt : ℕ → Link → Option State → Type 0
 InequalityAt e l state = Inequality state l.capacity (number_at flows e) (number_at slopes l.tail) (number_at slopes l.head)
 
 equation_at : (e : ℕ) (l : Link) (state : Option State) → IsLink net e l → slice_get tight e ≡ Some state → EquationAt e l state
-equation_at zero l state h k = subst (λ (m : Link). EquationAt 0 m state) (same_Some the_link l h) (subst (λ (t : Option State). EquationAt 0 the_link t) (same_Some (Some Tight) state k) refl)
+equation_at zero l state h k =
+    subst (λ (m : Link). EquationAt 0 m state) (same_Some the_link l h) (subst (λ (t : Option State). EquationAt 0 the_link t)
+    (same_Some (Some Tight) state k) refl)
 equation_at (suc e) l state h k = absurd (none-some l h)
 
 source_balance : surplus net flows 0 ≡ n 1

@@ -8,7 +8,8 @@ use Rattle.nf_thin_laws.specs.NarrowLaws.{Narrows, NoneFilledBefore}
 use Rattle.nf_thin_laws.proofs.Forced.{left_of-filled, filled-left_of, same_count, left_count, filled_pattern, has_forced, left_bare, left_listed, filled_listed}
 use Rattle.nf_thin_laws.proofs.ForcedOrder.{changes_split, before_left, before_put}
 
-module _ (sets : Sets) (unbounded : List Bool) (forced base p : Pattern) (is : IsForcing sets unbounded forced) (b : IsPattern sets unbounded base) (pattern : IsPattern (sets_left forced sets) unbounded p) where
+module _ (sets : Sets) (unbounded : List Bool) (forced base p : Pattern) (is : IsForcing sets unbounded forced) (b : IsPattern sets unbounded base)
+    (pattern : IsPattern (sets_left forced sets) unbounded p) where
   pub taken_out : left_of forced (filled forced p) ≡ p
   taken_out = left_of-filled forced p (left_count sets unbounded forced is p pattern) (left_bare sets unbounded forced is p pattern)
 
@@ -33,7 +34,8 @@ module _ (sets : Sets) (unbounded : List Bool) (forced base p q : Pattern) (is :
   abbrev Left : Pattern → Pattern → Type 0
   Left x y = IsBefore (left_of forced base) x y
 
-  same_left : (x y : Pattern) → left_of forced (filled forced p) ≡ x → left_of forced (filled forced q) ≡ y → Left (left_of forced (filled forced p)) (left_of forced (filled forced q)) → Left x y
+  same_left : (x y : Pattern) → left_of forced (filled forced p) ≡ x → left_of forced (filled forced q) ≡ y
+      → Left (left_of forced (filled forced p)) (left_of forced (filled forced q)) → Left x y
   same_left x y e f less = subst (λ (z : Pattern). Left z y) e (subst (λ (z : Pattern). Left (left_of forced (filled forced p)) z) f less)
 
   pub order_put : Left p q → IsBefore base (filled forced p) (filled forced q)
@@ -147,7 +149,8 @@ module _ (passes : Passing) (net : Network) (sets : Sets) (rate : ℚ) (base for
 
   pub over : (budget : ℕ) → budget < length narrow → NoneFilledBefore passes net sets rate forced narrow (suc budget) → IsOverBudget passes net sets rate listing budget
   over budget longer none = record {
-    longer = (let w = entry narrow budget longer in let t = there budget w.0 w.1 in let le = no_earlier budget t.0 w.0 w.1 t.1 in let l = slice_get_within listing t.0 (put_in w.0) t.1 in omega arith);
+    longer = (let w = entry narrow budget longer in let t = there budget w.0 w.1 in let le = no_earlier budget t.0 w.0 w.1 t.1 in
+        let l = slice_get_within listing t.0 (put_in w.0) t.1 in omega arith);
     none_accepted = λ other r less at ok. (let b = back at.0 r at.2 ok in
         let le : b.0 ≤ at.0 = no_earlier b.0 at.0 b.1 b.2 (at.2 ∙ ap (λ (x : Pattern). Some x) (sym b.3)) in
         none (suc b.0) b.1 (let e = at.1 in omega arith) (b.0, refl, b.2) (subst (λ (x : Pattern). IsAccepted passes net sets rate x) (sym b.3) ok));

@@ -98,7 +98,8 @@ module _ (transit : ℚ) (capacity : Option ℚ) (pieces : List Piece) where
 
   forest : (Allowed : ℕ → Type 0) → IsForest (hops net) Allowed
   forest Allowed (e, forward) [] v differ (hop, p, a, s, t) =
-      ends_differ forward (sym (s ∙ ap (λ (h : Hop). if forward then h.tail else h.head) (only_hop e hop p).1) ∙ sym t ∙ ap (λ (h : Hop). if forward then h.head else h.tail) (only_hop e hop p).1)
+      ends_differ forward (sym (s ∙ ap (λ (h : Hop). if forward then h.tail else h.head) (only_hop e hop p).1) ∙ sym t
+          ∙ ap (λ (h : Hop). if forward then h.head else h.tail) (only_hop e hop p).1)
   forest Allowed (e, forward) ((f, b) ∷ steps) v differ (hop, p, a, s, (next, q, o, z, t)) =
       differ.0 (zero, omega arith, (only_hop f next q).0 ∙ sym (only_hop e hop p).0)
 
@@ -216,7 +217,8 @@ module _ (transit : ℚ) (capacity : Option ℚ) (pieces : List Piece) where
     labels : AreTransitLabels net (number_at (first_labels transit))
     labels = record {
       source = refl;
-      none_shorter = λ e link p _. by_link (λ (_ : ℕ) (l : Link). number_at (first_labels transit) l.head ≤ℚ number_at (first_labels transit) l.tail +ℚ l.transit) e link p (≤ℚ_of_same _ _ (zero_plus transit));
+      none_shorter = λ e link p _. by_link (λ (_ : ℕ) (l : Link). number_at (first_labels transit) l.head ≤ℚ number_at
+          (first_labels transit) l.tail +ℚ l.transit) e link p (≤ℚ_of_same _ _ (zero_plus transit));
       entered = λ v h other. (0, the_link, refl, entered_by v h other, subst (λ (k : ℕ). number_at (first_labels transit) k ≡ 0ℚ +ℚ transit) (entered_by v h other) (zero_plus transit));
     }
 
@@ -247,7 +249,8 @@ module _ (transit : ℚ) (capacity : Option ℚ) (pieces : List Piece) where
           before = ahead;
           flows = flows;
           slopes = slopes;
-          thin = subst (λ (s : Sets). IsThinFlow net s (rate_at net 0ℚ) flows slopes) (sym first_sets-are) (subst (λ (r : ℚ). IsThinFlow net first_sets r flows slopes) (sym is_rate) thin);
+          thin = subst (λ (s : Sets). IsThinFlow net s (rate_at net 0ℚ) flows slopes) (sym first_sets-are)
+              (subst (λ (r : ℚ). IsThinFlow net first_sets r flows slopes) (sym is_rate) thin);
           length = horizon;
           is_length = inr ((λ length n. lasts slopes length at_once n), less_none horizon);
           time = zero_plus horizon;

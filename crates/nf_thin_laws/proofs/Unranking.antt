@@ -85,7 +85,8 @@ module _ (b : Option State) (rest : ℕ → ℕ) (n : ℕ) where
         rank_is = (let e = counted_less (rank t) (rank w.s) (with t) (up.0 w.s w.is_state) in let k = w.rank_is in omega arith);
       }
 
-      by : (rank t < rank r) ⊎ (rank r ≤ rank t) → (rank t < rank r → with t ≤ j → StateBelow states r (j - with t)) → (rank r ≤ rank t → StateBelow states r j) → StateBelow (t ∷ states) r j
+      by : (rank t < rank r) ⊎ (rank r ≤ rank t) → (rank t < rank r → with t ≤ j → StateBelow states r (j - with t))
+          → (rank r ≤ rank t → StateBelow states r j) → StateBelow (t ∷ states) r j
       by (inl before) later none = go before (cases_lt j (with t)) later
       by (inr not) later none =
           let w = none not in

@@ -8,7 +8,8 @@ use Rattle.nf_rational_laws.proofs.Naturals.{before_or_at}
 abbrev pub AreFilled : {A : Type 0} → List A → List A → ℕ → Type 0
 AreFilled target xs n = (k : ℕ) → k < n → slice_get xs k ≡ slice_get target k
 
-pub filled_more : {A : Type 0} (target xs : List A) (n e : ℕ) (x : A) → n ≡ e → e < length xs → slice_get target e ≡ Some x → AreFilled target xs n → AreFilled target (slice_set xs e x) (e + 1)
+pub filled_more : {A : Type 0} (target xs : List A) (n e : ℕ) (x : A) → n ≡ e → e < length xs → slice_get target e ≡ Some x → AreFilled target xs n
+    → AreFilled target (slice_set xs e x) (e + 1)
 filled_more {A = A} target xs n e x at below is so k less = ⊎_elim
     (λ (early : k < e). set_other xs e k x (λ same. absurd (omega arith)) ∙ so k (omega arith))
     (λ (same : k ≡ e). ap (slice_get (slice_set xs e x)) same ∙ (set_same xs e x below ∙ (sym is ∙ ap (slice_get target) (sym same))))

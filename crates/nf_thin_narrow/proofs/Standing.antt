@@ -49,6 +49,7 @@ module _ (q : Question) (listing : List Pattern) (is : IsListingOf q listing) (p
         let w = slice_get_within listing at.0 pattern at.2 in
         let e = at.1 in omega arith
 
-module _ (q : Question) (listing : List Pattern) (is : IsListingOf q listing) (tried : ℕ) (last : Last) (given : GivenUpTo listing tried last) (p : Pattern) (next : IsNext q last p) where
+module _ (q : Question) (listing : List Pattern) (is : IsListingOf q listing) (tried : ℕ) (last : Last) (given : GivenUpTo listing tried last) (p : Pattern)
+    (next : IsNext q last p) where
   pub given_more : GivenUpTo listing (suc tried) (UpTo p)
   given_more = (p, given_next q listing is last p next tried given, refl)

@@ -79,7 +79,9 @@ module _ (base p : Pattern) (us sole : List Bool) (i : ℕ) (b s : Option State)
 
   pub earlier_step : (n : ℕ) → earlier_from base us sole p i n
       ≡ ways_below (states_of b u o) b s (ways_from base us sole (suc i)) n + (if true then left_ways (change b s) (earlier_from base us sole p (suc i)) n else 0)
-  earlier_step n = λ j. ways_earlier (choices_of (drop_entry base i b at_b j) (drop_entry us i u at_u j) (drop_entry sole i o at_o j)) (drop_entry base i b at_b j) (drop_entry p i s at_s j) n
+  earlier_step n =
+      λ j. ways_earlier (choices_of (drop_entry base i b at_b j) (drop_entry us i u at_u j) (drop_entry sole i o at_o j)) (drop_entry base i b at_b j)
+      (drop_entry p i s at_s j) n
 
 -- a vector that was written to as a whole
 pub refilled : (n : ℕ) (xs ws : List ℕ) → n ≡ length xs → length ws ≡ length xs → take n (ws ++ drop (length ws) xs) ≡ ws

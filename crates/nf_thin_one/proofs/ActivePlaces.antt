@@ -82,7 +82,8 @@ unknown_at : (n k : ℕ) (flags : List Bool) (j : ℕ) (u : Unknown) → slice_g
     → ((u ≡ SlopeOf (k + j)) × (j < n)) ⊎ ((e : ℕ) × (u ≡ FlowOn e) × Has flags e × (j ≡ n + active_before flags e))
 unknown_at zero k flags j u h = inr (flow (active_from 0 flags) j h (λ e g. active_at flags 0 j e g))
   where
-    flow : (active : List ℕ) (i : ℕ) → slice_get (map FlowOn active) i ≡ Some u → ((e : ℕ) → slice_get active i ≡ Some e → (i : ℕ) × (e ≡ 0 + i) × Has flags i × (j ≡ active_before flags i))
+    flow : (active : List ℕ) (i : ℕ) → slice_get (map FlowOn active) i ≡ Some u
+        → ((e : ℕ) → slice_get active i ≡ Some e → (i : ℕ) × (e ≡ 0 + i) × Has flags i × (j ≡ active_before flags i))
         → (e : ℕ) × (u ≡ FlowOn e) × Has flags e × (j ≡ 0 + active_before flags e)
     flow [] i g f = absurd (none-some u g)
     flow (e ∷ active) zero g f = let r = f e refl in
@@ -97,7 +98,8 @@ unknown_at (suc n) k flags (suc j) u h = go (unknown_at n (k + 1) flags j u h)
     go (inr f) = inr (f.0, f.1, f.2, (let t = f.3 in omega arith))
 
 -- ---- a row by its entries
-row_is : (us : List Unknown) (factor : Unknown → ℚ) (right : ℚ) (numbers : Row) → length numbers ≡ suc (length us) → ((j : ℕ) (u : Unknown) → slice_get us j ≡ Some u → number_at numbers j ≡ factor u)
+row_is : (us : List Unknown) (factor : Unknown → ℚ) (right : ℚ) (numbers : Row) → length numbers ≡ suc (length us)
+    → ((j : ℕ) (u : Unknown) → slice_get us j ≡ Some u → number_at numbers j ≡ factor u)
     → number_at numbers (length us) ≡ right → numbers ≡ row us factor right
 row_is [] factor right [] e h r = absurd (cc)
 row_is [] factor right (x ∷ []) e h r = ap (λ (y : ℚ). y ∷ []) r
@@ -111,7 +113,8 @@ pub row_of_entries : (net : Network) (sets : Sets) (factor : Unknown → ℚ) (r
     → ((e : ℕ) → Has sets.active e → number_at numbers (net.nodes + active_before sets.active e) ≡ factor (FlowOn e))
     → number_at numbers (length (unknowns net sets)) ≡ right
     → numbers ≡ row (unknowns net sets) factor right
-row_of_entries net sets factor right numbers count slopes flows r = row_is (unknowns net sets) factor right numbers count (λ j u at. by_kind j u (unknown_at net.nodes 0 sets.active j u at)) r
+row_of_entries net sets factor right numbers count slopes flows r =
+    row_is (unknowns net sets) factor right numbers count (λ j u at. by_kind j u (unknown_at net.nodes 0 sets.active j u at)) r
   where
     by_kind : (j : ℕ) (u : Unknown) → ((u ≡ SlopeOf (0 + j)) × (j < net.nodes)) ⊎ ((e : ℕ) × (u ≡ FlowOn e) × Has sets.active e × (j ≡ net.nodes + active_before sets.active e))
         → number_at numbers j ≡ factor u

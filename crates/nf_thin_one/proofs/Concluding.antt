@@ -63,7 +63,8 @@ module _ (passes : Passing) (net : Network) (pattern : Pattern) (flows slopes : 
     loop_stops p judged = sym (stops_in Verdict after whole None found e (e, here.0) p at_here so
         (bind_part Verdict (numbered_verdict passes pattern flows slopes (e, here.0)) (λ h. Ok (first_of found h e)) p (judged here.0 here.1)))
 
-  pub loop_ends : (found : Option ℕ) (e : ℕ) → length net.links ≤ e → fold_checked after None whole ≡ fold_checked after found (drop e whole) → Ok found ≡ at_part Verdict (first_broken passes net pattern flows slopes)
+  pub loop_ends : (found : Option ℕ) (e : ℕ) → length net.links ≤ e → fold_checked after None whole ≡ fold_checked after found (drop e whole)
+      → Ok found ≡ at_part Verdict (first_broken passes net pattern flows slopes)
   unfolding first_broken
   loop_ends found e end so = sym (ap (at_part Verdict) (ends after whole None found e (let l : length whole ≡ length net.links = length-enumerated 0 net.links in omega arith) so))
     where
@@ -75,7 +76,8 @@ module _ (passes : Passing) (net : Network) (pattern : Pattern) (flows slopes : 
   pub judged_err : (p : PassedAt ℚ) → Err p ≡ at_part Verdict (first_broken passes net pattern flows slopes) → at_part Verdict (verdict_list passes net pattern slopes) ≡ Err p
   judged_err p e = go (first_broken passes net pattern flows slopes) refl e
     where
-      go : (r : Checked (Option ℕ)) → first_broken passes net pattern flows slopes ≡ r → ◌≡◌ {A = Result (Option ℕ) (PassedAt ℚ)} (Err p) (at_part Verdict r) → at_part Verdict (verdict_list passes net pattern slopes) ≡ Err p
+      go : (r : Checked (Option ℕ)) → first_broken passes net pattern flows slopes ≡ r
+          → ◌≡◌ {A = Result (Option ℕ) (PassedAt ℚ)} (Err p) (at_part Verdict r) → at_part Verdict (verdict_list passes net pattern slopes) ≡ Err p
       go (Ok x) h e = absurd (cc)
       go (Err q) h e = ap (at_part Verdict) (passes_means passes net pattern flows slopes q h) ∙ ap Err (sym (same_Err p (placed Verdict q) e))
 
@@ -95,11 +97,13 @@ module _ (passes : Passing) (net : Network) (pattern : Pattern) (flows slopes : 
         go (inr c) = ≤ℚ_of_same 0ℚ (number_at xs v) (sym (number_at-beyond xs v c.0))
 
     pub first_fails : (link : ℕ) → found ≡ Some link → NoneNegativeBefore slopes (length slopes) → IsFirstFailing net pattern flows slopes link
-    first_fails link same none = let so : SoFar passes net pattern flows slopes (Some link) (length net.links) = subst (λ (o : Option ℕ). SoFar passes net pattern flows slopes o (length net.links)) same means.1 in
+    first_fails link same none = let so : SoFar passes net pattern flows slopes (Some link) (length net.links) =
+        subst (λ (o : Option ℕ). SoFar passes net pattern flows slopes o (length net.links)) same means.1 in
         record { no_negative = everywhere slopes none; fails = so.0; first = so.1 }
 
     pub all_meet : found ≡ None → length flows ≡ length net.links → NoneNegativeBefore slopes (length slopes) → Meets net pattern flows slopes
-    all_meet same count none = let so : AllMeet passes net pattern flows slopes (length net.links) = subst (λ (o : Option ℕ). SoFar passes net pattern flows slopes o (length net.links)) same means.1 in
+    all_meet same count none = let so : AllMeet passes net pattern flows slopes (length net.links) =
+        subst (λ (o : Option ℕ). SoFar passes net pattern flows slopes o (length net.links)) same means.1 in
         record {
           no_negative_flow = everywhere flows (λ e b. (so e (omega arith)).no_negative);
           no_negative_slope = everywhere slopes none;

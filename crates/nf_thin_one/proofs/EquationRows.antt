@@ -94,7 +94,8 @@ module _ (f : ℕ → Row) (w : ℕ) (others : List Row) where
       here e = ap (row_at (map f (kept k (suc n)) ++ others)) (first_place k v i apart e p)
           ∙ (first_kept (eqb k w) k (kept (k + 1) n) (different k w (λ s. apart (sym e ∙ s))) ∙ ap f e)
 
-      shifted : (i : ℕ) → eqb k w ≡ false → k ≢ w → k < v → IsPlace k v i → ((j : ℕ) → IsPlace (k + 1) v j → row_at (map f (kept (k + 1) n) ++ others) j ≡ f v) → row_at (map f (kept k (suc n)) ++ others) i ≡ f v
+      shifted : (i : ℕ) → eqb k w ≡ false → k ≢ w → k < v → IsPlace k v i → ((j : ℕ) → IsPlace (k + 1) v j
+          → row_at (map f (kept (k + 1) n) ++ others) j ≡ f v) → row_at (map f (kept k (suc n)) ++ others) i ≡ f v
       shifted zero t m b q rest = absurd (later_place k v apart m b q)
       shifted (suc j) t m b q rest = past_kept (eqb k w) k j (kept (k + 1) n) t ∙ rest j (next_place k v j m q)
 
@@ -103,7 +104,8 @@ module _ (set : ℕ → Bool) (f : ℕ → Link → Row) where
   abbrev rows_if : ℕ × Link → List Row
   rows_if (e, link) = if set e then f e link ∷ [] else []
 
-  set_at : (links : List Link) (flags : List Bool) (k i e : ℕ) (link : Link) → ((i e : ℕ) → e ≡ k + i → set e ≡ unwrap_or (slice_get flags i) false) → e ≡ k + i → slice_get links i ≡ Some link → Has flags i
+  set_at : (links : List Link) (flags : List Bool) (k i e : ℕ) (link : Link) → ((i e : ℕ) → e ≡ k + i → set e ≡ unwrap_or (slice_get flags i) false)
+      → e ≡ k + i → slice_get links i ≡ Some link → Has flags i
       → row_at (flat_map rows_if (enumerate_from k links)) (active_before flags i) ≡ f e link
   set_at [] flags k i e link h same at s = absurd (none-some link at)
   set_at (l ∷ links) [] k i e link h same at s = absurd (none-some true s)
@@ -170,7 +172,8 @@ module _ (net : Network) (sets : Sets) (rate : ℚ) (pattern : Pattern) where
         let c : suc (length node_numbers) ≡ net.nodes = filtered-length net.nodes 0 net.sink (omega arith) (omega arith) in
         omega arith
 
-    pub link_at : (e i : ℕ) (link : Link) → IsLink net e link → Has sets.active e → i ≡ net.nodes + active_before sets.active e → row_at (equations net sets rate pattern) i ≡ link_row e link
+    pub link_at : (e i : ℕ) (link : Link) → IsLink net e link → Has sets.active e → i ≡ net.nodes + active_before sets.active e
+        → row_at (equations net sets rate pattern) i ≡ link_row e link
     unfolding equations
     link_at e zero link is_link active same = let c = node_rows-length in absurd (omega arith)
     link_at e (suc i) link is_link active same =

@@ -26,7 +26,9 @@ module _ (passes : Passing) (net : Network) (pattern : Pattern) (flows slopes : 
 
   -- the test of a link
   abbrev test : ℕ → Link → Bool
-  test e link = le_ℚ 0ℚ (number_at flows e) && keeps (state_of e) (bound_value (state_of e) link.capacity (number_at slopes link.head)) (number_at flows e) (number_at slopes link.tail) (number_at slopes link.head)
+  test e link =
+      le_ℚ 0ℚ (number_at flows e) && keeps (state_of e) (bound_value (state_of e) link.capacity (number_at slopes link.head)) (number_at flows e)
+      (number_at slopes link.tail) (number_at slopes link.head)
 
   abbrev bound_at : ℕ × Link → Checked (Option ℚ)
   bound_at = bound_of passes pattern slopes
@@ -38,13 +40,16 @@ module _ (passes : Passing) (net : Network) (pattern : Pattern) (flows slopes : 
   step_ok : (found : Option ℕ) (e : ℕ) (link : Link) (bound : Option ℚ) → bound_at (e, link) ≡ Ok bound → after found (e, link) ≡ Ok (first_of found (test e link) e)
   unfolding link_verdict
   step_ok found e link bound h =
-      ap (λ (r : Checked (Option ℚ)). (r >>= λ b. Ok (le_ℚ 0ℚ (number_at flows e) && keeps (state_of e) b (number_at flows e) (number_at slopes link.tail) (number_at slopes link.head))) >>= λ holds. Ok (first_of found holds e)) h
-      ∙ ap (λ (b : Option ℚ). Ok (first_of found (le_ℚ 0ℚ (number_at flows e) && keeps (state_of e) b (number_at flows e) (number_at slopes link.tail) (number_at slopes link.head)) e)) (bound_exact passes (state_of e) link.capacity (number_at slopes link.head) bound h)
+      ap (λ (r : Checked (Option ℚ)). (r >>= λ b. Ok (le_ℚ 0ℚ (number_at flows e) && keeps (state_of e) b (number_at flows e) (number_at slopes link.tail)
+          (number_at slopes link.head))) >>= λ holds. Ok (first_of found holds e)) h
+      ∙ ap (λ (b : Option ℚ). Ok (first_of found (le_ℚ 0ℚ (number_at flows e) && keeps (state_of e) b (number_at flows e) (number_at slopes link.tail)
+          (number_at slopes link.head)) e)) (bound_exact passes (state_of e) link.capacity (number_at slopes link.head) bound h)
 
   step_err : (found : Option ℕ) (e : ℕ) (link : Link) (p : Passed ℚ) → bound_at (e, link) ≡ Err p → after found (e, link) ≡ Err p
   unfolding link_verdict
   step_err found e link p h =
-      ap (λ (r : Checked (Option ℚ)). (r >>= λ b. Ok (le_ℚ 0ℚ (number_at flows e) && keeps (state_of e) b (number_at flows e) (number_at slopes link.tail) (number_at slopes link.head))) >>= λ holds. Ok (first_of found holds e)) h
+      ap (λ (r : Checked (Option ℚ)). (r >>= λ b. Ok (le_ℚ 0ℚ (number_at flows e) && keeps (state_of e) b (number_at flows e) (number_at slopes link.tail)
+          (number_at slopes link.head))) >>= λ holds. Ok (first_of found holds e)) h
 
   -- ---- what the test says
   module _ (e : ℕ) (link : Link) (is_link : IsLink net e link) where
@@ -53,11 +58,14 @@ module _ (passes : Passing) (net : Network) (pattern : Pattern) (flows slopes : 
 
     test_meets : test e link ≡ true → MeetsAt net pattern flows slopes e
     test_meets h =
-        let b = and_parts (le_ℚ 0ℚ (number_at flows e)) (keeps (state_of e) (bound_value (state_of e) link.capacity (number_at slopes link.head)) (number_at flows e) (number_at slopes link.tail) (number_at slopes link.head)) h in
+        let b = and_parts (le_ℚ 0ℚ (number_at flows e)) (keeps (state_of e) (bound_value (state_of e) link.capacity (number_at slopes link.head))
+            (number_at flows e) (number_at slopes link.tail) (number_at slopes link.head)) h in
         record {
           no_negative = le_of_test 0ℚ (number_at flows e) b.0;
-          inequality = λ other state at_link at_state. subst (λ (l : Link). Inequality state l.capacity (number_at flows e) (number_at slopes l.tail) (number_at slopes l.head)) (same_link other at_link)
-              (subst (λ (s : Option State). Inequality s link.capacity (number_at flows e) (number_at slopes link.tail) (number_at slopes link.head)) (ap (λ (o : Option (Option State)). unwrap_or o None) at_state)
+          inequality = λ other state at_link at_state. subst (λ (l : Link). Inequality state l.capacity (number_at flows e) (number_at slopes l.tail)
+              (number_at slopes l.head)) (same_link other at_link)
+              (subst (λ (s : Option State). Inequality s link.capacity (number_at flows e) (number_at slopes link.tail) (number_at slopes link.head))
+                  (ap (λ (o : Option (Option State)). unwrap_or o None) at_state)
               (keeps_inequality (state_of e) link.capacity (number_at flows e) (number_at slopes link.tail) (number_at slopes link.head) b.1));
         }
 
@@ -65,7 +73,8 @@ module _ (passes : Passing) (net : Network) (pattern : Pattern) (flows slopes : 
       meets_test : MeetsAt net pattern flows slopes e → test e link ≡ true
       meets_test m = all_true _ _ (test_of_le 0ℚ (number_at flows e) m.no_negative)
           (inequality_keeps (state_of e) link.capacity (number_at flows e) (number_at slopes link.tail) (number_at slopes link.head)
-          (subst (λ (s : Option State). Inequality s link.capacity (number_at flows e) (number_at slopes link.tail) (number_at slopes link.head)) (sym (ap (λ (o : Option (Option State)). unwrap_or o None) at_state))
+          (subst (λ (s : Option State). Inequality s link.capacity (number_at flows e) (number_at slopes link.tail) (number_at slopes link.head))
+              (sym (ap (λ (o : Option (Option State)). unwrap_or o None) at_state))
           (m.inequality link state is_link at_state)))
 
       meets_not : test e link ≡ false → MeetsAt net pattern flows slopes e → ⊥
@@ -131,16 +140,19 @@ module _ (passes : Passing) (net : Network) (pattern : Pattern) (flows slopes : 
         done : (bound : Option ℚ) → bound_at (k, link) ≡ Ok bound → IsOk (each bound_at (enumerate_from (k + 1) links)) × SoFar found ((k + 1) + length links)
             → IsOk (each bound_at ((k, link) ∷ enumerate_from (k + 1) links)) × SoFar found (k + suc (length links))
         done bound e w = (
-          subst (λ (r : Checked (Option ℚ)). IsOk (r >>= λ y. each bound_at (enumerate_from (k + 1) links) >>= λ ys. Ok (y ∷ ys))) (sym e) (and_then bound (each bound_at (enumerate_from (k + 1) links)) w.0),
+          subst (λ (r : Checked (Option ℚ)). IsOk (r >>= λ y. each bound_at (enumerate_from (k + 1) links) >>= λ ys. Ok (y ∷ ys))) (sym e)
+              (and_then bound (each bound_at (enumerate_from (k + 1) links)) w.0),
           subst (SoFar found) (omega arith) w.1,
         )
 
         by_bound : (r : Checked (Option ℚ)) → bound_at (k, link) ≡ r
-            → (fold_checked after (first_of so_far (test k link) k) (enumerate_from (k + 1) links) ≡ Ok found → IsOk (each bound_at (enumerate_from (k + 1) links)) × SoFar found ((k + 1) + length links))
+            → (fold_checked after (first_of so_far (test k link) k) (enumerate_from (k + 1) links) ≡ Ok found
+                → IsOk (each bound_at (enumerate_from (k + 1) links)) × SoFar found ((k + 1) + length links))
             → IsOk (each bound_at ((k, link) ∷ enumerate_from (k + 1) links)) × SoFar found (k + suc (length links))
         by_bound (Ok bound) e rest = done bound e
             (rest (sym (ap (λ (r : Checked (Option ℕ)). r >>= λ f. fold_checked after f (enumerate_from (k + 1) links)) (step_ok so_far k link bound e)) ∙ h))
-        by_bound (Err p) e rest = absurd (no found (sym (ap (λ (r : Checked (Option ℕ)). r >>= λ f. fold_checked after f (enumerate_from (k + 1) links)) (step_err so_far k link p e)) ∙ h))
+        by_bound (Err p) e rest = absurd (no found (sym (ap (λ (r : Checked (Option ℕ)). r >>= λ f. fold_checked after f (enumerate_from (k + 1) links))
+            (step_err so_far k link p e)) ∙ h))
           where
             no : (y : Option ℕ) → ◌≡◌ {A = Checked (Option ℕ)} (Err p) (Ok y) → ⊥
             no y e = cc
@@ -152,7 +164,8 @@ module _ (passes : Passing) (net : Network) (pattern : Pattern) (flows slopes : 
         (w.0, subst (SoFar found) (omega arith) w.1)
 
   -- ---- where an operation passes
-  passes_too : (links : List Link) (k : ℕ) (so_far : Option ℕ) (p : Passed ℚ) → fold_checked after so_far (enumerate_from k links) ≡ Err p → each bound_at (enumerate_from k links) ≡ Err p
+  passes_too : (links : List Link) (k : ℕ) (so_far : Option ℕ) (p : Passed ℚ) → fold_checked after so_far (enumerate_from k links) ≡ Err p
+      → each bound_at (enumerate_from k links) ≡ Err p
   passes_too [] k so_far p h = absurd (cc)
   passes_too (link ∷ links) k so_far p h = by_bound (bound_at (k, link)) refl (passes_too links (k + 1) (first_of so_far (test k link) k) p)
     where

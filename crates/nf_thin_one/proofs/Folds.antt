@@ -15,7 +15,8 @@ module _ {A B E : Type 0} (f : B → A → Result B E) (xs : List A) (start : B)
       → fold_checked f start xs ≡ fold_checked f next (drop (suc i) xs)
   goes_on so_far next i x at h e = h ∙ (ap (fold_checked f so_far) (drop_at xs i x at) ∙ fold_ok f so_far x (drop (suc i) xs) next e)
 
-  pub stops : (so_far : B) (i : ℕ) (x : A) (p : E) → slice_get xs i ≡ Some x → fold_checked f start xs ≡ fold_checked f so_far (drop i xs) → f so_far x ≡ Err p → fold_checked f start xs ≡ Err p
+  pub stops : (so_far : B) (i : ℕ) (x : A) (p : E) → slice_get xs i ≡ Some x → fold_checked f start xs ≡ fold_checked f so_far (drop i xs)
+      → f so_far x ≡ Err p → fold_checked f start xs ≡ Err p
   stops so_far i x p at h e = h ∙ (ap (fold_checked f so_far) (drop_at xs i x at) ∙ fold_err f so_far x (drop (suc i) xs) p e)
 
   pub ends : (so_far : B) (i : ℕ) → length xs ≤ i → fold_checked f start xs ≡ fold_checked f so_far (drop i xs) → fold_checked f start xs ≡ Ok so_far

@@ -28,7 +28,8 @@ module _ (passes : Passing) where
   product_exact true q x bound e = absurd (cc)
   product_exact false q x bound e = sym (same_Ok (Some x) bound e)
 
-  pub bound_exact : (state : Option State) (capacity : Option ℚ) (head_slope : ℚ) (bound : Option ℚ) → bound_on passes state capacity head_slope ≡ Ok bound → bound ≡ bound_value state capacity head_slope
+  pub bound_exact : (state : Option State) (capacity : Option ℚ) (head_slope : ℚ) (bound : Option ℚ) → bound_on passes state capacity head_slope ≡ Ok bound
+      → bound ≡ bound_value state capacity head_slope
   unfolding checked
   bound_exact (Some Tight) (Some capacity) head_slope bound e = product_exact (passes Product capacity head_slope) _ (capacity *ℚ head_slope) bound e
   bound_exact (Some Tight) None head_slope bound e = sym (same_Ok None bound e)
@@ -36,9 +37,11 @@ module _ (passes : Passing) where
   bound_exact (Some Zero) capacity head_slope bound e = sym (same_Ok None bound e)
   bound_exact None capacity head_slope bound e = sym (same_Ok None bound e)
 
-pub keeps_inequality : (state : Option State) (capacity : Option ℚ) (flow tail_slope head_slope : ℚ) → keeps state (bound_value state capacity head_slope) flow tail_slope head_slope ≡ true
+pub keeps_inequality : (state : Option State) (capacity : Option ℚ) (flow tail_slope head_slope : ℚ)
+    → keeps state (bound_value state capacity head_slope) flow tail_slope head_slope ≡ true
     → Inequality state capacity flow tail_slope head_slope
-keeps_inequality (Some Tight) (Some capacity) flow tail_slope head_slope e = λ rate same. subst (λ (r : ℚ). flow ≤ℚ r *ℚ head_slope) (same_capacity capacity rate same) (le_of_test flow (capacity *ℚ head_slope) e)
+keeps_inequality (Some Tight) (Some capacity) flow tail_slope head_slope e =
+    λ rate same. subst (λ (r : ℚ). flow ≤ℚ r *ℚ head_slope) (same_capacity capacity rate same) (le_of_test flow (capacity *ℚ head_slope) e)
   where
     same_capacity : (c r : ℚ) → Some c ≡ Some r → c ≡ r
     same_capacity c r e = cc

@@ -45,7 +45,8 @@ module _ (net : Network) (sets : Sets) (pattern : Pattern) where
       pub end_inside : (v : ℕ) → v < net.nodes → v < length table
       end_inside v b = let c = h.count in let u = unknowns-length net sets in omega arith
 
-      module _ (good : IsNetwork net) (count : length sets.active ≡ length net.links) (link : Link) (is_link : IsLink net e link) (state : Option State) (at : slice_get pattern e ≡ Some state) where
+      module _ (good : IsNetwork net) (count : length sets.active ≡ length net.links) (link : Link) (is_link : IsLink net e link) (state : Option State)
+          (at : slice_get pattern e ≡ Some state) where
         row_here : (rate : ℚ) → Filled rate table next → with_entries (row_at table next) (link_entries next link state) ≡ row_at (equations net sets rate pattern) next
         row_here rate f =
             ap (λ (r : Row). with_entries r (link_entries next link state))
@@ -56,7 +57,8 @@ module _ (net : Network) (sets : Sets) (pattern : Pattern) where
 
         pub link_more : (new : List Row) → ChangesRow table new next (with_entries (row_at table next) (link_entries next link state)) → HasLinksTo old new (e + 1) (next + 1)
         link_more new changed = record {
-          filled = λ rate f. filled_more (equations net sets rate pattern) table new next (with_entries (row_at table next) (link_entries next link state)) (h.filled rate f) changed (row_here rate (h.filled rate f));
+          filled = λ rate f. filled_more (equations net sets rate pattern) table new next (with_entries (row_at table next) (link_entries next link state))
+              (h.filled rate f) changed (row_here rate (h.filled rate f));
           place = let n = one_more_before sets.active e active in let p = h.place in omega arith;
           count = changed.count ∙ h.count;
         }

@@ -35,7 +35,8 @@ module _ (net : Network) (sets : Sets) (v : ℕ) where
     rest = λ j b. no_number (length (unknowns net sets) + 1) j;
   }
 
-  pub factors_more : (numbers : Row) (e : ℕ) (x : ℚ) → Has sets.active e → x ≡ leaves_less_enters (slice_get net.links e) v → HasFactorsTo numbers e → HasFactorsTo (set numbers (column_of e) x) (e + 1)
+  pub factors_more : (numbers : Row) (e : ℕ) (x : ℚ) → Has sets.active e → x ≡ leaves_less_enters (slice_get net.links e) v → HasFactorsTo numbers e
+      → HasFactorsTo (set numbers (column_of e) x) (e + 1)
   factors_more numbers e x active is h = record {
     count = length-set numbers (column_of e) x ∙ h.count;
     slopes = λ w b. got-other numbers (column_of e) w x 0ℚ (λ s. absurd (omega arith)) ∙ h.slopes w b;

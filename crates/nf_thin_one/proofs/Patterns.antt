@@ -84,7 +84,8 @@ module _ (passes : Passing) (net : Network) (sets : Sets) (rate : ℚ) (pattern 
     pub verdict_passes : (at : PassedAt ℚ) → at_part Verdict (verdict_list passes net pattern slopes) ≡ Err at → lists ≡ Err at
     verdict_passes at k = from_table (Some values) h ∙ ap with_bounds k
 
-    pub accepted : IsOk (at_part Verdict (verdict_list passes net pattern slopes)) → Meets net pattern flows slopes → IsAccepted passes net sets rate pattern × IsSolution net sets rate pattern flows slopes
+    pub accepted : IsOk (at_part Verdict (verdict_list passes net pattern slopes)) → Meets net pattern flows slopes
+        → IsAccepted passes net sets rate pattern × IsSolution net sets rate pattern flows slopes
     accepted ok meets =
         let solution : IsSolution net sets rate pattern flows slopes = record { solves = alone.solves; only = alone.only; meets = meets } in
         (record { solvable = record { flows = flows; slopes = slopes; solution = solution }; none_passes = lists_ok ok }, solution)

@@ -46,7 +46,8 @@ module _ (net : Network) (sets : Sets) (source : net.source < net.nodes) where
 
     module _ (once twice : List Row) (first : once ≡ set table 0 (set (row_at table 0) net.source 1ℚ)) (second : twice ≡ set once 0 (set (row_at once 0) (length once) 1ℚ)) where
       once_changed : ChangesRow table once 0 (set zeros net.source 1ℚ)
-      once_changed = subst (λ (r : Row). ChangesRow table once 0 (set r net.source 1ℚ)) (zero_at 0 some) (number_changes table table once 0 net.source (row_at table 0) 1ℚ some (none_changes table 0) first)
+      once_changed = subst (λ (r : Row). ChangesRow table once 0 (set r net.source 1ℚ)) (zero_at 0 some)
+          (number_changes table table once 0 net.source (row_at table 0) 1ℚ some (none_changes table 0) first)
 
       twice_changed : ChangesRow table twice 0 (row (unknowns net sets) (source_factor net.source) 1ℚ)
       twice_changed = subst (ChangesRow table twice 0) (ap (λ (j : ℕ). set (set zeros net.source 1ℚ) j 1ℚ) (once_changed.count ∙ long) ∙ started)

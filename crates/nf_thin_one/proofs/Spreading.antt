@@ -21,10 +21,12 @@ module _ (active : List Bool) (values : List ℚ) (nodes : ℕ) where
     pub has_value : slice_get active e ≡ Some true → next < length values
     has_value at =
         let l = so.left in
-        let c : length (active_from 0 (drop e active)) ≡ suc (length (active_from 1 (drop (suc e) active))) = ap (λ (a : List Bool). length (active_from 0 a)) (drop_at active e true at) in
+        let c : length (active_from 0 (drop e active)) ≡ suc (length (active_from 1 (drop (suc e) active))) =
+            ap (λ (a : List Bool). length (active_from 0 a)) (drop_at active e true at) in
         omega arith
 
-    pub active_more : (value : ℚ) (i j : ℕ) → i ≡ e + 1 → j ≡ next + 1 → slice_get active e ≡ Some true → slice_get values next ≡ Some value → AreFlows active values nodes (flows ++ value ∷ []) i j
+    pub active_more : (value : ℚ) (i j : ℕ) → i ≡ e + 1 → j ≡ next + 1 → slice_get active e ≡ Some true → slice_get values next ≡ Some value
+        → AreFlows active values nodes (flows ++ value ∷ []) i j
     active_more value i j same_i same_j at at_value = record {
       said = append_assoc flows (value ∷ []) (onto_links (drop i active) (drop j values))
           ∙ ap (λ (l : List ℚ). flows ++ l) (sym parts) ∙ so.said;
@@ -41,7 +43,8 @@ module _ (active : List Bool) (values : List ℚ) (nodes : ℕ) where
         count : j + length (active_from 0 (drop i active)) ≡ length values
         count =
             let l = so.left in
-            let c : length (active_from 0 (drop e active)) ≡ suc (length (active_from 1 (drop (suc e) active))) = ap (λ (a : List Bool). length (active_from 0 a)) (drop_at active e true at) in
+            let c : length (active_from 0 (drop e active)) ≡ suc (length (active_from 1 (drop (suc e) active))) =
+                ap (λ (a : List Bool). length (active_from 0 a)) (drop_at active e true at) in
             let d : length (active_from 1 (drop (suc e) active)) ≡ length (active_from 0 (drop i active)) =
             same_count (drop (suc e) active) 1 0 ∙ ap (λ (k : ℕ). length (active_from 0 (drop k active))) (let s : suc e ≡ i = omega arith in s) in
             omega arith
@@ -61,7 +64,8 @@ module _ (active : List Bool) (values : List ℚ) (nodes : ℕ) where
         count : next + length (active_from 0 (drop i active)) ≡ length values
         count =
             let l = so.left in
-            let c : length (active_from 0 (drop e active)) ≡ length (active_from 1 (drop (suc e) active)) = ap (λ (a : List Bool). length (active_from 0 a)) (drop_at active e false at) in
+            let c : length (active_from 0 (drop e active)) ≡ length (active_from 1 (drop (suc e) active)) =
+                ap (λ (a : List Bool). length (active_from 0 a)) (drop_at active e false at) in
             let d : length (active_from 1 (drop (suc e) active)) ≡ length (active_from 0 (drop i active)) =
             same_count (drop (suc e) active) 1 0 ∙ ap (λ (k : ℕ). length (active_from 0 (drop k active))) (let s : suc e ≡ i = omega arith in s) in
             omega arith

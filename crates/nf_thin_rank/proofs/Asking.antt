@@ -9,7 +9,8 @@ use Rattle.nf_thin_equation_laws.specs.Equations.{IsPatternIn}
 use Rattle.nf_thin_rank.specs.Questions.{AreSetsOf, AsksOf, question_of}
 
 -- a listed pattern is one of the network's
-pub listed_in : (net : Network) (sets : Sets) (q : Question) (pattern : Pattern) → IsNetwork net → AreSetsOf net sets → q ≡ question_of net sets q.base → IsListedBy q pattern → IsPatternIn net sets pattern
+pub listed_in : (net : Network) (sets : Sets) (q : Question) (pattern : Pattern) → IsNetwork net → AreSetsOf net sets → q ≡ question_of net sets q.base
+    → IsListedBy q pattern → IsPatternIn net sets pattern
 listed_in net sets q pattern good sets_are asked listed = record {
   network = good;
   sets_are = sets_are.sets_are;

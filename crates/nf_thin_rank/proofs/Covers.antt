@@ -93,7 +93,8 @@ choices_are (b ∷ base) [] = refl
 choices_are (b ∷ base) (f ∷ firm) = ap (λ (x : Choices). states_of_firm b f ∷ x) (choices_are base firm)
 
 -- ---- the keepers with another one for a node
-pub other_keeps : (net : Network) (sets : Sets) (listed : Pattern) (n node other : ℕ) (keepers : List (Option ℕ)) → AreKeepers net sets listed n keepers → node < net.nodes → MayKeep net sets listed other node
+pub other_keeps : (net : Network) (sets : Sets) (listed : Pattern) (n node other : ℕ) (keepers : List (Option ℕ)) → AreKeepers net sets listed n keepers
+    → node < net.nodes → MayKeep net sets listed other node
     → AreKeepers net sets listed n (slice_set keepers node (Some other))
 other_keeps net sets listed n node other keepers are within may = record {
   count = length-set keepers node (Some other) ∙ are.count;
@@ -115,7 +116,8 @@ other_keeps net sets listed n node other keepers are within may = record {
     none v e less may_v at (inr apart) = are.there v e less may_v (sym (set_other keepers node v (Some other) apart) ∙ at)
 
 -- A keeper is a link of the network.
-pub keeper_within : (net : Network) (sets : Sets) (listed : Pattern) (n v e : ℕ) (keepers : List (Option ℕ)) → AreKeepers net sets listed n keepers → slice_get keepers v ≡ Some (Some e) → e < length net.links
+pub keeper_within : (net : Network) (sets : Sets) (listed : Pattern) (n v e : ℕ) (keepers : List (Option ℕ)) → AreKeepers net sets listed n keepers
+    → slice_get keepers v ≡ Some (Some e) → e < length net.links
 keeper_within net sets listed n v e keepers are at =
     let w = are.keeps v e at in let l = slice_get_within (hops net) e w.0 w.1 in let c = hops_length net in omega arith
 
@@ -134,7 +136,8 @@ module _ (net : Network) (sets : Sets) (base pattern listed : Pattern) (is_base 
   -- one family
   module _ (keepers : List (Option ℕ)) (out : ℕ) (firm : List Firm) (are : AreFirmBy net sets listed keepers out firm) where
     all : (q : Pattern) → AreIn (firm_choices base firm) q → IsListedIn net sets q
-    all q in_q = firm_listed net.nodes net.source (hops net) sets (unbounded net) base listed (map (λ f. f.tight) firm) (map (λ f. f.full) firm) (map (λ f. f.zero) firm) is_base is_listed are.have q
+    all q in_q = firm_listed net.nodes net.source (hops net) sets (unbounded net) base listed (map (λ f. f.tight) firm) (map (λ f. f.full) firm)
+        (map (λ f. f.zero) firm) is_base is_listed are.have q
         (subst (λ (c : Choices). AreIn c q) (choices_are base firm) in_q)
 
     up : AllAscend (firm_choices base firm)
@@ -186,16 +189,19 @@ module _ (net : Network) (sets : Sets) (base pattern listed : Pattern) (is_base 
         zeroed_in : (r : Pattern) → AreIn (firm_choices base w.firm) r → HasState r w.spare.keeper Zero
         zeroed_in r in_r = let o = w.are.only w.is_spare.within in only_so base w.firm r w.spare.keeper w.is_spare.state o.0 in_r w.is_spare.stated o.1 o.2 o.3
 
-        one_at_most : (r : Pattern) → (AreIn (firm_choices base w.firm) r × (in_family (firm_choices base w.firm) r ≡ 1)) ⊎ (in_family (firm_choices base w.firm) r ≡ 0) → (old.has r ≡ 0) ⊎ (0 < old.has r)
+        one_at_most : (r : Pattern) → (AreIn (firm_choices base w.firm) r × (in_family (firm_choices base w.firm) r ≡ 1)) ⊎ (in_family
+            (firm_choices base w.firm) r ≡ 0) → (old.has r ≡ 0) ⊎ (0 < old.has r)
             → old.has r + in_family (firm_choices base w.firm) r ≤ 1
         one_at_most r (inr none) h = let o = old.once r in omega arith
         one_at_most r (inl in_r) (inl none) = let o = in_r.1 in omega arith
         one_at_most r (inl in_r) (inr some) = absurd (old.shuns r n w.spare.keeper some (omega arith) w.is_spare.keeps (zeroed_in r in_r.0))
 
-        shuns_all : (r : Pattern) (v e : ℕ) → 0 < old.has r + in_family (firm_choices base w.firm) r → n + 1 ≤ v → slice_get keepers v ≡ Some (Some e) → HasState r e Zero → (old.has r ≡ 0) ⊎ (0 < old.has r) → ⊥
+        shuns_all : (r : Pattern) (v e : ℕ) → 0 < old.has r + in_family (firm_choices base w.firm) r → n + 1 ≤ v → slice_get keepers v ≡ Some (Some e)
+            → HasState r e Zero → (old.has r ≡ 0) ⊎ (0 < old.has r) → ⊥
         shuns_all r v e some from at zeroed (inr before) = old.shuns r v e before (omega arith) at zeroed
         shuns_all r v e some from at zeroed (inl none) =
-            shuns_by (slice_set keepers n (Some w.spare.other)) w.spare.keeper w.firm w.are r v e (omega arith) (set_other keepers n v (Some w.spare.other) (λ same. omega arith) ∙ at) zeroed
+            shuns_by (slice_set keepers n (Some w.spare.other)) w.spare.keeper w.firm w.are r v e (omega arith)
+                (set_other keepers n v (Some w.spare.other) (λ same. omega arith) ∙ at) zeroed
 
     pub covers_more : (more after : ℕ) → IsByOther net sets base pattern listed keepers n more → after ≡ min (ways + more) most → Covers net sets base pattern keepers (n + 1) after
     covers_more more after (inl none) is = record {

@@ -41,7 +41,8 @@ none_kept net sets listed count keepers is same = record {
         sym (get_or-replicate count v None None (omega arith)) ∙ get_or_from_slice_get (replicate {A = Option ℕ} count None) v keeper None at
 
 -- one link more
-module _ (net : Network) (sets : Sets) (listed : Pattern) (n node : ℕ) (old new : List (Option ℕ)) (resets leads : Bool) (state : Option State) (hop : Hop) (is_hop : IsHop (hops net) n hop) (head : hop.head ≡ node)
+module _ (net : Network) (sets : Sets) (listed : Pattern) (n node : ℕ) (old new : List (Option ℕ)) (resets leads : Bool) (state : Option State) (hop : Hop)
+    (is_hop : IsHop (hops net) n hop) (head : hop.head ≡ node)
     (flag : slice_get sets.resetting n ≡ Some resets) (at : slice_get listed n ≡ Some state) (so : leads ≡ true → (state ≡ Some Tight) ⊎ (state ≡ Some Full))
     (back : (state ≡ Some Tight) ⊎ (state ≡ Some Full) → leads ≡ true) (are : AreKeepers net sets listed n old) (count : length new ≡ length old)
     (keeps : (v e : ℕ) → slice_get new v ≡ Some (Some e) → (slice_get old v ≡ Some (Some e)) ⊎ ((v ≡ node) × (e ≡ n) × ((resets ≡ true) ⊎ (leads ≡ true))))
@@ -97,10 +98,12 @@ module _ (net : Network) (sets : Sets) (listed : Pattern) (sets_are : AreSetsOf 
   counts : (g : Firm → Bool) → length (map g firm) ≡ length sets.active
   counts g = length-map firm g ∙ (count ∙ sym sets_are.sets_are.count)
 
-  keeper : (v e : ℕ) → slice_get keepers v ≡ Some (Some e) → (hop : Hop) → IsHop (hops net) e hop → hop.head ≡ v → Has sets.resetting e ⊎ (HasState listed e Tight ⊎ HasState listed e Full)
+  keeper : (v e : ℕ) → slice_get keepers v ≡ Some (Some e) → (hop : Hop) → IsHop (hops net) e hop → hop.head ≡ v
+      → Has sets.resetting e ⊎ (HasState listed e Tight ⊎ HasState listed e Full)
       → IsKeeper sets (map (λ f. f.zero) firm) e
   keeper v e at hop is_hop head (inl r) = inl r
-  keeper v e at hop is_hop head (inr w) = inr (needs w, λ h. let f = from_map (λ (f : Firm). f.zero) firm e true h in (each e f.0 f.1).zero hop is_hop (ap (slice_get keepers) head ∙ at) f.2)
+  keeper v e at hop is_hop head (inr w) =
+      inr (needs w, λ h. let f = from_map (λ (f : Firm). f.zero) firm e true h in (each e f.0 f.1).zero hop is_hop (ap (slice_get keepers) head ∙ at) f.2)
     where
       needs : HasState listed e Tight ⊎ HasState listed e Full → Has sets.active e × (Has sets.resetting e → ⊥)
       needs (inl t) = (is_listed.states.states e).1 (Tight, t)
@@ -155,17 +158,20 @@ module _ (net : Network) (listed : Pattern) (keepers : List (Option ℕ)) (e : �
     tight = λ h. at ∙ ap (λ (x : Option State). Some x) (is_tight h);
     full = λ h u. is_full h (same_Some (is_none link.capacity) true (sym (slice_get-image (λ (l : Link). is_none l.capacity) net.links e link at_link) ∙ u));
     zero = λ hop is_hop at_keeper off. no_keeper keeper
-        (is_keeper (ap (slice_get keepers) (sym head_is ∙ ap (λ (h : Hop). h.head) (same_Some (hop_of link) hop (sym (slice_get-image hop_of net.links e link at_link) ∙ is_hop))) ∙ at_keeper)) off;
+        (is_keeper (ap (slice_get keepers) (sym head_is ∙ ap (λ (h : Hop). h.head)
+            (same_Some (hop_of link) hop (sym (slice_get-image hop_of net.links e link at_link) ∙ is_hop))) ∙ at_keeper)) off;
   }
 
 -- A link with a state may become Tight.
 pub still_so : (sets : Sets) (flags : List Bool) (pattern : Pattern) (e : ℕ) (old : Option State) → IsPattern sets flags pattern → slice_get pattern e ≡ Some old → is_none old ≡ false
     → IsPattern sets flags (slice_set pattern e (Some Tight))
 still_so sets flags pattern e None is at some = absurd (true≢false some)
-still_so sets flags pattern e (Some old) is at some = still_pattern sets flags pattern is e old Tight at (λ full. absurd (let h = ap rank (ap (λ (s : State). Some s) full) in omega arith))
+still_so sets flags pattern e (Some old) is at some =
+    still_pattern sets flags pattern is e old Tight at (λ full. absurd (let h = ap rank (ap (λ (s : State). Some s) full) in omega arith))
 
 -- A Tight or Full link into a node may keep it.
-pub may_keep_by : (net : Network) (sets : Sets) (listed : Pattern) (e node : ℕ) (link : Link) (state : Option State) → slice_get net.links e ≡ Some link → link.head ≡ node → slice_get listed e ≡ Some state
+pub may_keep_by : (net : Network) (sets : Sets) (listed : Pattern) (e node : ℕ) (link : Link) (state : Option State) → slice_get net.links e ≡ Some link
+    → link.head ≡ node → slice_get listed e ≡ Some state
     → (state ≡ Some Tight) ⊎ (state ≡ Some Full) → MayKeep net sets listed e node
 may_keep_by net sets listed e node link state at head at_state so = (hop_of link, slice_get-image hop_of net.links e link at, head, inr (by so))
   where

@@ -105,13 +105,15 @@ module _ (nodes source : ℕ) (hops : List Hop) (sets : Sets) (unbounded : List 
     (is : IsListing nodes source hops sets unbounded base listing) (all : (q : Pattern) → AreIn choices q → IsListed nodes source hops sets unbounded q) (up : AllAscend choices)
     (count : length base ≡ length sets.active) where
   -- One more member before j.
-  one_more : (w : Pattern) → AreIn choices w → (i j k : ℕ) → slice_get listing i ≡ Some w → i < j → k ≤ members (in_family choices) listing i → suc k ≤ members (in_family choices) listing j
+  one_more : (w : Pattern) → AreIn choices w → (i j k : ℕ) → slice_get listing i ≡ Some w → i < j → k ≤ members (in_family choices) listing i
+      → suc k ≤ members (in_family choices) listing j
   one_more w in_w i j k at less h =
       let m = members_more (in_family choices) listing i j w less at in
       let o = is_one choices w in_w in omega arith
 
   module _ (p : Pattern) where
-    at_least : (k : ℕ) → k < firm_before choices base p → (q : Pattern) → AreIn choices q → ways_before choices base q ≡ k → (j : ℕ) → slice_get listing j ≡ Some q → k ≤ members (in_family choices) listing j
+    at_least : (k : ℕ) → k < firm_before choices base p → (q : Pattern) → AreIn choices q → ways_before choices base q ≡ k → (j : ℕ)
+        → slice_get listing j ≡ Some q → k ≤ members (in_family choices) listing j
     at_least zero less q in_q number j at = omega arith
     at_least (suc k) less q in_q number j at =
         let w = number_before choices base p k up (omega arith) in

@@ -88,7 +88,8 @@ module _ (net : Network) (good : IsNetwork net) (flow : Flow) (is : Equilibrium 
     same-first v h = not_yet _ (number_at old.1 v) (number_at slopes v) old.0 (same v h) ∙ sym (moved-at old.1 slopes (old.0 -ℚ old.0) v counts)
 
     -- An interval on which all labels are lines.
-    module _ (a b : ℚ) (from : old.0 ≤ℚ a) (o : a <ℚ b) (in_phase : b ≤ℚ old.0 +ℚ phase.length) (described : b ≤ℚ flow.reached) (none : NoneBetween (all_times flow.labels) a b) (now : Same a) where
+    module _ (a b : ℚ) (from : old.0 ≤ℚ a) (o : a <ℚ b) (in_phase : b ≤ℚ old.0 +ℚ phase.length) (described : b ≤ℚ flow.reached)
+        (none : NoneBetween (all_times flow.labels) a b) (now : Same a) where
       a_nn : 0ℚ ≤ℚ a
       a_nn = ≤ℚ_trans _ _ _ begins from
 
@@ -104,7 +105,8 @@ module _ (net : Network) (good : IsNetwork net) (flow : Flow) (is : Equilibrium 
           (within_length old.0 a phase.length (<_≤_trans _ _ _ o in_phase)))
 
       slopes_are : goes.slopes ≡ slopes
-      slopes_are = slopes-unique net (sets_at net (labels_at a)) (rate_at net a) good (HoldNoCycle-sets_at net (labels_at a) good) goes.flows goes.slopes phase.flows slopes goes.thin still_thin
+      slopes_are = slopes-unique net (sets_at net (labels_at a)) (rate_at net a) good
+          (HoldNoCycle-sets_at net (labels_at a) good) goes.flows goes.slopes phase.flows slopes goes.thin still_thin
 
       module _ (v : ℕ) (h : v < net.nodes) where
         line : (k : ℚ) × IsAffine (label flow v) a b k
@@ -145,7 +147,8 @@ module _ (net : Network) (good : IsNetwork net) (flow : Flow) (is : Equilibrium 
           (lt_or_le_ℚ a old.0)
 
       pub phase-labels : LabelsAre net (label flow) departure (moved old.1 phase.slopes (departure -ℚ old.0))
-      phase-labels = along_times SameFrom departure (all_times flow.labels) over_stretch (all_times flow.labels) old.0 departure begins w.0 (≤ℚ_refl departure) (λ t x _ _. x) (λ _. same-first) w.0
+      phase-labels = along_times SameFrom departure (all_times flow.labels) over_stretch (all_times flow.labels) old.0 departure begins w.0
+          (≤ℚ_refl departure) (λ t x _ _. x) (λ _. same-first) w.0
 
     end-labels : new.0 ≤ℚ flow.reached → LabelsAre net (label flow) new.0 new.1
     end-labels h v k =

@@ -24,7 +24,8 @@ IsNetwork-supplied_by net pieces good are = record {
   reached = good.reached;
 }
 
-Balances-supplied_by : (net : Network) (pieces : List Piece) (amount : ℕ → ℚ → ℚ) (v : ℕ) (time into out : ℚ) → Balances net amount v time into out → Balances (supplied_by net pieces) amount v time into out
+Balances-supplied_by : (net : Network) (pieces : List Piece) (amount : ℕ → ℚ → ℚ) (v : ℕ) (time into out : ℚ) → Balances net amount v time into out
+    → Balances (supplied_by net pieces) amount v time into out
 Balances-supplied_by net pieces amount v time into out b = record { outs = b.outs; outflows = b.outflows; sums = b.sums }
 
 module _ (net : Network) (pieces : List Piece) (flow : Flow) (alike : SupplyAlike net.pieces pieces flow.reached) (is : Equilibrium net flow) where
@@ -95,7 +96,8 @@ supplied-later (p ∷ rest) time h = term_and_zero p.rate _ _
 
 supplied-front : (front back others : List Piece) (time : ℚ) → StartFrom back time → StartFrom others time → supplied (front ++ back) time ≡ supplied (front ++ others) time
 supplied-front [] back others time h k = supplied-later back time h ∙ sym (supplied-later others time k)
-supplied-front (p ∷ []) back others time h k = same_terms p.rate _ _ _ _ (time_in-later p.start back time h ∙ sym (time_in-later p.start others time k)) (supplied-front [] back others time h k)
+supplied-front (p ∷ []) back others time h k =
+    same_terms p.rate _ _ _ _ (time_in-later p.start back time h ∙ sym (time_in-later p.start others time k)) (supplied-front [] back others time h k)
 supplied-front (p ∷ q ∷ front) back others time h k = same_terms p.rate _ _ _ _ refl (supplied-front (q ∷ front) back others time h k)
 
 pub pieces-alike : (front back others : List Piece) (until : ℚ) → StartFrom back until → StartFrom others until → SupplyAlike (front ++ back) (front ++ others) until

@@ -12,7 +12,8 @@ use Rattle.nf_app_words.specs.Requests.{horizon_in, phases_in, patterns_in, amou
 use Rattle.nf_app_words.proofs.words_are_read.Goals as goal
 
 pub returns : goal.returns
-unfolding clap_on_literals ratio whole le_ℚ gcd number_of parts_of nfot matches_on word_in files_in count_of commands fits is_named is_there is_flagged file_in horizon_in phases_in patterns_in amount_in augments_in number_in rungs_in request_of
+unfolding clap_on_literals ratio whole le_ℚ gcd number_of parts_of nfot matches_on word_in files_in count_of commands fits is_named is_there is_flagged
+    file_in horizon_in phases_in patterns_in amount_in augments_in number_in rungs_in request_of
 returns c = record {
   any_order = refl;
   between = refl;

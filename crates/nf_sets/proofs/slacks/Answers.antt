@@ -24,7 +24,9 @@ returns-in_err-next-clause-slacks c = IfOk-from_err c.from_residual-in_err-next.
 
 pub returns-clause-list : goal.returns-clause-list
 unfolding slack_list
-returns-clause-list c = ap (at_part Slack) (all_said (slack_of passes_Q c.args.labels.now) c.args.hops.now c.loop-hop.slacks.items c.loop-hop.hop-index (omega arith) c.loop-hop.invariant)
+returns-clause-list c =
+    ap (at_part Slack) (all_said (slack_of passes_Q c.args.labels.now) c.args.hops.now c.loop-hop.slacks.items c.loop-hop.hop-index
+    (omega arith) c.loop-hop.invariant)
 
 pub returns-clause-slacks : goal.returns-clause-slacks
 unfolding slack_list
@@ -32,14 +34,19 @@ returns-clause-slacks c = slacks_exact passes_Q c.args.hops.now c.args.labels.no
     (all_said (slack_of passes_Q c.args.labels.now) c.args.hops.now c.loop-hop.slacks.items c.loop-hop.hop-index (omega arith) c.loop-hop.invariant)
 
 pub slack-requires-clause-tail : goal.slack-requires-clause-tail
-slack-requires-clause-tail c = c.requires.tails c.loop-hop.hop-index c.hop-item.result (IsHop-read c.args.hops.now c.loop-hop.hop-index c.hop-item.result c.loop-hop-test.true c.hop-item.is)
+slack-requires-clause-tail c =
+    c.requires.tails c.loop-hop.hop-index c.hop-item.result (IsHop-read c.args.hops.now c.loop-hop.hop-index c.hop-item.result c.loop-hop-test.true
+    c.hop-item.is)
 
 pub slack-requires-clause-head : goal.slack-requires-clause-head
-slack-requires-clause-head c = c.requires.heads c.loop-hop.hop-index c.hop-item.result (IsHop-read c.args.hops.now c.loop-hop.hop-index c.hop-item.result c.loop-hop-test.true c.hop-item.is)
+slack-requires-clause-head c =
+    c.requires.heads c.loop-hop.hop-index c.hop-item.result (IsHop-read c.args.hops.now c.loop-hop.hop-index c.hop-item.result c.loop-hop-test.true
+    c.hop-item.is)
 
 pub loop-hop-preserved : goal.loop-hop-preserved
 loop-hop-preserved c = subst
-    (λ (items : List ℚ). each (slack_of passes_Q c.args.labels.now) c.args.hops.now ≡ with_front items (each (slack_of passes_Q c.args.labels.now) (drop (c.loop-hop.hop-index + 1) c.args.hops.now)))
+    (λ (items : List ℚ). each (slack_of passes_Q c.args.labels.now) c.args.hops.now ≡ with_front items
+        (each (slack_of passes_Q c.args.labels.now) (drop (c.loop-hop.hop-index + 1) c.args.hops.now)))
     (sym c.in_ok-push.ensures.items)
     (given_in Slack (slack_of passes_Q c.args.labels.now) c.args.hops.now c.loop-hop.slacks.items c.loop-hop.hop-index c.hop-item.result c.in_ok-next.next
     c.loop-hop-test.true c.hop-item.is c.loop-hop.invariant c.in_ok-next.ensures)

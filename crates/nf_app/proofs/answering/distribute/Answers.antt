@@ -18,6 +18,7 @@ returns-in_err-routed c file name =
 pub returns : goal.returns
 returns c file name =
     let e = c.in_ok-routed.ensures in (
-      distributed_given c.args.net.now file name c.args.horizon c.args.text.now c.in_ok-routes.routes c.in_ok-routes.ensures.reads (carried_of c.args.net.now.net (routes_of c.in_ok-routes.routes) c.args.horizon c.in_ok-routed.routed) e.list e.routed e.arrives,
+      distributed_given c.args.net.now file name c.args.horizon c.args.text.now c.in_ok-routes.routes c.in_ok-routes.ensures.reads
+          (carried_of c.args.net.now.net (routes_of c.in_ok-routes.routes) c.args.horizon c.in_ok-routed.routed) e.list e.routed e.arrives,
       routed_counts c.args.net.now.net c.in_ok-routes.routes c.args.horizon c.in_ok-routed.routed e.routed,
     )

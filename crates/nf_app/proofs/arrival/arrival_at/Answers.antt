@@ -17,7 +17,8 @@ returns-in-Some c =
     let there = ap option_copied c.in-Some.is in
     let stopped : s.stopped ≡ Some c.in-Some.stop.now = sym copied ∙ there in
     stopped_arrives c.args.net.now.net c.recall.ensures.network c.args.departs (report_in c.args.departs s) s.phases
-    (subst (λ (b : Budgets). IsRunSolution c.args.net.now.net (bounds_of c.args.departs b) s.phases (report_in c.args.departs s)) c.usual_budgets-budgets.ensures c.in_ok-solution.ensures.solution)
+    (subst (λ (b : Budgets). IsRunSolution c.args.net.now.net (bounds_of c.args.departs b) s.phases (report_in c.args.departs s))
+        c.usual_budgets-budgets.ensures c.in_ok-solution.ensures.solution)
     c.in-Some.stop.now stopped
 
 pub returns : goal.returns
@@ -27,6 +28,7 @@ returns c =
     let none = ap option_copied c.in-None.is in
     let stopped : s.stopped ≡ None = sym copied ∙ none in
     reached_arrives c.args.net.now.net c.recall.ensures.network c.args.departs (report_in c.args.departs s) s.phases
-    (subst (λ (b : Budgets). IsRunSolution c.args.net.now.net (bounds_of c.args.departs b) s.phases (report_in c.args.departs s)) c.usual_budgets-budgets.ensures c.in_ok-solution.ensures.solution)
+    (subst (λ (b : Budgets). IsRunSolution c.args.net.now.net (bounds_of c.args.departs b) s.phases (report_in c.args.departs s))
+        c.usual_budgets-budgets.ensures c.in_ok-solution.ensures.solution)
     (subst (λ (v : ℕ). v < c.args.net.now.net.nodes) c.sink.ensures.value c.sink.ensures.node) c.requires stopped c.last_label.result
     (at_sink c.in_ok-solution.solution.flow c.sink.result c.args.net.now.net.sink c.last_label.result c.sink.ensures.value c.last_label.ensures)

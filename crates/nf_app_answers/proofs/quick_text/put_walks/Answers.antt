@@ -14,7 +14,8 @@ returns-in_err-put_walk c = IfOk-from_err c.from_residual.result _ c.from_residu
 pub loop-walk-preserved : goal.loop-walk-preserved
 loop-walk-preserved c =
     part_more (walk_line c.args.net.now.link_names) c.args.walks.now c.loop-walk.walk-index c.walk-item.result c.loop-walk.text.items _ _
-    (slice_get_read c.args.walks.now (length c.args.walks.now) c.loop-walk.walk-index c.walk-item.result refl c.loop-walk-test.true c.walk-item.is) c.loop-walk.invariant c.in_ok-put_walk.ensures
+    (slice_get_read c.args.walks.now (length c.args.walks.now) c.loop-walk.walk-index c.walk-item.result refl c.loop-walk-test.true c.walk-item.is)
+        c.loop-walk.invariant c.in_ok-put_walk.ensures
 
 pub returns : goal.returns
 returns c =

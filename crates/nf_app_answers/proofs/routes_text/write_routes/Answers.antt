@@ -13,7 +13,8 @@ use Rattle.nf_report_pages.proofs.Parts.{each_next, each_left, each_all, points_
 use Rattle.nf_report_pages.proofs.Written.{wrote_next, wrote_then_failed, same_lines}
 use Rattle.nf_app_answers.proofs.routes_text.write_routes.Goals as goal
 
-same_route : (routes : List NamedRoute) (routed : Routed) (i : ℕ) (name : Name) (arrival travel : List Point) → name ≡ name_at (route_names routes) i → arrival ≡ arrival_at routed i → travel ≡ travel_at routed i
+same_route : (routes : List NamedRoute) (routed : Routed) (i : ℕ) (name : Name) (arrival travel : List Point) → name ≡ name_at (route_names routes) i
+    → arrival ≡ arrival_at routed i → travel ≡ travel_at routed i
     → point_lines (codes "arrival") name arrival ++ point_lines (codes "travel") name travel ≡ route_lines routes routed i
 same_route routes routed i name arrival travel e f h = cc
 
@@ -40,7 +41,8 @@ returns-in_err-write_route g c =
     let here = same_route c.args.routes.now routed i _ _ _ (c.as_bytes-name.ensures.value ∙ c.name.ensures.value)
     (points_there c.args.routed.now.arrivals.items i c.index-arrival.result.now c.index-arrival.ensures (omega arith))
     (points_there c.args.routed.now.travels.items i c.index-travel.result.now c.index-travel.ensures (omega arith)) in
-    wrote_then_failed (flat_map lines (take i (range_with_len 0 n))) (lines i) (flat_map lines (drop (suc i) (range_with_len 0 n))) (for_each n lines) _ (each_left n lines i below) c.from_residual.ensures.0
+    wrote_then_failed (flat_map lines (take i (range_with_len 0 n))) (lines i) (flat_map lines (drop (suc i) (range_with_len 0 n))) (for_each n lines) _
+        (each_left n lines i below) c.from_residual.ensures.0
     c.loop-route.invariant (same_lines _ (lines i) here c.in_err-write_route.ensures)
 
 pub returns : goal.returns

@@ -26,5 +26,6 @@ loop-name-preserved c =
 pub returns : goal.returns
 unfolding app_in
 returns c =
-    let all = at_drop_all (λ (names : List (Bor Text)). with_options (map (λ name. name.now) names) (app_of c.loop-name.command)) c.args.names.now c.loop-name.name-index c.loop-name-test.false in
+    let all = at_drop_all (λ (names : List (Bor Text)). with_options (map (λ name. name.now) names) (app_of c.loop-name.command)) c.args.names.now
+        c.loop-name.name-index c.loop-name-test.false in
     sym all ∙ c.loop-name.invariant

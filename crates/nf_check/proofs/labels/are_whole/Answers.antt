@@ -7,7 +7,9 @@ use Rattle.nf_check_rules.proofs.ByNumber.{next_curve}
 use Rattle.nf_check.proofs.labels.are_whole.Goals as goal
 
 pub loop-label-preserved : goal.loop-label-preserved
-loop-label-preserved c = next_curve (λ (l : List Point). checked_cut passes_Q l c.args.last ≡ Ok l) c.args.labels.now c.loop-label.label-index c.label-item.result c.loop-label-test.true c.label-item.is
+loop-label-preserved c =
+    next_curve (λ (l : List Point). checked_cut passes_Q l c.args.last ≡ Ok l) c.args.labels.now c.loop-label.label-index c.label-item.result
+    c.loop-label-test.true c.label-item.is
     (subst (λ (l : List Point). checked_cut passes_Q l c.args.last ≡ Ok l) c.as_points.ensures.points (c.ends_at.ensures.whole c.if-not-ends_at.false)) c.loop-label.invariant
 
 pub returns : goal.returns

@@ -9,6 +9,7 @@ use Rattle.nf_check_rules.proofs.arriving.least_exits.Given as goal
 
 abbrev pub invariant-loop-number : goal.invariant-loop-number
 invariant-loop-number l = record {
-  folds : Folds (with_exit passes_Q (labels_in l.worked) (loaded_in l.worked) l.worked.flow.now.reached l.node) l.worked.net.now.net.links None (option_map (λ c. c.points) l.least) l.number;
+  folds : Folds (with_exit passes_Q (labels_in l.worked) (loaded_in l.worked) l.worked.flow.now.reached l.node) l.worked.net.now.net.links None
+      (option_map (λ c. c.points) l.least) l.number;
   kept : AreKept l.worked l.exits;
 }

@@ -5,4 +5,6 @@ use Rattle.nf_check_def.specs.PointRules.{rates_list}
 use Rattle.nf_check_rules.proofs.rates.check_trace.Given as goal
 
 abbrev pub invariant-loop-i : goal.invariant-loop-i
-invariant-loop-i l = rates_list passes_Q (OfLink l.link) (drop l.i l.trace.curve.points) (drop l.i l.trace.rates.items) ≡ rates_list passes_Q (OfLink l.link) l.trace.curve.points l.trace.rates.items
+invariant-loop-i l =
+    rates_list passes_Q (OfLink l.link) (drop l.i l.trace.curve.points) (drop l.i l.trace.rates.items) ≡ rates_list passes_Q
+    (OfLink l.link) l.trace.curve.points l.trace.rates.items

@@ -24,10 +24,14 @@ pub loaded_at-requires : goal.loaded_at-requires
 loaded_at-requires c = one_there _ _ c.args.link _ refl c.args.worked.now.known.links c.requires.link
 
 pub label_at-requires : goal.label_at-requires
-label_at-requires c = below_as _ c.link-here.result.tail _ (ap (λ (l : Link). l.tail) c.here.view_is) (c.link-here.ensures.named.network.tails c.args.link c.link-here.result c.link-here.ensures.link)
+label_at-requires c =
+    below_as _ c.link-here.result.tail _ (ap (λ (l : Link). l.tail) c.here.view_is)
+    (c.link-here.ensures.named.network.tails c.args.link c.link-here.result c.link-here.ensures.link)
 
 pub label_at-requires-2 : goal.label_at-requires-2
-label_at-requires-2 c = below_as _ c.link-here.result.head _ (ap (λ (l : Link). l.head) c.here.view_is) (c.link-here.ensures.named.network.heads c.args.link c.link-here.result c.link-here.ensures.link)
+label_at-requires-2 c =
+    below_as _ c.link-here.result.head _ (ap (λ (l : Link). l.head) c.here.view_is)
+    (c.link-here.ensures.named.network.heads c.args.link c.link-here.result c.link-here.ensures.link)
 
 pub invariant_of-curves : goal.invariant_of-curves
 invariant_of-curves c = record {

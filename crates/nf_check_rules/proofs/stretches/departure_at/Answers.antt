@@ -19,7 +19,8 @@ pub value_with-requires-clause-kept : goal.value_with-requires-clause-kept
 value_with-requires-clause-kept c = rw c.as_points-points.ensures.points c.requires.kept.taken
 
 pub returns-in_err-taken-clause-kept : goal.returns-in_err-taken-clause-kept
-returns-in_err-taken-clause-kept c = record { taken = rw c.as_points-points.ensures.points at c.in_err-taken.ensures.kept; exits = c.requires.kept.exits; labels = c.requires.kept.labels }
+returns-in_err-taken-clause-kept c =
+    record { taken = rw c.as_points-points.ensures.points at c.in_err-taken.ensures.kept; exits = c.requires.kept.exits; labels = c.requires.kept.labels }
 
 pub returns-clause-kept : goal.returns-clause-kept
 returns-clause-kept c = record { taken = rw c.as_points-points.ensures.points at c.in_ok-taken.ensures.kept; exits = c.requires.kept.exits; labels = c.requires.kept.labels }

@@ -9,7 +9,8 @@ abbrev pub invariant-loop-time : goal.invariant-loop-time
 invariant-loop-time l = record {
   kept : KeepSlopes l.sent l.kept;
   here : IsDeparture l.sent l.here;
-  left : stretches_from passes_Q l.sent.taken.points l.sent.exits.points l.sent.labels.points l.here.time (three_after l.here.time l.sent.taken.points l.sent.exits.points l.sent.labels.points) ≡ stretches_of l.sent;
+  left : stretches_from passes_Q l.sent.taken.points l.sent.exits.points l.sent.labels.points l.here.time
+      (three_after l.here.time l.sent.taken.points l.sent.exits.points l.sent.labels.points) ≡ stretches_of l.sent;
 }
 
 abbrev pub decreases-loop-time : goal.decreases-loop-time

@@ -9,7 +9,8 @@ use Rattle.nf_check_rules.proofs.values.greatest_value.Goals as goal
 
 pub loop-left-preserved : goal.loop-left-preserved
 loop-left-preserved c = (
-  c.greater-greatest.ensures ∙ greater_before c.args.curve.now.points c.loop-left.left (c.loop-left.left - 1) c.point-value.result c.loop-left.greatest (omega arith) c.point-value.ensures c.loop-left.invariant.0,
+  c.greater-greatest.ensures ∙ greater_before c.args.curve.now.points c.loop-left.left (c.loop-left.left - 1) c.point-value.result c.loop-left.greatest
+      (omega arith) c.point-value.ensures c.loop-left.invariant.0,
   omega (arith, c.loop-left.invariant.1),
 )
 

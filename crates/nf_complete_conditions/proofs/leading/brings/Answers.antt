@@ -7,5 +7,7 @@ use Rattle.nf_complete_conditions.proofs.LinkAnswers.{brings_told}
 use Rattle.nf_complete_conditions.proofs.leading.brings.Goals as goal
 
 pub returns : goal.returns
-returns c = brings_told c.args.sets.now c.args.flows.now c.args.link c.is_same.result (not_set_by c.args.sets.now.resetting c.args.link c.resetting.result c.resetting.ensures.flag c.if-resetting.false)
+returns c =
+    brings_told c.args.sets.now c.args.flows.now c.args.link c.is_same.result
+    (not_set_by c.args.sets.now.resetting c.args.link c.resetting.result c.resetting.ensures.flag c.if-resetting.false)
     (c.is_same.ensures ∙ ap (λ (x : ℚ). same_test x c.zero.result) c.flow_of.ensures ∙ ap (λ (y : ℚ). same_test (number_at c.args.flows.now c.args.link) y) c.zero.ensures)

@@ -11,7 +11,9 @@ use Rattle.nf_complete_conditions.proofs.Deciding.{negative_of, not_negative_of}
 use Rattle.nf_complete_conditions.proofs.proper.none_negative.Goals as goal
 
 pub returns-then-is_negative_at : goal.returns-then-is_negative_at
-returns-then-is_negative_at c = λ none. not_both_ℚ _ _ (negative_of (number_at c.args.numbers.now c.loop-i.i) c.is_negative_at.result c.is_negative_at.ensures c.if-is_negative_at.true) (none c.loop-i.i)
+returns-then-is_negative_at c =
+    λ none. not_both_ℚ _ _ (negative_of (number_at c.args.numbers.now c.loop-i.i) c.is_negative_at.result c.is_negative_at.ensures c.if-is_negative_at.true)
+    (none c.loop-i.i)
 
 pub loop-i-preserved : goal.loop-i-preserved
 loop-i-preserved c = below_more (λ (k : ℕ). 0ℚ ≤ℚ number_at c.args.numbers.now k) c.loop-i.i c.loop-i.invariant

@@ -28,5 +28,7 @@ pub is_level-requires-clause-slopes : goal.is_level-requires-clause-slopes
 is_level-requires-clause-slopes c = c.requires.slopes
 
 pub returns : goal.returns
-returns c = third_decides c.is_level.result (LeadsInto c.args.net.now.net c.args.sets.now c.args.node c.args.link) (Brings c.args.sets.now c.args.flows.now c.args.link) (IsLevelAt c.args.net.now.net c.args.slopes.now c.args.link)
+returns c =
+    third_decides c.is_level.result (LeadsInto c.args.net.now.net c.args.sets.now c.args.node c.args.link)
+    (Brings c.args.sets.now c.args.flows.now c.args.link) (IsLevelAt c.args.net.now.net c.args.slopes.now c.args.link)
     c.if-not-leads_into.ensures c.if-brings.ensures c.is_level.ensures

@@ -9,7 +9,9 @@ pub loop-step-init : goal.loop-step-init
 loop-step-init c = ap (λ (done : List (ℕ × Bool)). round_onto done c.args.steps.now) c.new-all.ensures.items
 
 pub loop-step-preserved : goal.loop-step-preserved
-loop-step-preserved c = round_more c.args.steps.now c.loop-step.all.items c.insert.new.self.items c.loop-step.step-index c.step-item.result c.turned.result c.loop-step-test.true c.step-item.is c.turned.ensures
+loop-step-preserved c =
+    round_more c.args.steps.now c.loop-step.all.items c.insert.new.self.items c.loop-step.step-index c.step-item.result c.turned.result
+    c.loop-step-test.true c.step-item.is c.turned.ensures
     c.in_ok-insert.ensures.items c.loop-step.invariant
 
 pub returns-in_err-insert : goal.returns-in_err-insert

@@ -16,7 +16,8 @@ invariant-loop-now l = record {
   kept : KeepBoth l.left l.right l.kept;
   there : IsThere l.left l.right l.now;
   later : IfSome l.now (λ next. l.before.time <ℚ next.time);
-  so_far : with_front l.points.items (least_after passes_Q l.left l.right (sides_of l.before) (times_left l.left l.right l.now)) ≡ least_from passes_Q l.left l.right (both_times l.left l.right);
+  so_far : with_front l.points.items (least_after passes_Q l.left l.right (sides_of l.before) (times_left l.left l.right l.now))
+      ≡ least_from passes_Q l.left l.right (both_times l.left l.right);
 }
 
 abbrev pub decreases-loop-now : goal.decreases-loop-now

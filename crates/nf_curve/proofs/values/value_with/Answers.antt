@@ -39,7 +39,8 @@ returns-then-place-points-clause-value c =
     let b : c.args.place - 1 < length c.args.points.now = omega arith in
     let g = slice_get_read c.args.points.now _ (c.args.place - 1) c.index-points-place.result refl b c.index-points-place.is in
     elim c.then-place-points.branch [
-      | then-place-points-via-then-place-points w ↦ value-last passes_Q c.args.part c.args.time c.args.points.now c.args.place c.index-points-place.result c.requires.curve c.requires.time c.requires.place g
+      | then-place-points-via-then-place-points w ↦ value-last passes_Q c.args.part c.args.time c.args.points.now c.args.place c.index-points-place.result
+          c.requires.curve c.requires.time c.requires.place g
           (slice_get_past c.args.points.now c.args.place (omega arith))
       | then-place-points-via-else-place-points+then-eq w ↦
           let d : c.args.place < length c.args.points.now = omega (arith, w.if-place-points.false) in

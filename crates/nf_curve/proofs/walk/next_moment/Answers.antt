@@ -6,7 +6,9 @@ use Rattle.nf_curve.proofs.walk.next_moment.Goals as goal
 use Rattle.nf_rational_laws.proofs.Chains.{≤ℚ_trans}
 
 pub returns-in_default-clause-times : goal.returns-in_default-clause-times
-returns-in_default-clause-times c = walk-ends c.args.left.now c.args.right.now c.requires.left c.requires.right c.args.now.now c.requires.there c.time_at.result c.time_at-2.result c.earlier.result
+returns-in_default-clause-times c =
+    walk-ends c.args.left.now c.args.right.now c.requires.left c.requires.right c.args.now.now c.requires.there c.time_at.result c.time_at-2.result
+    c.earlier.result
     c.time_at.ensures c.time_at-2.ensures c.earlier.ensures c.in_default.is
 
 pub place_next-requires-clause-from : goal.place_next-requires-clause-from

@@ -32,4 +32,5 @@ returns g c =
     let first : List Line = for_each (length c.args.net.now.net.links) (state_lines c.args.net.now c.args.forever.now.last) in
     let second : List Line = tail_lines c.args.net.now (forever_in c.args.forever.now).tail in
     let third : List Line = (codes "end" ∷ []) ∷ [] in
-    gathered_next (first ++ second) third (first ++ second ++ third) refl (gathered_next first second (first ++ second) refl c.in_ok-put_states.ensures c.in_ok-put_tail_of.ensures) c.put_line.ensures
+    gathered_next (first ++ second) third (first ++ second ++ third) refl
+        (gathered_next first second (first ++ second) refl c.in_ok-put_states.ensures c.in_ok-put_tail_of.ensures) c.put_line.ensures

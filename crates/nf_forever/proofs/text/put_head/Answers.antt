@@ -26,4 +26,5 @@ returns g c =
     let first : List Line = (codes "forever" ∷ codes "1" ∷ []) ∷ [] in
     let second : List Line = (codes "reached" ∷ printed c.args.reached ∷ []) ∷ [] in
     let third : List Line = (codes "cause" ∷ cause_words (option_copied c.args.stopped)) ∷ [] in
-    gathered_next (first ++ second) third (first ++ second ++ third) refl (gathered_next first second (first ++ second) refl c.in_ok-put_line.ensures c.in_ok-put_number.ensures) c.put_cause.ensures
+    gathered_next (first ++ second) third (first ++ second ++ third) refl
+        (gathered_next first second (first ++ second) refl c.in_ok-put_line.ensures c.in_ok-put_number.ensures) c.put_cause.ensures

@@ -23,10 +23,16 @@ pub returns-else-is_decimal_word-clause-fault : goal.returns-else-is_decimal_wor
 returns-else-is_decimal_word-clause-fault c = decimal_fault_from c.args.bound c.args.word.now _ (returns-else-is_decimal_word-clause-exact c)
 
 pub returns-then-is_decimal_word-clause-num : goal.returns-then-is_decimal_word-clause-num
-returns-then-is_decimal_word-clause-num c = IfOk-weaker c.decimal.result _ _ (λ p h. h.0) (decimal_parts_within c.args.bound c.args.word.now c.decimal.result (returns-then-is_decimal_word-clause-exact c))
+returns-then-is_decimal_word-clause-num c =
+    IfOk-weaker c.decimal.result _ _ (λ p h. h.0) (decimal_parts_within c.args.bound c.args.word.now c.decimal.result
+    (returns-then-is_decimal_word-clause-exact c))
 
 pub returns-then-is_decimal_word-clause-den : goal.returns-then-is_decimal_word-clause-den
-returns-then-is_decimal_word-clause-den c = IfOk-weaker c.decimal.result _ _ (λ p h. h.1) (decimal_parts_within c.args.bound c.args.word.now c.decimal.result (returns-then-is_decimal_word-clause-exact c))
+returns-then-is_decimal_word-clause-den c =
+    IfOk-weaker c.decimal.result _ _ (λ p h. h.1) (decimal_parts_within c.args.bound c.args.word.now c.decimal.result
+    (returns-then-is_decimal_word-clause-exact c))
 
 pub returns-then-is_decimal_word-clause-positive : goal.returns-then-is_decimal_word-clause-positive
-returns-then-is_decimal_word-clause-positive c = IfOk-weaker c.decimal.result _ _ (λ p h. h.2) (decimal_parts_within c.args.bound c.args.word.now c.decimal.result (returns-then-is_decimal_word-clause-exact c))
+returns-then-is_decimal_word-clause-positive c =
+    IfOk-weaker c.decimal.result _ _ (λ p h. h.2) (decimal_parts_within c.args.bound c.args.word.now c.decimal.result
+    (returns-then-is_decimal_word-clause-exact c))

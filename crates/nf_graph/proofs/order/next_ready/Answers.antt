@@ -15,6 +15,10 @@ returns-then-is_ready-clause-searched c =
 
 pub loop-v-preserved : goal.loop-v-preserved
 loop-v-preserved c = record {
-  entered = below_more (λ (v : ℕ). (Has c.args.placed.now v → ⊥) → (e : ℕ) × EntersFromUnplaced c.args.hops.now c.args.chosen.now c.args.placed.now e v) c.loop-v.v c.loop-v.invariant.entered c.if-is_ready.ensures.ready;
-  searched = searched_set c.args.hops.now c.args.chosen.now c.args.placed.now c.loop-v.searched c.loop-v.v c.is_ready.new.searched c.is_ready.ensures.searched c.loop-v.invariant.searched;
+  entered =
+      below_more (λ (v : ℕ). (Has c.args.placed.now v → ⊥) → (e : ℕ) × EntersFromUnplaced c.args.hops.now c.args.chosen.now c.args.placed.now e v)
+      c.loop-v.v c.loop-v.invariant.entered c.if-is_ready.ensures.ready;
+  searched =
+      searched_set c.args.hops.now c.args.chosen.now c.args.placed.now c.loop-v.searched c.loop-v.v c.is_ready.new.searched c.is_ready.ensures.searched
+      c.loop-v.invariant.searched;
 }

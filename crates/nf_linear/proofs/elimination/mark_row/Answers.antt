@@ -11,7 +11,10 @@ loop-at-preserved g c =
     let here : c.loop-at.at < length c.loop-at.columns = c.loop-at-test.true in
     let end = c.next_some-at-in-loop-at.ensures.later.1 in
     let long = length-set c.loop-at.columns c.loop-at.at c.put.new.self in (
-      row_marked c.loop-at.columns c.loop-at.at c.args.number c.next_some-at-in-loop-at.result c.put.new.self c.args.row.now here c.put.ensures.put c.next_some-at-in-loop-at.ensures.zero c.loop-at.invariant.0,
-      sets_grow c.args.columns.now c.loop-at.columns c.loop-at.at c.put.new.self here (subst (λ (word : ℕ). IsWithin word c.put.new.self) (set_got c.loop-at.columns c.loop-at.at c.index-columns-at.result here) c.put.ensures.kept) c.loop-at.invariant.1,
+      row_marked c.loop-at.columns c.loop-at.at c.args.number c.next_some-at-in-loop-at.result c.put.new.self c.args.row.now here c.put.ensures.put
+          c.next_some-at-in-loop-at.ensures.zero c.loop-at.invariant.0,
+      sets_grow c.args.columns.now c.loop-at.columns c.loop-at.at c.put.new.self here
+          (subst (λ (word : ℕ). IsWithin word c.put.new.self) (set_got c.loop-at.columns c.loop-at.at c.index-columns-at.result here) c.put.ensures.kept)
+          c.loop-at.invariant.1,
       omega arith,
     )

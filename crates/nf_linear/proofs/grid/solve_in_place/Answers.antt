@@ -30,10 +30,14 @@ pub solve_rows-requires-clause-flags : goal.solve_rows-requires-clause-flags
 solve_rows-requires-clause-flags g c = subst (λ (k : ℕ). length c.args.rows.now ≤ k) (sym (length-replicate g.row.N false)) c.requires.room
 
 pub solve_rows-requires-clause-count : goal.solve_rows-requires-clause-count
-solve_rows-requires-clause-count g c = length-take-le (length c.args.rows.now) (replicate g.row.N 0) (subst (λ (k : ℕ). length c.args.rows.now ≤ k) (sym (length-replicate g.row.N 0)) c.requires.room)
+solve_rows-requires-clause-count g c =
+    length-take-le (length c.args.rows.now) (replicate g.row.N 0) (subst (λ (k : ℕ). length c.args.rows.now ≤ k)
+    (sym (length-replicate g.row.N 0)) c.requires.room)
 
 pub solve_rows-requires-clause-room : goal.solve_rows-requires-clause-room
-solve_rows-requires-clause-room g c = length-take-le (length c.args.rows.now) (replicate g.row.N c.zero-found.result) (subst (λ (k : ℕ). length c.args.rows.now ≤ k) (sym (length-replicate g.row.N c.zero-found.result)) c.requires.room)
+solve_rows-requires-clause-room g c =
+    length-take-le (length c.args.rows.now) (replicate g.row.N c.zero-found.result)
+    (subst (λ (k : ℕ). length c.args.rows.now ≤ k) (sym (length-replicate g.row.N c.zero-found.result)) c.requires.room)
 
 pub solve_rows-requires-clause-taken : goal.solve_rows-requires-clause-taken
 solve_rows-requires-clause-taken g c = λ i below d. get_or-replicate g.row.N i false d (subst (λ (k : ℕ). i < k) (length-replicate g.row.N false) below)
@@ -57,7 +61,8 @@ returns-in_err-solve_rows-clause-passed g c =
 pub copy_from_slice-requires : goal.copy_from_slice-requires
 copy_from_slice-requires g c =
     c.requires.values
-    ∙ sym (c.solve_rows.auto.found ∙ length-take-le (length c.args.rows.now) (replicate g.row.N c.zero-found.result) (subst (λ (k : ℕ). length c.args.rows.now ≤ k) (sym (length-replicate g.row.N c.zero-found.result)) c.requires.room))
+    ∙ sym (c.solve_rows.auto.found ∙ length-take-le (length c.args.rows.now) (replicate g.row.N c.zero-found.result)
+        (subst (λ (k : ℕ). length c.args.rows.now ≤ k) (sym (length-replicate g.row.N c.zero-found.result)) c.requires.room))
 
 pub returns-in-One-clause-list : goal.returns-in-One-clause-list
 returns-in-One-clause-list g c =

@@ -11,5 +11,6 @@ returns g c =
     record {
       list = subst (λ (rows : List Row). Gives (values_of g.S.Scalar.means) g.S.Scalar.means c.solve_table.result (at_part Part.Table (table_list g.S.Scalar.passes rows)))
           (c.deref_mut.ensures.value ∙ c.into_rows-rows.ensures.rows) c.solve_table.ensures.list;
-      solution = subst (λ (rows : List Row). IfOk c.solve_table.result (IsTrueOf g.S.Scalar.means rows)) (c.deref_mut.ensures.value ∙ c.into_rows-rows.ensures.rows) c.solve_table.ensures.solution;
+      solution = subst (λ (rows : List Row). IfOk c.solve_table.result (IsTrueOf g.S.Scalar.means rows))
+          (c.deref_mut.ensures.value ∙ c.into_rows-rows.ensures.rows) c.solve_table.ensures.solution;
     }

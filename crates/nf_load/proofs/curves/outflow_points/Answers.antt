@@ -54,4 +54,6 @@ loop-index-preserved c =
     ]
 
 pub returns-clause-slopes : goal.returns-clause-slopes
-returns-clause-slopes c = linked_along IsRate c.loop-index.points.items c.loop-index.slopes.items (c.loop-index.last, c.loop-index.invariant.so_far.amount) c.loop-index.invariant.so_far.linked
+returns-clause-slopes c =
+    linked_along IsRate c.loop-index.points.items c.loop-index.slopes.items
+    (c.loop-index.last, c.loop-index.invariant.so_far.amount) c.loop-index.invariant.so_far.linked

@@ -33,7 +33,8 @@ leaves-slopes-requires-clause-exits c =
     record {
       transit = c.requires.exits.transit;
       first = c.requires.exits.exits (c.loop-i.i - 1) c.index-all-i.result (slice_get_read c.args.all.now _ (c.loop-i.i - 1) c.index-all-i.result refl before c.index-all-i.is);
-      second = c.requires.exits.exits c.loop-i.i c.index-all-i-in-loop-i.result (slice_get_read c.args.all.now _ c.loop-i.i c.index-all-i-in-loop-i.result refl inside c.index-all-i-in-loop-i.is);
+      second = c.requires.exits.exits c.loop-i.i c.index-all-i-in-loop-i.result
+          (slice_get_read c.args.all.now _ c.loop-i.i c.index-all-i-in-loop-i.result refl inside c.index-all-i-in-loop-i.is);
     }
 
 pub loop-i-preserved : goal.loop-i-preserved
@@ -51,5 +52,6 @@ loop-i-preserved c =
       leaving = subst (λ (l : List (Option Leaving)). AreLeaving c.args.all.now l) (sym c.in_ok-push.ensures.items)
           (along_push IsLeavingIf c.args.all.now old slopes c.loop-i.invariant.leaving (λ x y at there.
           subst (λ (a : Exit). IsLeavingIf slopes a y) (same_Some c.index-all-i.result x (sym e ∙ ap (slice_get c.args.all.now) first ∙ at))
-          (subst (λ (b : Exit). IsLeavingIf slopes c.index-all-i.result b) (same_Some c.index-all-i-in-loop-i.result y (sym g ∙ ap (slice_get c.args.all.now) second ∙ there)) c.leaves-slopes.ensures)));
+          (subst (λ (b : Exit). IsLeavingIf slopes c.index-all-i.result b) (same_Some c.index-all-i-in-loop-i.result y
+              (sym g ∙ ap (slice_get c.args.all.now) second ∙ there)) c.leaves-slopes.ensures)));
     }

@@ -37,11 +37,14 @@ short_curves-requires-clause-curves c = c.requires.curves
 
 pub returns : goal.returns
 returns c =
-    let e = whole_goes passes_Q Load c.args.transit c.args.moments.now.waits.items c.args.all.now c.args.until c.in_ok-end.end (sym c.in_ok-end.ensures) c.in_ok-whole_outflow.whole_outflow.curve.points c.in_ok-whole_outflow.ensures.list in
+    let e = whole_goes passes_Q Load c.args.transit c.args.moments.now.waits.items c.args.all.now c.args.until c.in_ok-end.end
+        (sym c.in_ok-end.ensures) c.in_ok-whole_outflow.whole_outflow.curve.points c.in_ok-whole_outflow.ensures.list in
     rw e c.short_curves.ensures
 
 pub all_leaving-requires-clause-exits : goal.all_leaving-requires-clause-exits
-all_leaving-requires-clause-exits c = rw c.deref.ensures.value (exits_of c.args.capacity.now c.args.transit c.args.moments.now.waits.items c.args.moments.now.paces.items c.args.all.now c.requires.exits c.requires.paces)
+all_leaving-requires-clause-exits c =
+    rw c.deref.ensures.value (exits_of c.args.capacity.now c.args.transit c.args.moments.now.waits.items c.args.moments.now.paces.items c.args.all.now
+    c.requires.exits c.requires.paces)
 
 pub short_curves-requires-clause-paces : goal.short_curves-requires-clause-paces
 short_curves-requires-clause-paces c = (c.args.capacity.now, c.requires.paces)

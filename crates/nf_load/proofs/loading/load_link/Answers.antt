@@ -17,8 +17,11 @@ returns-in_err-cut-clause-list c =
     (cut_stops passes_Q Load c.args.transit c.args.capacity c.args.inflow.now.points c.args.until) c.in_err-cut.ensures.list)
 
 pub load_cut-requires-clause-curves : goal.load_cut-requires-clause-curves
-load_cut-requires-clause-curves c = loaded_curves passes_Q c.args.transit c.args.capacity c.args.inflow.now.points c.args.until c.recall.ensures.curve c.requires.until c.in_ok-cut.cut.points
-    (was_ok Load (checked_cut passes_Q c.args.inflow.now.points c.args.until) c.in_ok-cut.cut.points c.in_ok-cut.ensures.list) c.requires.begins c.requires.rises c.requires.transit c.requires.capacity
+load_cut-requires-clause-curves c =
+    loaded_curves passes_Q c.args.transit c.args.capacity c.args.inflow.now.points c.args.until c.recall.ensures.curve c.requires.until
+    c.in_ok-cut.cut.points
+    (was_ok Load (checked_cut passes_Q c.args.inflow.now.points c.args.until) c.in_ok-cut.cut.points c.in_ok-cut.ensures.list) c.requires.begins
+        c.requires.rises c.requires.transit c.requires.capacity
 
 pub returns-clause-list : goal.returns-clause-list
 returns-clause-list c =
@@ -26,5 +29,7 @@ returns-clause-list c =
     rw e c.load_cut.ensures
 
 pub returns-clause-loaded : goal.returns-clause-loaded
-returns-clause-loaded c = is_loaded passes_Q c.args.transit c.args.capacity c.args.inflow.now.points c.args.until Load c.load_cut.result c.recall.ensures.curve c.requires.begins c.requires.rises c.requires.transit c.requires.capacity c.requires.until
+returns-clause-loaded c =
+    is_loaded passes_Q c.args.transit c.args.capacity c.args.inflow.now.points c.args.until Load c.load_cut.result c.recall.ensures.curve c.requires.begins
+    c.requires.rises c.requires.transit c.requires.capacity c.requires.until
     (returns-clause-list c)

@@ -50,12 +50,16 @@ returns-in_err-over-clause-list c =
 
 pub loop-i-preserved : goal.loop-i-preserved
 loop-i-preserved c = record {
-  moments = ap (λ (l : List Waits). with_front l (waits_after passes_Q c.args.capacity.now c.in_ok-over.over.end (drop (c.loop-i.i + 1) c.args.inflow.now.points))) c.in_ok-put.ensures.waits
+  moments =
+      ap (λ (l : List Waits). with_front l (waits_after passes_Q c.args.capacity.now c.in_ok-over.over.end
+      (drop (c.loop-i.i + 1) c.args.inflow.now.points))) c.in_ok-put.ensures.waits
       ∙ goes_on passes_Q c.args.capacity.now Load c.loop-i.moments.waits.items c.loop-i.last c.args.inflow.now.points c.loop-i.i (c.loop-i.i + 1) c.point-end.result _
       c.point-end.ensures (omega arith) c.loop-i.invariant.moments c.in_ok-over.over (sym c.in_ok-over.ensures.list);
   paces = paces_on c.args.capacity.now c.loop-i.moments.waits.items c.loop-i.moments.paces.items c.loop-i.last c.loop-i.invariant.paces _ _ c.in_ok-over.over
       c.in_ok-put.ensures.waits c.in_ok-put.ensures.paces c.in_ok-over.ensures.pace;
-  later = later_next c.loop-i.last c.in_ok-over.over.end c.args.inflow.now.points c.loop-i.i (c.loop-i.i + 1) c.point-end.result c.point-end.ensures (omega arith) c.in_ok-over.ensures.end c.loop-i.invariant.later;
+  later =
+      later_next c.loop-i.last c.in_ok-over.over.end c.args.inflow.now.points c.loop-i.i (c.loop-i.i + 1) c.point-end.result c.point-end.ensures
+      (omega arith) c.in_ok-over.ensures.end c.loop-i.invariant.later;
   before = record {
     number = c.loop-i.i;
     next = omega arith;

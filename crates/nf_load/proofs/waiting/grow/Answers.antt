@@ -32,7 +32,9 @@ returns-clause-list c =
     (sym (c.in_ok-queue.ensures ∙ ap (λ (w : lists.Waits). at_part Load (grown_by passes_Q c.in_ok-change.change w.queue w.time c.args.end.now.0)) c.before-2.view_is)))
 
 pub returns-clause-pace : goal.returns-clause-pace
-returns-clause-pace c = grown_paced c.args.capacity c.args.rate c.in_ok-change.change c.args.before.now c.args.end.now c.in_ok-queue.queue c.recall.ensures c.requires.later c.requires.rate
+returns-clause-pace c =
+    grown_paced c.args.capacity c.args.rate c.in_ok-change.change c.args.before.now c.args.end.now c.in_ok-queue.queue c.recall.ensures c.requires.later
+    c.requires.rate
     (was_ok Load (checked passes_Q Difference c.args.rate c.args.capacity) c.in_ok-change.change (sym c.in_ok-change.ensures))
     (was_ok Load (grown_by passes_Q c.in_ok-change.change c.args.before.now.queue c.args.before.now.time c.args.end.now.0) c.in_ok-queue.queue
     (sym (c.in_ok-queue.ensures ∙ ap (λ (w : lists.Waits). at_part Load (grown_by passes_Q c.in_ok-change.change w.queue w.time c.args.end.now.0)) c.before-2.view_is)))

@@ -4,4 +4,6 @@ use Rattle.nf_net_file.specs.Closing.{tail_flags}
 use Rattle.nf_net.proofs.building.active_of.Given as goal
 
 abbrev pub invariant-loop-link : goal.invariant-loop-link
-invariant-loop-link l = l.active.items ++ marked (tail_flags l.nodes l.flags (drop l.link-index l.links)) (drop l.link-index l.links) ≡ marked (tail_flags l.nodes l.flags l.links) l.links
+invariant-loop-link l =
+    l.active.items ++ marked (tail_flags l.nodes l.flags (drop l.link-index l.links)) (drop l.link-index l.links) ≡ marked
+    (tail_flags l.nodes l.flags l.links) l.links

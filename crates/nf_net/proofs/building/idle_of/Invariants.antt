@@ -4,4 +4,6 @@ use Rattle.nf_net_file.specs.Closing.{tail_flags}
 use Rattle.nf_net.proofs.building.idle_of.Given as goal
 
 abbrev pub invariant-loop-link : goal.invariant-loop-link
-invariant-loop-link l = l.idle.items ++ marked (map not (tail_flags l.nodes l.flags (drop l.link-index l.links))) (drop l.link-index l.links) ≡ marked (map not (tail_flags l.nodes l.flags l.links)) l.links
+invariant-loop-link l =
+    l.idle.items ++ marked (map not (tail_flags l.nodes l.flags (drop l.link-index l.links))) (drop l.link-index l.links) ≡ marked
+    (map not (tail_flags l.nodes l.flags l.links)) l.links

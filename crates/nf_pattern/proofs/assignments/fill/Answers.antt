@@ -15,19 +15,25 @@ loop-i-init c = record {
 
 pub loop-i-preserved : goal.loop-i-preserved
 loop-i-preserved c =
-    let less : c.saturating_sub-later.result ≡ c.loop-i.later - change None (get_or c.args.base.now c.loop-i.i None) = (let v = c.change.ensures.value in let s = c.saturating_sub-later.ensures in omega arith) in
+    let less : c.saturating_sub-later.result ≡ c.loop-i.later - change None (get_or c.args.base.now c.loop-i.i None) =
+        (let v = c.change.ensures.value in let s = c.saturating_sub-later.ensures in omega arith) in
     let below : c.loop-i.i < length c.args.base.now = omega arith in
     let is_more : c.saturating_sub-later.result ≡ free (drop (suc c.loop-i.i) c.args.base.now) =
-    rest_free c.args.base.now c.args.unbounded.now c.args.changes c.loop-i.states c.loop-i.i c.loop-i.left c.loop-i.later _ _ c.loop-i.invariant.filled below c.requires.unbounded None refl false refl c.saturating_sub-later.result less in
+    rest_free c.args.base.now c.args.unbounded.now c.args.changes c.loop-i.states c.loop-i.i c.loop-i.left c.loop-i.later _ _ c.loop-i.invariant.filled
+        below c.requires.unbounded None refl false refl c.saturating_sub-later.result less in
     let small : c.saturating_sub-later.result ≤ c.args.more = (let s = c.loop-i.invariant.small in omega arith) in
-    let chosen : c.first_choice.result ≡ first_good (fits (get_or c.args.base.now c.loop-i.i None) c.loop-i.left (free (drop (suc c.loop-i.i) c.args.base.now))) (choices (get_or c.args.base.now c.loop-i.i None) (get_or c.args.unbounded.now c.loop-i.i false)) =
-    subst (λ (m : ℕ). c.first_choice.result ≡ first_good (fits (get_or c.args.base.now c.loop-i.i None) c.loop-i.left m) (choices (get_or c.args.base.now c.loop-i.i None) (get_or c.args.unbounded.now c.loop-i.i false))) is_more c.first_choice.ensures in
+    let chosen : c.first_choice.result ≡ first_good (fits (get_or c.args.base.now c.loop-i.i None) c.loop-i.left
+        (free (drop (suc c.loop-i.i) c.args.base.now))) (choices (get_or c.args.base.now c.loop-i.i None) (get_or c.args.unbounded.now c.loop-i.i false)) =
+    subst (λ (m : ℕ). c.first_choice.result ≡ first_good (fits (get_or c.args.base.now c.loop-i.i None) c.loop-i.left m)
+        (choices (get_or c.args.base.now c.loop-i.i None) (get_or c.args.unbounded.now c.loop-i.i false))) is_more c.first_choice.ensures in
     record {
       filled = elim c.match-first_choice.branch [
-        | in-Some w ↦ rw w.states-is (more_filled c.args.base.now c.args.unbounded.now c.args.changes c.loop-i.states c.loop-i.i c.loop-i.left c.loop-i.later _ _ c.loop-i.invariant.filled below c.requires.unbounded None refl false refl
+        | in-Some w ↦ rw w.states-is (more_filled c.args.base.now c.args.unbounded.now c.args.changes c.loop-i.states c.loop-i.i c.loop-i.left
+            c.loop-i.later _ _ c.loop-i.invariant.filled below c.requires.unbounded None refl false refl
             w.in-Some.state (sym chosen ∙ w.in-Some.is) (c.loop-i.i + 1) c.match-first_choice.left c.saturating_sub-later.result (omega arith)
             (let v = w.change-left.ensures.value in let l = w.left-is in omega arith) is_more)
-        | in_default w ↦ absurd (has_choice c.args.base.now c.args.unbounded.now c.args.changes c.loop-i.states c.loop-i.i c.loop-i.left c.loop-i.later _ _ c.loop-i.invariant.filled below c.requires.unbounded None refl false refl
+        | in_default w ↦ absurd (has_choice c.args.base.now c.args.unbounded.now c.args.changes c.loop-i.states c.loop-i.i c.loop-i.left c.loop-i.later _ _
+            c.loop-i.invariant.filled below c.requires.unbounded None refl false refl
             (sym chosen ∙ w.in_default.is))
       ];
       small = small;
@@ -51,7 +57,9 @@ bounds-states-i c = subst (λ (n : ℕ). c.loop-i.i < n) (sym c.loop-i.invariant
 
 pub loop-i-preserved-then-is_none : goal.loop-i-preserved-then-is_none
 loop-i-preserved-then-is_none c = record {
-  filled = idle_filled c.args.base.now c.args.unbounded.now c.args.changes c.loop-i.states c.loop-i.i c.loop-i.left c.loop-i.later _ _ c.loop-i.invariant.filled (omega arith) c.requires.unbounded None refl false refl
+  filled =
+      idle_filled c.args.base.now c.args.unbounded.now c.args.changes c.loop-i.states c.loop-i.i c.loop-i.left c.loop-i.later _ _ c.loop-i.invariant.filled
+      (omega arith) c.requires.unbounded None refl false refl
       (c.loop-i.i + 1) (omega arith) (no_state (get_or c.args.base.now c.loop-i.i None) c.if-is_none.ensures);
   small = c.loop-i.invariant.small;
 }

@@ -9,7 +9,9 @@ use Rattle.nf_pattern.proofs.bases.base.Goals as goal
 pub loop-e-preserved : goal.loop-e-preserved
 loop-e-preserved c = rw c.in_ok-push.ensures.items (record {
   count = length_pushed c.loop-e.states.items c.base_state-state.result c.loop-e.e c.loop-e.invariant.count;
-  each = each_pushed (IsBaseState c.args.hops.now c.args.sets.now c.args.last.now) c.loop-e.states.items c.base_state-state.result c.loop-e.e c.loop-e.invariant.count c.loop-e.invariant.each c.base_state-state.ensures;
+  each =
+      each_pushed (IsBaseState c.args.hops.now c.args.sets.now c.args.last.now) c.loop-e.states.items c.base_state-state.result c.loop-e.e
+      c.loop-e.invariant.count c.loop-e.invariant.each c.base_state-state.ensures;
   flags =
       let count = c.loop-e.flags.ok.0 in
       let value = c.deref_mut.ensures.value in

@@ -13,12 +13,14 @@ loop-e-preserved c =
     let len = c.chain_link-before.auto.last ∙ c.deref_mut.ensures.len in
     let after = with_items_is c.loop-e.last c.chain_link-before.new.last len in
     record {
-      count_last = ap (λ (os : List (Option ℕ)). length os) after ∙ (c.chain_link-before.auto.last ∙ (ap (λ (os : List (Option ℕ)). length os) c.deref_mut.ensures.value ∙ c.loop-e.invariant.count_last));
+      count_last = ap (λ (os : List (Option ℕ)). length os) after ∙ (c.chain_link-before.auto.last
+          ∙ (ap (λ (os : List (Option ℕ)). length os) c.deref_mut.ensures.value ∙ c.loop-e.invariant.count_last));
       last = subst (λ (os : List (Option ℕ)). AreLastInto c.args.hops.now (c.loop-e.e + 1) os) (sym after)
           (subst (λ (n : ℕ). AreLastInto c.args.hops.now n c.chain_link-before.new.last) (omega arith) c.chain_link-before.ensures.last);
       count = ap (λ (os : List (Option ℕ)). length os) c.in_ok-push.ensures.items ∙ length_pushed c.loop-e.chain.items c.chain_link-before.result c.loop-e.e c.loop-e.invariant.count;
       chain = subst (AreChained c.args.hops.now) (sym c.in_ok-push.ensures.items)
-          (each_pushed (λ (e : ℕ) (found : Option ℕ). (hop : Hop) → IsHop c.args.hops.now e hop → IsLastInto c.args.hops.now e hop.head found) c.loop-e.chain.items c.chain_link-before.result c.loop-e.e
+          (each_pushed (λ (e : ℕ) (found : Option ℕ). (hop : Hop) → IsHop c.args.hops.now e hop → IsLastInto c.args.hops.now e hop.head found)
+              c.loop-e.chain.items c.chain_link-before.result c.loop-e.e
           c.loop-e.invariant.count c.loop-e.invariant.chain c.chain_link-before.ensures.before);
     }
 

@@ -17,4 +17,6 @@ loop-curve-preserved c =
     (ap (map (λ (g : Grown). g.points)) c.in_ok-push.ensures.items ∙ map-append (λ (g : Grown). g.points) c.loop-curve.curves.items _)
 
 pub returns : goal.returns
-returns c = c.loop-curve.invariant ∙ ap (λ (l : List (Roomy GrowingCurve)). map (λ (g : GrowingCurve). g.points) (all_grown l)) (take_all c.loop-curve.curve-index c.args.growing.now c.loop-curve-test.false)
+returns c =
+    c.loop-curve.invariant ∙ ap (λ (l : List (Roomy GrowingCurve)). map (λ (g : GrowingCurve). g.points) (all_grown l))
+    (take_all c.loop-curve.curve-index c.args.growing.now c.loop-curve-test.false)

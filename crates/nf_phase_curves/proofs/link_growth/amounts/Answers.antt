@@ -12,4 +12,6 @@ loop-of_link-preserved c =
     grown_pushed amount_so_far c.args.curves.now _ _ c.loop-of_link.of_link-index c.of_link-item.result _ at c.loop-of_link.invariant c.amount.ensures c.in_ok-push.ensures.items
 
 pub returns : goal.returns
-returns c = c.loop-of_link.invariant ∙ ap (λ (l : List (Roomy LinkCurves)). map amount_so_far (all_grown l)) (take_all c.loop-of_link.of_link-index c.args.curves.now c.loop-of_link-test.false)
+returns c =
+    c.loop-of_link.invariant ∙ ap (λ (l : List (Roomy LinkCurves)). map amount_so_far (all_grown l))
+    (take_all c.loop-of_link.of_link-index c.args.curves.now c.loop-of_link-test.false)

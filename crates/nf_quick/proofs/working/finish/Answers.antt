@@ -7,7 +7,9 @@ use Rattle.nf_quick.proofs.Finishing.{walks_stop, source_stops, sink_stops, cut_
 use Rattle.nf_quick.proofs.working.finish.Goals as goal
 
 pub value_of-requires : goal.value_of-requires
-value_of-requires c = ap (λ (l : List ℚ). length l) c.deref-3.ensures.value ∙ c.in_ok-cut.ensures.count ∙ ap (λ (l : List (Option ℚ)). length l) c.deref.ensures.value ∙ c.in_ok-from_source.ensures.least.count
+value_of-requires c =
+    ap (λ (l : List ℚ). length l) c.deref-3.ensures.value ∙ c.in_ok-cut.ensures.count ∙ ap (λ (l : List (Option ℚ)). length l) c.deref.ensures.value
+    ∙ c.in_ok-from_source.ensures.least.count
 
 pub flows_of-requires : goal.flows_of-requires
 flows_of-requires c = c.requires
@@ -40,7 +42,8 @@ node_times-requires c =
 pub returns-in_err-walks : goal.returns-in_err-walks
 returns-in_err-walks c = λ amount.
     let p = err_from_is_err_and c.from_residual-in_err-walks.result c.from_residual-in_err-walks.ensures.1 in
-    rw (p.1, p.2) (walks_stop passes_Q c.args.net.now.net amount c.args.flow.now c.in_ok-flows.flows.items c.args.time c.in_ok-flows.ensures c.in_err-walks.field-0.0 c.in_err-walks.ensures)
+    rw (p.1, p.2) (walks_stop passes_Q c.args.net.now.net amount c.args.flow.now c.in_ok-flows.flows.items c.args.time c.in_ok-flows.ensures
+        c.in_err-walks.field-0.0 c.in_err-walks.ensures)
 
 pub returns-in_err-from_source : goal.returns-in_err-from_source
 returns-in_err-from_source c = λ amount.

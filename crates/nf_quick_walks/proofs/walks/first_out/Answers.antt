@@ -9,7 +9,9 @@ pub loop-number-init : goal.loop-number-init
 loop-number-init c = looks_from c.args.net.now.net.links c.args.node c.args.flows.now c.args.spent c.requires.spent
 
 pub returns-then-is_out-clause-first : goal.returns-then-is_out-clause-first
-returns-then-is_out-clause-first c = sym (found_out c.args.net.now.net.links c.args.node c.args.flows.now c.loop-number.number c.loop-number.invariant c.link-here.result c.link-here.ensures.link
+returns-then-is_out-clause-first c =
+    sym (found_out c.args.net.now.net.links c.args.node c.args.flows.now c.loop-number.number c.loop-number.invariant c.link-here.result
+    c.link-here.ensures.link
     (sym (c.is_out.ensures ∙ ap (λ (x : ℚ). is_out c.link-here.result c.args.node x) c.flow_at.ensures) ∙ c.if-is_out.true))
 
 pub loop-number-preserved : goal.loop-number-preserved

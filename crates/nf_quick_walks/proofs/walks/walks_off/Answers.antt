@@ -13,7 +13,9 @@ pub way_out-requires-clause-spent : goal.way_out-requires-clause-spent
 way_out-requires-clause-spent c = subst (λ (l : List ℚ). AreSpent c.args.net.now.net.links l c.loop.spent.items) (sym c.deref.ensures.value) c.loop.invariant.spent
 
 pub walk_off-requires : goal.walk_off-requires
-walk_off-requires c = within_as (length c.args.net.now.net.links) (length c.loop.flows.items) c.in_ok-links.links.items c.in_ok-links.links.items (sym c.loop.invariant.takes.count) refl c.in_ok-links.ensures.within
+walk_off-requires c =
+    within_as (length c.args.net.now.net.links) (length c.loop.flows.items) c.in_ok-links.links.items c.in_ok-links.links.items
+    (sym c.loop.invariant.takes.count) refl c.in_ok-links.ensures.within
 
 pub returns-then-is_none : goal.returns-then-is_none
 returns-then-is_none c =
@@ -39,7 +41,8 @@ loop-preserved c =
       takes = takes_more passes_Q c.args.net.now.net c.args.flows.items c.loop.walks.items c.loop.flows.items c.loop.counter c.loop.invariant.takes inside c.in_ok-links.links.items
           (c.in_ok-links.ensures.way ∙ ap (λ (l : List ℚ). way_out c.args.net.now.net l) lent)
           (some_there c.in_ok-links.links.items (ap (λ (l : List ℕ). length l == 0) (sym c.deref-in-loop.ensures.value) ∙ sym c.is_none.ensures ∙ c.if-is_none.false))
-          c.walk_off.new.flows.items c.in_ok-rated.rated c.push.new.self.items c.in_ok-rated.ensures.list c.in_ok-rated.ensures.count c.in_ok-rated.ensures.walk c.in_ok-push.ensures.items;
+          c.walk_off.new.flows.items c.in_ok-rated.rated c.push.new.self.items c.in_ok-rated.ensures.list c.in_ok-rated.ensures.count
+              c.in_ok-rated.ensures.walk c.in_ok-push.ensures.items;
       spent = spent_still passes_Q _ c.args.net.now.net.links c.loop.flows.items c.walk_off.new.flows.items c.in_ok-links.links.items c.way_out.new.spent.items
           (subst (λ (l : List ℚ). HaveFlow l c.in_ok-links.links.items) lent c.in_ok-links.ensures.flow) c.in_ok-rated.ensures.list
           (subst (λ (l : List ℚ). AreSpent c.args.net.now.net.links l c.way_out.new.spent.items) lent c.in_ok-links.ensures.spent);

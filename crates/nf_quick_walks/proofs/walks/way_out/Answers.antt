@@ -14,13 +14,16 @@ pub loop-preserved : goal.loop-preserved
 loop-preserved c =
     let inside : c.loop.counter < c.args.net.now.net.nodes = subst (λ (n : ℕ). c.loop.counter < n) c.node_count-end.ensures c.loop-test.true in
     record {
-      leads = way_goes c.args.net.now.net c.args.flows.now c.loop.way.items c.loop.node c.loop.counter c.loop.invariant.leads inside c.in-Some.link c.link.result c.push.new.self.items c.node.inside.head
+      leads = way_goes c.args.net.now.net c.args.flows.now c.loop.way.items c.loop.node c.loop.counter c.loop.invariant.leads inside c.in-Some.link
+          c.link.result c.push.new.self.items c.node.inside.head
           c.in-Some.ensures.first c.link.ensures.link (c.in-Some.ensures.within c.in-Some.link refl) c.in_ok-push.ensures.items (ap (λ (l : Link). l.head) c.node.view_is);
       flow = subst (λ (w : List ℕ). HaveFlow c.args.flows.now w) (sym c.in_ok-push.ensures.items)
-          (all_and c.args.flows.now c.loop.way.items c.in-Some.link c.loop.invariant.flow (out_has_flow 0 c.args.net.now.net.links c.loop.node c.args.flows.now c.in-Some.link (sym c.in-Some.ensures.first)));
+          (all_and c.args.flows.now c.loop.way.items c.in-Some.link c.loop.invariant.flow
+              (out_has_flow 0 c.args.net.now.net.links c.loop.node c.args.flows.now c.in-Some.link (sym c.in-Some.ensures.first)));
       spent = c.in-Some.ensures.spent;
       count = c.in-Some.ensures.count ∙ c.loop.invariant.count;
-      node = subst (λ (v : ℕ). v < c.args.net.now.net.nodes) (sym (ap (λ (l : Link). l.head) c.node.view_is)) (c.link.ensures.named.network.heads c.in-Some.link c.link.result c.link.ensures.link);
+      node = subst (λ (v : ℕ). v < c.args.net.now.net.nodes) (sym (ap (λ (l : Link). l.head) c.node.view_is))
+          (c.link.ensures.named.network.heads c.in-Some.link c.link.result c.link.ensures.link);
     }
 
 pub next_out-requires-clause-flows : goal.next_out-requires-clause-flows

@@ -5,7 +5,8 @@ use Rattle.nf_text_def.specs.Lines.{TextLine}
 use Rattle.nf_text_def.specs.Words.{ReadLine, read_line}
 use Rattle.nf_report_read.proofs.reading.check_rest.Goals as goal
 
-fewer_lines : (old new : List TextLine) (next : Option ReadLine) (line : ReadLine) → next ≡ Some line → MatchOption next (old ≡ []) (λ line. map read_line old ≡ line ∷ map read_line new) → length new < length old
+fewer_lines : (old new : List TextLine) (next : Option ReadLine) (line : ReadLine) → next ≡ Some line
+    → MatchOption next (old ≡ []) (λ line. map read_line old ≡ line ∷ map read_line new) → length new < length old
 fewer_lines old new next line is h =
     let e : map read_line old ≡ line ∷ map read_line new = MatchOption-at_some (old ≡ []) (λ line. map read_line old ≡ line ∷ map read_line new) line is h in
     omega (arith, ap length e, length-map old read_line, length-map new read_line)

@@ -30,7 +30,9 @@ loop-step-preserved c = moves_by_parts passes_Q c.args.amount c.args.steps.now c
     c.loop-step-test.true c.step-item.is c.step.view_is c.at-before.ensures c.in_ok-after.ensures c.put_flow.ensures c.loop-step.invariant
 
 pub returns-clause-moved : goal.returns-clause-moved
-returns-clause-moved c = moves_all passes_Q c.args.amount c.args.steps.now c.args.flows.now.items c.loop-step.flows.items c.loop-step.step-index c.loop-step-test.false c.loop-step.invariant
+returns-clause-moved c =
+    moves_all passes_Q c.args.amount c.args.steps.now c.args.flows.now.items c.loop-step.flows.items c.loop-step.step-index c.loop-step-test.false
+    c.loop-step.invariant
 
 pub returns-clause-count : goal.returns-clause-count
 returns-clause-count c = c.loop-step.invariant.count

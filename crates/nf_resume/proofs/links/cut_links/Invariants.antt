@@ -7,4 +7,6 @@ use Rattle.nf_resume.proofs.Looping.{Front}
 use Rattle.nf_resume.proofs.links.cut_links.Given as goal
 
 abbrev pub invariant-loop-number : goal.invariant-loop-number
-invariant-loop-number l = Front (cut_link passes_Q (curves_of l.labels)) (links_with l.net.net.links (flow_of l.flow).inflows (flow_of l.flow).outflows (flow_of l.flow).queues) l.number (map cut_in l.cuts.items)
+invariant-loop-number l =
+    Front (cut_link passes_Q (curves_of l.labels)) (links_with l.net.net.links (flow_of l.flow).inflows (flow_of l.flow).outflows (flow_of l.flow).queues)
+    l.number (map cut_in l.cuts.items)

@@ -12,11 +12,13 @@ check-requires-clause-labels c = sym (length-map c.args.report.now.flow.labels.i
 
 pub check-requires-clause-inflows : goal.check-requires-clause-inflows
 check-requires-clause-inflows c =
-    sym (length-map c.args.report.now.flow.inflows.items trace_of) ∙ sym (length-map (map trace_of c.args.report.now.flow.inflows.items) (λ trace. trace.points)) ∙ c.requires.shape.inflows.count
+    sym (length-map c.args.report.now.flow.inflows.items trace_of) ∙ sym (length-map (map trace_of c.args.report.now.flow.inflows.items)
+        (λ trace. trace.points)) ∙ c.requires.shape.inflows.count
 
 pub check-requires-clause-outflows : goal.check-requires-clause-outflows
 check-requires-clause-outflows c =
-    sym (length-map c.args.report.now.flow.outflows.items trace_of) ∙ sym (length-map (map trace_of c.args.report.now.flow.outflows.items) (λ trace. trace.points)) ∙ c.requires.shape.outflows.count
+    sym (length-map c.args.report.now.flow.outflows.items trace_of) ∙ sym
+        (length-map (map trace_of c.args.report.now.flow.outflows.items) (λ trace. trace.points)) ∙ c.requires.shape.outflows.count
 
 pub check-requires-clause-queues : goal.check-requires-clause-queues
 check-requires-clause-queues c = sym (length-map c.args.report.now.flow.queues.items (λ curve. curve.points)) ∙ c.requires.shape.queues.count
@@ -32,13 +34,18 @@ check-requires-clause-reached c = c.requires.reached
 
 pub returns-in-Err-clause-cause : goal.returns-in-Err-clause-cause
 returns-in-Err-clause-cause c =
-    subst (IsCauseAtAnyHorizon passes_Q c.args.net.now.net (seen_report c.args.report.now)) (sym c.from.ensures) (check_stops passes_Q c.args.net.now.net (seen_report c.args.report.now) c.in-Err.halt c.in-Err.ensures.list)
+    subst (IsCauseAtAnyHorizon passes_Q c.args.net.now.net (seen_report c.args.report.now)) (sym c.from.ensures)
+        (check_stops passes_Q c.args.net.now.net (seen_report c.args.report.now) c.in-Err.halt c.in-Err.ensures.list)
 
 pub returns-in-Ok-clause-yes : goal.returns-in-Ok-clause-yes
 returns-in-Ok-clause-yes c = said_yes passes_Q c.args.net.now.net (seen_report c.args.report.now) c.in-Ok.answer c.in-Ok.ensures.list c.unless_no.result c.unless_no.ensures
 
 pub returns-in-Ok-clause-equilibrium : goal.returns-in-Ok-clause-equilibrium
-returns-in-Ok-clause-equilibrium c = said_equilibrium passes_Q c.args.net.now.net (seen_report c.args.report.now) c.in-Ok.answer c.in-Ok.ensures.list c.unless_no.result c.unless_no.ensures c.in-Ok.ensures.exact
+returns-in-Ok-clause-equilibrium c =
+    said_equilibrium passes_Q c.args.net.now.net (seen_report c.args.report.now) c.in-Ok.answer c.in-Ok.ensures.list c.unless_no.result c.unless_no.ensures
+    c.in-Ok.ensures.exact
 
 pub returns-in-Ok-clause-cause : goal.returns-in-Ok-clause-cause
-returns-in-Ok-clause-cause c = said_no passes_Q c.args.net.now.net (seen_report c.args.report.now) c.in-Ok.answer c.in-Ok.ensures.list c.unless_no.result c.unless_no.ensures c.in-Ok.ensures.rules c.in-Ok.ensures.exact
+returns-in-Ok-clause-cause c =
+    said_no passes_Q c.args.net.now.net (seen_report c.args.report.now) c.in-Ok.answer c.in-Ok.ensures.list c.unless_no.result c.unless_no.ensures
+    c.in-Ok.ensures.rules c.in-Ok.ensures.exact

@@ -4,4 +4,6 @@ use Rattle.nf_routes_def.specs.Routes.{is_taken}
 use Rattle.nf_routes_read.proofs.order.takes_all.Given as goal
 
 abbrev pub invariant-loop-number : goal.invariant-loop-number
-invariant-loop-number l = list_all (λ (e : ℕ). is_taken l.order.items e) (range_with_len l.number (l.link_count - l.number)) ≡ list_all (λ (e : ℕ). is_taken l.order.items e) (range_with_len 0 l.link_count)
+invariant-loop-number l =
+    list_all (λ (e : ℕ). is_taken l.order.items e) (range_with_len l.number (l.link_count - l.number)) ≡ list_all (λ (e : ℕ). is_taken l.order.items e)
+    (range_with_len 0 l.link_count)

@@ -21,7 +21,9 @@ loop-at-preserved c =
     ]
 
 pub returns-clause-words : goal.returns-clause-words
-returns-clause-words c = words_end (words_between c.args.text.now c.args.start c.args.end) c.args.text.now c.loop-at.spans.items c.loop-at.at c.args.end (omega (arith, c.loop-at-test.false)) c.loop-at.invariant.words
+returns-clause-words c =
+    words_end (words_between c.args.text.now c.args.start c.args.end) c.args.text.now c.loop-at.spans.items c.loop-at.at c.args.end
+    (omega (arith, c.loop-at-test.false)) c.loop-at.invariant.words
 
 pub returns-clause-rise : goal.returns-clause-rise
 returns-clause-rise c = Rise_end c.args.start c.loop-at.at c.args.end c.loop-at.spans.items c.loop-at.invariant.rise

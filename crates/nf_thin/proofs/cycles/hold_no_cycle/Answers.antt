@@ -17,4 +17,6 @@ pub topological-requires-clause-fewer : goal.topological-requires-clause-fewer
 topological-requires-clause-fewer c = rw (c.hops.ensures.value) (few_hops c.args.net.now c.hops.ensures.named)
 
 pub returns-in-Some : goal.returns-in-Some
-returns-in-Some c = λ _. ordered_round c.args.net.now.net c.args.sets.now c.hops.result.now c.deref.result.now c.in_ok-topological.field-0 c.in-Some.field-0 c.hops.ensures.value (c.deref.ensures.value ∙ c.in_ok-active.ensures) c.in-Some.is c.in_ok-topological.ensures.none
+returns-in-Some c =
+    λ _. ordered_round c.args.net.now.net c.args.sets.now c.hops.result.now c.deref.result.now c.in_ok-topological.field-0 c.in-Some.field-0
+    c.hops.ensures.value (c.deref.ensures.value ∙ c.in_ok-active.ensures) c.in-Some.is c.in_ok-topological.ensures.none

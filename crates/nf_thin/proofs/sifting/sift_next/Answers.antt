@@ -27,13 +27,15 @@ try_next-requires-clause-pattern c = posed_pattern c.args.problem.now.ranking c.
 pub returns-then-is_one_pattern : goal.returns-then-is_one_pattern
 returns-then-is_one_pattern c = (
   let n = c.if-vain-budget.false in let w = c.requires.within in omega arith,
-  found_known passes_Q c.args.problem.now.ranking.net.now.net c.args.problem.now.ranking.sets.now c.args.problem.now.rate c.args.guide.now.known c.args.pattern.now c.args.vain.now c.in_ok-thin.thin
+  found_known passes_Q c.args.problem.now.ranking.net.now.net c.args.problem.now.ranking.sets.now c.args.problem.now.rate c.args.guide.now.known
+      c.args.pattern.now c.args.vain.now c.in_ok-thin.thin
       c.requires.guide.known c.in_ok-thin.ensures (c.is_one_pattern.ensures c.if-is_one_pattern.true),
 )
 
 pub returns-in_default : goal.returns-in_default
 returns-in_default c =
-    tried_counts passes_Q c.args.problem.now.ranking.net.now.net c.args.problem.now.ranking.sets.now c.args.problem.now.rate c.args.problem.now.ranking.budget c.args.pattern.now c.args.vain.now c.try_next.new.vain c.try_next.result c.try_next.ensures
+    tried_counts passes_Q c.args.problem.now.ranking.net.now.net c.args.problem.now.ranking.sets.now c.args.problem.now.rate
+        c.args.problem.now.ranking.budget c.args.pattern.now c.args.vain.now c.try_next.new.vain c.try_next.result c.try_next.ensures
 
 pub returns : goal.returns
 returns c = (
@@ -41,7 +43,8 @@ returns c = (
   record {
     one_more = add-one c.args.vain.now.tried;
     not_accepted = λ accepted. none-some c.in-Some.node (sym (c.in_ok-node.ensures c.args.problem.now.rate accepted.solvable.slopes accepted.solvable.flows
-        (scaled_at c.args.problem.now.ranking.net.now.net c.args.problem.now.ranking.sets.now c.args.problem.now.rate c.args.pattern.now c.requires.listed accepted.solvable c.args.guide.now.scaled c.args.guide.now.known.slopes.items
+        (scaled_at c.args.problem.now.ranking.net.now.net c.args.problem.now.ranking.sets.now c.args.problem.now.rate c.args.pattern.now c.requires.listed
+            accepted.solvable c.args.guide.now.scaled c.args.guide.now.known.slopes.items
         c.requires.guide.slopes c.requires.guide.scaled)
         accepted.solvable.solution.solves accepted.solvable.solution.meets)
         ∙ c.in-Some.is);

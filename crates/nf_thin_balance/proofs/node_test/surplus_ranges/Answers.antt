@@ -8,7 +8,9 @@ use Rattle.nf_thin_balance.proofs.node_test.surplus_ranges.Goals as goal
 
 pub loop-e-init : goal.loop-e-init
 loop-e-init c = record {
-  count = ap (λ (l : List Range). length l) (c.in_ok-nodes.ensures.items_if_clones_equal (λ y e. e)) ∙ (length-replicate c.node_count.result c.zero-nothing.result ∙ c.node_count.ensures);
+  count =
+      ap (λ (l : List Range). length l) (c.in_ok-nodes.ensures.items_if_clones_equal (λ y e. e))
+      ∙ (length-replicate c.node_count.result c.zero-nothing.result ∙ c.node_count.ensures);
   each = each_first c.args.net.now.net c.args.ranges.now c.in_ok-nodes.nodes.items c.node_count.result c.zero-nothing.result (c.in_ok-nodes.ensures.items_if_clones_equal (λ y e. e))
       (λ flow v. subst (IsWithin c.zero-nothing.result) (none_sent c.args.net.now.net flow v) c.zero-nothing.ensures);
 }

@@ -10,7 +10,8 @@ use Rattle.nf_thin_laws.proofs.Forced.{left_active, sets_count, flags_count}
 use Rattle.nf_thin_narrow.proofs.filling.left_sets.Goals as goal
 
 -- The flags of all links.
-whole : {A B C : Type 0} (f : A → B → C) (xs : List A) (ys : List B) (flags seen : List C) (n e : ℕ) → seen ≡ flags → flags ≡ take e (entrywise f xs ys) → length xs ≡ length ys → length ys ≡ n → n ≤ e
+whole : {A B C : Type 0} (f : A → B → C) (xs : List A) (ys : List B) (flags seen : List C) (n e : ℕ) → seen ≡ flags → flags ≡ take e (entrywise f xs ys)
+    → length xs ≡ length ys → length ys ≡ n → n ≤ e
     → seen ≡ entrywise f xs ys
 whole f xs ys flags seen n e same so_far count links end = same ∙ (so_far ∙ take_all e (entrywise f xs ys) (let all = entrywise-length f xs ys count in omega arith))
 
@@ -23,8 +24,11 @@ loop-e-preserved c = record {
       (entrywise-at still_active c.args.forced.now c.args.sets.now.active c.loop-e.e c.state-forced_here.result c.active.result c.state-forced_here.ensures c.active.ensures.flag
       ∙ ap (λ (b : Bool). Some b) (sym c.still_active-stays.ensures))
       c.loop-e.invariant.active c.in_ok-push.ensures.items;
-  resetting = take_pushed (entrywise now_resetting c.args.forced.now c.args.sets.now.resetting) c.loop-e.resetting.items c.push-in-loop-e.new.self.items c.loop-e.e c.now_resetting-resets.result
-      (entrywise-at now_resetting c.args.forced.now c.args.sets.now.resetting c.loop-e.e c.state-forced_here.result c.resetting.result c.state-forced_here.ensures c.resetting.ensures.flag
+  resetting =
+      take_pushed (entrywise now_resetting c.args.forced.now c.args.sets.now.resetting) c.loop-e.resetting.items c.push-in-loop-e.new.self.items c.loop-e.e
+      c.now_resetting-resets.result
+      (entrywise-at now_resetting c.args.forced.now c.args.sets.now.resetting c.loop-e.e c.state-forced_here.result c.resetting.result
+          c.state-forced_here.ensures c.resetting.ensures.flag
       ∙ ap (λ (b : Bool). Some b) (sym c.now_resetting-resets.ensures))
       c.loop-e.invariant.resetting c.in_ok-push-2.ensures.items;
 }
@@ -33,12 +37,15 @@ pub new-requires : goal.new-requires
 new-requires c =
     let count = c.requires.forcing.1.count in
     let flags = c.requires.forcing.1.flags in
-    let a = whole still_active c.args.forced.now c.args.sets.now.active c.loop-e.active.items c.deref.result.now c.args.links c.loop-e.e c.deref.ensures.value c.loop-e.invariant.active count c.requires.links c.loop-e-test.false in
-    let r = whole now_resetting c.args.forced.now c.args.sets.now.resetting c.loop-e.resetting.items c.deref-2.result.now c.args.links c.loop-e.e c.deref-2.ensures.value c.loop-e.invariant.resetting (count ∙ sym flags) (flags ∙ c.requires.links) c.loop-e-test.false in
+    let a = whole still_active c.args.forced.now c.args.sets.now.active c.loop-e.active.items c.deref.result.now c.args.links c.loop-e.e
+        c.deref.ensures.value c.loop-e.invariant.active count c.requires.links c.loop-e-test.false in
+    let r = whole now_resetting c.args.forced.now c.args.sets.now.resetting c.loop-e.resetting.items c.deref-2.result.now c.args.links c.loop-e.e
+        c.deref-2.ensures.value c.loop-e.invariant.resetting (count ∙ sym flags) (flags ∙ c.requires.links) c.loop-e-test.false in
     subst (λ (flags : List Bool). AreLinkSets (record { active = flags; resetting = c.deref-2.result.now })) (sym a)
     (subst (λ (flags : List Bool). AreLinkSets (record { active = (sets_left c.args.forced.now c.args.sets.now).active; resetting = flags })) (sym r)
     (record {
-      count = sets_count c.args.sets.now c.requires.forcing.0 c.args.forced.now c.requires.forcing.1 ∙ sym (flags_count c.args.sets.now c.requires.forcing.0 c.args.forced.now c.requires.forcing.1);
+      count = sets_count c.args.sets.now c.requires.forcing.0 c.args.forced.now c.requires.forcing.1
+          ∙ sym (flags_count c.args.sets.now c.requires.forcing.0 c.args.forced.now c.requires.forcing.1);
       active = left_active c.args.sets.now c.requires.forcing.0 c.args.forced.now c.requires.forcing.1 c.requires.sets.active;
     }))
 
@@ -46,7 +53,9 @@ pub returns : goal.returns
 returns c =
     let count = c.requires.forcing.1.count in
     let flags = c.requires.forcing.1.flags in
-    let a = whole still_active c.args.forced.now c.args.sets.now.active c.loop-e.active.items c.deref.result.now c.args.links c.loop-e.e c.deref.ensures.value c.loop-e.invariant.active count c.requires.links c.loop-e-test.false in
-    let r = whole now_resetting c.args.forced.now c.args.sets.now.resetting c.loop-e.resetting.items c.deref-2.result.now c.args.links c.loop-e.e c.deref-2.ensures.value c.loop-e.invariant.resetting (count ∙ sym flags) (flags ∙ c.requires.links) c.loop-e-test.false in
+    let a = whole still_active c.args.forced.now c.args.sets.now.active c.loop-e.active.items c.deref.result.now c.args.links c.loop-e.e
+        c.deref.ensures.value c.loop-e.invariant.active count c.requires.links c.loop-e-test.false in
+    let r = whole now_resetting c.args.forced.now c.args.sets.now.resetting c.loop-e.resetting.items c.deref-2.result.now c.args.links c.loop-e.e
+        c.deref-2.ensures.value c.loop-e.invariant.resetting (count ∙ sym flags) (flags ∙ c.requires.links) c.loop-e-test.false in
     subst (λ (flags : List Bool). IfOk c.new.result (λ (left : Sets). left ≡ record { active = (sets_left c.args.forced.now c.args.sets.now).active; resetting = flags })) r
     (subst (λ (flags : List Bool). IfOk c.new.result (λ (left : Sets). left ≡ record { active = flags; resetting = c.deref-2.result.now })) a c.new.ensures)

@@ -11,5 +11,6 @@ returns c = same_entries c.args.links c.args.one.now c.args.other.now c.requires
 pub returns-then-not-is_one_state : goal.returns-then-not-is_one_state
 returns-then-not-is_one_state c = (
   c.loop-e-test.true,
-  λ same. c.if-not-is_one_state.ensures (same_Some c.state.result c.state-in-loop-e.result (sym c.state.ensures ∙ (ap (λ (p : Pattern). slice_get p c.loop-e.e) same ∙ c.state-in-loop-e.ensures))),
+  λ same. c.if-not-is_one_state.ensures (same_Some c.state.result c.state-in-loop-e.result
+      (sym c.state.ensures ∙ (ap (λ (p : Pattern). slice_get p c.loop-e.e) same ∙ c.state-in-loop-e.ensures))),
 )

@@ -15,11 +15,13 @@ returns-in-Some c =
 pub returns-in-Some-failing : goal.returns-in-Some-failing
 returns-in-Some-failing c = (
   none_passes passes_Q c.args.net.now.net c.args.pattern.now c.args.flows.now c.args.labels.now c.requires.states c.in_ok-failing.failing c.in_ok-failing.ensures,
-  first_fails passes_Q c.args.net.now.net c.args.pattern.now c.args.flows.now c.args.labels.now c.requires.states c.in_ok-failing.failing c.in_ok-failing.ensures c.in-Some-failing.link c.in-Some-failing.is c.in-None.ensures,
+  first_fails passes_Q c.args.net.now.net c.args.pattern.now c.args.flows.now c.args.labels.now c.requires.states c.in_ok-failing.failing
+      c.in_ok-failing.ensures c.in-Some-failing.link c.in-Some-failing.is c.in-None.ensures,
 )
 
 pub returns-in-None-failing : goal.returns-in-None-failing
 returns-in-None-failing c = (
   none_passes passes_Q c.args.net.now.net c.args.pattern.now c.args.flows.now c.args.labels.now c.requires.states c.in_ok-failing.failing c.in_ok-failing.ensures,
-  all_meet passes_Q c.args.net.now.net c.args.pattern.now c.args.flows.now c.args.labels.now c.requires.states c.in_ok-failing.failing c.in_ok-failing.ensures c.in-None-failing.is c.requires.flows c.in-None.ensures,
+  all_meet passes_Q c.args.net.now.net c.args.pattern.now c.args.flows.now c.args.labels.now c.requires.states c.in_ok-failing.failing
+      c.in_ok-failing.ensures c.in-None-failing.is c.requires.flows c.in-None.ensures,
 )

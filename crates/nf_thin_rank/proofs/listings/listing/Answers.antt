@@ -11,7 +11,9 @@ pub new-requires-clause-ends : goal.new-requires-clause-ends
 new-requires-clause-ends c = rw (c.node_count-nodes.ensures, c.hops-hops.ensures.value) (below_nodes c.args.ranking.now.net.now.net c.requires.ranking.named.network)
 
 pub new-requires-clause-active : goal.new-requires-clause-active
-new-requires-clause-active c = c.requires.ranking.sets.sets_are.count ∙ (sym (hops_length c.args.ranking.now.net.now.net) ∙ ap (λ (l : List Hop). length l) (sym c.hops-hops.ensures.value))
+new-requires-clause-active c =
+    c.requires.ranking.sets.sets_are.count ∙ (sym (hops_length c.args.ranking.now.net.now.net)
+    ∙ ap (λ (l : List Hop). length l) (sym c.hops-hops.ensures.value))
 
 pub new-requires-clause-unbounded : goal.new-requires-clause-unbounded
 new-requires-clause-unbounded c =

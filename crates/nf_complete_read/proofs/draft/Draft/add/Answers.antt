@@ -25,11 +25,15 @@ module _ (n : Named) (draft seen : FlowsDraft) (words : List (List ℕ)) (same :
       ∙ ap (λ (b : Bool). if b then Err S4 else (flows_entry n words >>= with_entry draft)) is ∙ ap (λ (r : Result FlowsEntry FlowsRule). r >>= with_entry draft) says
 
 -- a number that is put among the others, or that one was there
-flow_put : (draft : FlowsDraft) (given : Bool) (flows : List (Option ℚ)) → (if given then Err S10 else Ok (record draft { flows = flows })) ≡ said_by (λ (l : List (Option ℚ)). record draft { flows = l }) (if given then Err S10 else Ok flows)
+flow_put : (draft : FlowsDraft) (given : Bool) (flows : List (Option ℚ))
+    → (if given then Err S10 else Ok (record draft { flows = flows })) ≡ said_by (λ (l : List (Option ℚ)). record draft { flows = l })
+    (if given then Err S10 else Ok flows)
 flow_put draft true flows = refl
 flow_put draft false flows = refl
 
-slope_put : (draft : FlowsDraft) (given : Bool) (slopes : List (Option ℚ)) → (if given then Err S10 else Ok (record draft { slopes = slopes })) ≡ said_by (λ (l : List (Option ℚ)). record draft { slopes = l }) (if given then Err S10 else Ok slopes)
+slope_put : (draft : FlowsDraft) (given : Bool) (slopes : List (Option ℚ))
+    → (if given then Err S10 else Ok (record draft { slopes = slopes })) ≡ said_by (λ (l : List (Option ℚ)). record draft { slopes = l })
+    (if given then Err S10 else Ok slopes)
 slope_put draft true slopes = refl
 slope_put draft false slopes = refl
 
@@ -51,7 +55,8 @@ pub returns-in_err-put-in-Flow-clause-adds : goal.returns-in_err-put-in-Flow-cla
 returns-in_err-put-in-Flow-clause-adds c =
     let p = err_from_is_err_and c.from_residual-in_err-put-in-Flow.result c.from_residual-in_err-put-in-Flow.ensures.1 in
     let draft : FlowsDraft = record { flows = c.self.inside.flows.items; slopes = c.self.inside.slopes.items; ended = c.self.inside.ended } in
-    rw (p.1, p.2) (adds c.args.net.now draft c.args.self.now c.args.line.now.words c.self.view_is (Ok (FlowOf c.in-Flow.link c.in-Flow.flow)) c.if-self.false (c.in_ok-link.ensures.says ∙ ap (λ (e : Entry). Ok (seen_entry e)) c.in-Flow.is)
+    rw (p.1, p.2) (adds c.args.net.now draft c.args.self.now c.args.line.now.words c.self.view_is
+        (Ok (FlowOf c.in-Flow.link c.in-Flow.flow)) c.if-self.false (c.in_ok-link.ensures.says ∙ ap (λ (e : Entry). Ok (seen_entry e)) c.in-Flow.is)
     ∙ ap (λ (k : ℕ). with_entry draft (FlowOf k c.in-Flow.flow)) (sym c.index.ensures)
     ∙ flow_put draft (is_given c.self.inside.flows.items c.index.result) (set c.self.inside.flows.items c.index.result (Some c.in-Flow.flow))
     ∙ ap (said_by (λ (l : List (Option ℚ)). record draft { flows = l })) c.in_err-put-in-Flow.ensures.puts)
@@ -59,7 +64,8 @@ returns-in_err-put-in-Flow-clause-adds c =
 pub returns-in_ok-put-in-Flow-clause-adds : goal.returns-in_ok-put-in-Flow-clause-adds
 returns-in_ok-put-in-Flow-clause-adds c =
     let draft : FlowsDraft = record { flows = c.self.inside.flows.items; slopes = c.self.inside.slopes.items; ended = c.self.inside.ended } in
-    adds c.args.net.now draft c.args.self.now c.args.line.now.words c.self.view_is (Ok (FlowOf c.in-Flow.link c.in-Flow.flow)) c.if-self.false (c.in_ok-link.ensures.says ∙ ap (λ (e : Entry). Ok (seen_entry e)) c.in-Flow.is)
+    adds c.args.net.now draft c.args.self.now c.args.line.now.words c.self.view_is (Ok (FlowOf c.in-Flow.link c.in-Flow.flow)) c.if-self.false
+        (c.in_ok-link.ensures.says ∙ ap (λ (e : Entry). Ok (seen_entry e)) c.in-Flow.is)
     ∙ ap (λ (k : ℕ). with_entry draft (FlowOf k c.in-Flow.flow)) (sym c.index.ensures)
     ∙ flow_put draft (is_given c.self.inside.flows.items c.index.result) (set c.self.inside.flows.items c.index.result (Some c.in-Flow.flow))
     ∙ ap (said_by (λ (l : List (Option ℚ)). record draft { flows = l })) c.in_ok-put-in-Flow.ensures.puts
@@ -80,7 +86,8 @@ pub returns-in_err-put-in-Slope-clause-adds : goal.returns-in_err-put-in-Slope-c
 returns-in_err-put-in-Slope-clause-adds c =
     let p = err_from_is_err_and c.from_residual-in_err-put-in-Slope.result c.from_residual-in_err-put-in-Slope.ensures.1 in
     let draft : FlowsDraft = record { flows = c.self.inside.flows.items; slopes = c.self.inside.slopes.items; ended = c.self.inside.ended } in
-    rw (p.1, p.2) (adds c.args.net.now draft c.args.self.now c.args.line.now.words c.self.view_is (Ok (SlopeOf c.in-Slope.node c.in-Slope.slope)) c.if-self.false (c.in_ok-link.ensures.says ∙ ap (λ (e : Entry). Ok (seen_entry e)) c.in-Slope.is)
+    rw (p.1, p.2) (adds c.args.net.now draft c.args.self.now c.args.line.now.words c.self.view_is
+        (Ok (SlopeOf c.in-Slope.node c.in-Slope.slope)) c.if-self.false (c.in_ok-link.ensures.says ∙ ap (λ (e : Entry). Ok (seen_entry e)) c.in-Slope.is)
     ∙ ap (λ (k : ℕ). with_entry draft (SlopeOf k c.in-Slope.slope)) (sym c.index-in-Slope.ensures)
     ∙ slope_put draft (is_given c.self.inside.slopes.items c.index-in-Slope.result) (set c.self.inside.slopes.items c.index-in-Slope.result (Some c.in-Slope.slope))
     ∙ ap (said_by (λ (l : List (Option ℚ)). record draft { slopes = l })) c.in_err-put-in-Slope.ensures.puts)
@@ -88,7 +95,8 @@ returns-in_err-put-in-Slope-clause-adds c =
 pub returns-in_ok-put-in-Slope-clause-adds : goal.returns-in_ok-put-in-Slope-clause-adds
 returns-in_ok-put-in-Slope-clause-adds c =
     let draft : FlowsDraft = record { flows = c.self.inside.flows.items; slopes = c.self.inside.slopes.items; ended = c.self.inside.ended } in
-    adds c.args.net.now draft c.args.self.now c.args.line.now.words c.self.view_is (Ok (SlopeOf c.in-Slope.node c.in-Slope.slope)) c.if-self.false (c.in_ok-link.ensures.says ∙ ap (λ (e : Entry). Ok (seen_entry e)) c.in-Slope.is)
+    adds c.args.net.now draft c.args.self.now c.args.line.now.words c.self.view_is (Ok (SlopeOf c.in-Slope.node c.in-Slope.slope)) c.if-self.false
+        (c.in_ok-link.ensures.says ∙ ap (λ (e : Entry). Ok (seen_entry e)) c.in-Slope.is)
     ∙ ap (λ (k : ℕ). with_entry draft (SlopeOf k c.in-Slope.slope)) (sym c.index-in-Slope.ensures)
     ∙ slope_put draft (is_given c.self.inside.slopes.items c.index-in-Slope.result) (set c.self.inside.slopes.items c.index-in-Slope.result (Some c.in-Slope.slope))
     ∙ ap (said_by (λ (l : List (Option ℚ)). record draft { slopes = l })) c.in_ok-put-in-Slope.ensures.puts

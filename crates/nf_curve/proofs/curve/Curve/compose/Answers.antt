@@ -23,7 +23,8 @@ invariant_of-result c =
     let inner : c.deref-2.result.now ≡ c.args.inner.now.points = points_seen _ _ _ _ c.deref-2.ensures.value c.inner.view_is in
     (checked_composed-is passes_Q c.args.outer.now.points c.args.inner.now.points c.args.until c.in_ok-points.points.items
     (curve_seen _ _ _ c.outer.invariant c.outer.view_is) (curve_seen _ _ _ c.inner.invariant c.inner.view_is) c.requires.until c.requires.inner
-    (was_ok c.args.part (checked_composed passes_Q c.args.outer.now.points c.args.inner.now.points c.args.until) c.in_ok-points.points.items (rw (outer, inner) at c.in_ok-points.ensures))).curve
+    (was_ok c.args.part (checked_composed passes_Q c.args.outer.now.points c.args.inner.now.points c.args.until) c.in_ok-points.points.items
+        (rw (outer, inner) at c.in_ok-points.ensures))).curve
 
 pub returns-clause-composed : goal.returns-clause-composed
 returns-clause-composed c =
@@ -31,4 +32,5 @@ returns-clause-composed c =
     let inner : c.deref-2.result.now ≡ c.args.inner.now.points = points_seen _ _ _ _ c.deref-2.ensures.value c.inner.view_is in
     checked_composed-is passes_Q c.args.outer.now.points c.args.inner.now.points c.args.until c.in_ok-points.points.items
     (curve_seen _ _ _ c.outer.invariant c.outer.view_is) (curve_seen _ _ _ c.inner.invariant c.inner.view_is) c.requires.until c.requires.inner
-    (was_ok c.args.part (checked_composed passes_Q c.args.outer.now.points c.args.inner.now.points c.args.until) c.in_ok-points.points.items (rw (outer, inner) at c.in_ok-points.ensures))
+    (was_ok c.args.part (checked_composed passes_Q c.args.outer.now.points c.args.inner.now.points c.args.until) c.in_ok-points.points.items
+        (rw (outer, inner) at c.in_ok-points.ensures))

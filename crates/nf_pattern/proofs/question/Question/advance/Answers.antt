@@ -36,7 +36,8 @@ returns-clause-found c =
     let sole = sym c.deref-2.ensures.value in
     let is = subst IsQuestion c.self.view_is c.self.invariant.0 in
     let are = subst (λ (q : Question). AreSpared q c.self.inside.sole.items) c.self.view_is c.self.invariant.2 in (
-      advances_by c.args.self.now is c.self.inside.sole.items (spares_all c.args.self.now is c.self.inside.sole.items are) c.args.same c.args.states.now c.advance.new.states c.requires.assigned
+      advances_by c.args.self.now is c.self.inside.sole.items (spares_all c.args.self.now is c.self.inside.sole.items are) c.args.same c.args.states.now
+          c.advance.new.states c.requires.assigned
           ((λ i. next_assignment c.args.same (base i) (unbounded i) (sole i) c.args.states.now) ∙ c.in_ok-raised.ensures.0),
       c.in_ok-raised.ensures.1,
     )

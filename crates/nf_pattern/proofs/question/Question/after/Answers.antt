@@ -14,7 +14,9 @@ returns-in-None-clause-found c = none_after c.args.self.now c.requires.placed.is
     (let n = assigned_length c.args.self.now.base c.args.self.now.unbounded c.args.states.now c.requires.placed.assigned in omega arith) c.in-None.ensures.found.0
 
 pub returns-in-Some-clause-found : goal.returns-in-Some-clause-found
-returns-in-Some-clause-found c = match_after c.args.self.now c.requires.placed.is_question c.args.states.now c.advance.new.states c.seek.new.states (length c.args.states.now) c.seek.result c.requires.placed.assigned
+returns-in-Some-clause-found c =
+    match_after c.args.self.now c.requires.placed.is_question c.args.states.now c.advance.new.states c.seek.new.states
+    (length c.args.states.now) c.seek.result c.requires.placed.assigned
     (let n = assigned_length c.args.self.now.base c.args.self.now.unbounded c.args.states.now c.requires.placed.assigned in omega arith) c.in-Some.ensures.found.0 c.seek.ensures.found
 
 pub retreat-requires : goal.retreat-requires

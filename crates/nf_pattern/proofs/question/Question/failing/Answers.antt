@@ -10,7 +10,8 @@ use Rattle.nf_pattern.proofs.OnTrail.{gone_on, listed_on, barren_on, barren_from
 use Rattle.nf_pattern.proofs.question.Question.failing.Goals as goal
 
 pub returns-then-is_lost-clause-found : goal.returns-then-is_lost-clause-found
-returns-then-is_lost-clause-found c = barren_from_start c.args.self.now c.requires.question c.args.states.now c.args.trail.now c.requires.trail (sym c.is_lost.ensures ∙ c.if-is_lost.true)
+returns-then-is_lost-clause-found c =
+    barren_from_start c.args.self.now c.requires.question c.args.states.now c.args.trail.now c.requires.trail (sym c.is_lost.ensures ∙ c.if-is_lost.true)
 
 pub extend-requires-clause-states : goal.extend-requires-clause-states
 extend-requires-clause-states c = count_links c.args.self.now c.requires.question c.args.states.now c.requires.assigned
@@ -20,18 +21,21 @@ pub returns-then-extend-clause-found : goal.returns-then-extend-clause-found
 returns-then-extend-clause-found c =
     listed_on c.args.self.now c.requires.question c.args.states.now c.extend.new.self
     (gone_on c.args.self.now c.args.states.now c.args.trail.now c.extend.new.self c.requires.trail
-    (follows_seen _ c.args.self.now c.self.view_is c.deref.result.now c.deref-2.result.now c.deref.ensures.value c.deref-2.ensures.value c.args.states.now c.extend.new.self c.extend.ensures.follows)
+    (follows_seen _ c.args.self.now c.self.view_is c.deref.result.now c.deref-2.result.now c.deref.ensures.value c.deref-2.ensures.value c.args.states.now
+        c.extend.new.self c.extend.ensures.follows)
     c.extend.ensures.way)
     c.requires.assigned (c.extend.ensures.way.lost ∙ (sym c.is_lost.ensures ∙ c.if-is_lost.false))
     (c.if-extend.ensures.extended ∙ all_seen _ c.args.self.now c.self.view_is c.deref.result.now c.deref-2.result.now c.deref.ensures.value c.deref-2.ensures.value)
 
 pub returns-clause-found : goal.returns-clause-found
 returns-clause-found c =
-    let fails = fails_seen _ c.args.self.now c.self.view_is c.deref.result.now c.deref-2.result.now c.deref.ensures.value c.deref-2.ensures.value c.args.states.now c.extend.new.self.ends.items c.extend.new.self.depth c.if-extend.ensures.extended in
+    let fails = fails_seen _ c.args.self.now c.self.view_is c.deref.result.now c.deref-2.result.now c.deref.ensures.value c.deref-2.ensures.value
+        c.args.states.now c.extend.new.self.ends.items c.extend.new.self.depth c.if-extend.ensures.extended in
     subst (λ (n : ℕ). (n + 1 ≤ length c.args.self.now.base) × IsBarren c.args.self.now (n + 1) c.args.states.now) (sym c.depth.ensures)
     (barren_on c.args.self.now c.requires.question c.args.states.now c.extend.new.self
     (gone_on c.args.self.now c.args.states.now c.args.trail.now c.extend.new.self c.requires.trail
-    (follows_seen _ c.args.self.now c.self.view_is c.deref.result.now c.deref-2.result.now c.deref.ensures.value c.deref-2.ensures.value c.args.states.now c.extend.new.self c.extend.ensures.follows)
+    (follows_seen _ c.args.self.now c.self.view_is c.deref.result.now c.deref-2.result.now c.deref.ensures.value c.deref-2.ensures.value c.args.states.now
+        c.extend.new.self c.extend.ensures.follows)
     c.extend.ensures.way)
     fails.0 fails.1)
 
@@ -45,18 +49,22 @@ pub extend-requires-clause-fewer : goal.extend-requires-clause-fewer
 extend-requires-clause-fewer c = let count = ap (λ (l : List Hop). length l) c.deref.ensures.value in let few = c.self.invariant.0.fewer in omega arith
 
 pub extend-requires-clause-follows : goal.extend-requires-clause-follows
-extend-requires-clause-follows c = follows_given _ c.args.self.now c.self.view_is c.deref.result.now c.deref-2.result.now c.deref.ensures.value c.deref-2.ensures.value c.args.states.now c.args.trail.now c.requires.trail.follows
+extend-requires-clause-follows c =
+    follows_given _ c.args.self.now c.self.view_is c.deref.result.now c.deref-2.result.now c.deref.ensures.value c.deref-2.ensures.value c.args.states.now
+    c.args.trail.now c.requires.trail.follows
 
 pub returns-then-extend-clause-trail : goal.returns-then-extend-clause-trail
 returns-then-extend-clause-trail c =
     gone_on c.args.self.now c.args.states.now c.args.trail.now c.extend.new.self c.requires.trail
-    (follows_seen _ c.args.self.now c.self.view_is c.deref.result.now c.deref-2.result.now c.deref.ensures.value c.deref-2.ensures.value c.args.states.now c.extend.new.self c.extend.ensures.follows)
+    (follows_seen _ c.args.self.now c.self.view_is c.deref.result.now c.deref-2.result.now c.deref.ensures.value c.deref-2.ensures.value c.args.states.now
+        c.extend.new.self c.extend.ensures.follows)
     c.extend.ensures.way
 
 pub returns-clause-trail : goal.returns-clause-trail
 returns-clause-trail c =
     gone_on c.args.self.now c.args.states.now c.args.trail.now c.extend.new.self c.requires.trail
-    (follows_seen _ c.args.self.now c.self.view_is c.deref.result.now c.deref-2.result.now c.deref.ensures.value c.deref-2.ensures.value c.args.states.now c.extend.new.self c.extend.ensures.follows)
+    (follows_seen _ c.args.self.now c.self.view_is c.deref.result.now c.deref-2.result.now c.deref.ensures.value c.deref-2.ensures.value c.args.states.now
+        c.extend.new.self c.extend.ensures.follows)
     c.extend.ensures.way
 
 pub extend-requires-clause-stated : goal.extend-requires-clause-stated
@@ -65,5 +73,7 @@ extend-requires-clause-stated c = stated_too c.args.self.now.base c.args.self.no
 
 pub extend-requires-clause-ends : goal.extend-requires-clause-ends
 extend-requires-clause-ends c =
-    subst (λ (resetting : List Bool). DoEndsCarry resetting c.args.states.now c.args.trail.now.ends.items) (ap (λ (q : Question). q.sets.resetting) (sym c.self.view_is) ∙ sym c.deref-2.ensures.value)
-    (ends_carry c.args.self.now.hops c.args.self.now.sets.resetting c.args.self.now.base c.args.self.now.unbounded c.args.states.now c.args.trail.now.ends.items c.requires.trail.ends c.requires.assigned)
+    subst (λ (resetting : List Bool). DoEndsCarry resetting c.args.states.now c.args.trail.now.ends.items)
+        (ap (λ (q : Question). q.sets.resetting) (sym c.self.view_is) ∙ sym c.deref-2.ensures.value)
+    (ends_carry c.args.self.now.hops c.args.self.now.sets.resetting c.args.self.now.base c.args.self.now.unbounded c.args.states.now
+        c.args.trail.now.ends.items c.requires.trail.ends c.requires.assigned)

@@ -11,7 +11,8 @@ use Rattle.nf_pattern.proofs.question.Question.new.Goals as goal
 
 pub invariant_of-result : goal.invariant_of-result
 invariant_of-result c =
-    let same = same_question c.args.nodes.count c.args.nodes.source (c.in_ok-hops.ensures.items_if_clones_equal (λ x y e. e)) c.in_ok-flags.ensures.active c.in_ok-flags.ensures.resetting (c.in_ok-unbounded.ensures.items_if_clones_equal (λ x y e. e)) c.in_ok-base.ensures in
+    let same = same_question c.args.nodes.count c.args.nodes.source (c.in_ok-hops.ensures.items_if_clones_equal (λ x y e. e)) c.in_ok-flags.ensures.active
+        c.in_ok-flags.ensures.resetting (c.in_ok-unbounded.ensures.items_if_clones_equal (λ x y e. e)) c.in_ok-base.ensures in
     let hops = c.deref.ensures.value ∙ c.in_ok-hops.ensures.items_if_clones_equal (λ x y e. e) in
     let resetting = c.deref-2.ensures.value ∙ c.in_ok-flags.ensures.resetting in
     let base = c.states-2.ensures ∙ c.in_ok-base.ensures in (
@@ -43,7 +44,9 @@ sole_links-requires-clause-fewer c =
     let count = ap (λ (l : List Hop). length l) (c.deref.ensures.value ∙ c.in_ok-hops.ensures.items_if_clones_equal (λ x y e. e)) in let few = c.requires.fewer in omega arith
 
 pub returns : goal.returns
-returns c = same_question c.args.nodes.count c.args.nodes.source (c.in_ok-hops.ensures.items_if_clones_equal (λ x y e. e)) c.in_ok-flags.ensures.active c.in_ok-flags.ensures.resetting (c.in_ok-unbounded.ensures.items_if_clones_equal (λ x y e. e)) c.in_ok-base.ensures
+returns c =
+    same_question c.args.nodes.count c.args.nodes.source (c.in_ok-hops.ensures.items_if_clones_equal (λ x y e. e)) c.in_ok-flags.ensures.active
+    c.in_ok-flags.ensures.resetting (c.in_ok-unbounded.ensures.items_if_clones_equal (λ x y e. e)) c.in_ok-base.ensures
 
 pub copied_flags-requires-clause-active : goal.copied_flags-requires-clause-active
 copied_flags-requires-clause-active c = c.requires.active

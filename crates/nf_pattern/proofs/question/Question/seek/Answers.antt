@@ -19,14 +19,20 @@ pub advance-requires-clause-assigned : goal.advance-requires-clause-assigned
 advance-requires-clause-assigned c = c.loop-same.invariant.sought.assigned
 
 pub returns-in_default-advance-clause-found : goal.returns-in_default-advance-clause-found
-returns-in_default-advance-clause-found c = sought_none c.args.self.now c.requires.placed.is_question c.args.states.now c.loop-same.states c.loop-same.invariant.sought c.in-Some.same c.in-Some.ensures.found.1 c.in_default-advance.ensures.found.0
+returns-in_default-advance-clause-found c =
+    sought_none c.args.self.now c.requires.placed.is_question c.args.states.now c.loop-same.states c.loop-same.invariant.sought c.in-Some.same
+    c.in-Some.ensures.found.1 c.in_default-advance.ensures.found.0
 
 pub loop-same-smaller : goal.loop-same-smaller
-loop-same-smaller c = step_fewer c.args.self.now c.requires.placed.is_question c.in-Some.same c.loop-same.states c.advance.new.states c.loop-same.invariant.sought.assigned c.in-Some-advance.ensures.found.0
+loop-same-smaller c =
+    step_fewer c.args.self.now c.requires.placed.is_question c.in-Some.same c.loop-same.states c.advance.new.states c.loop-same.invariant.sought.assigned
+    c.in-Some-advance.ensures.found.0
 
 pub loop-same-preserved : goal.loop-same-preserved
 loop-same-preserved c = record {
-  sought = sought_more c.args.self.now c.requires.placed.is_question c.args.states.now c.loop-same.states c.loop-same.invariant.sought c.in-Some.same c.in-Some.ensures.found.1 c.advance.new.states c.in-Some-advance.ensures.found.0;
+  sought =
+      sought_more c.args.self.now c.requires.placed.is_question c.args.states.now c.loop-same.states c.loop-same.invariant.sought c.in-Some.same
+      c.in-Some.ensures.found.1 c.advance.new.states c.in-Some-advance.ensures.found.0;
   trail = c.retreat.ensures c.loop-same.states c.advance.new.states c.in-Some.ensures.trail c.loop-same.invariant.sought.assigned c.in-Some-advance.ensures.found.1.1;
   quiet = c.in-Some-advance.ensures.quiet;
 }

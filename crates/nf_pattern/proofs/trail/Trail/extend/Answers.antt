@@ -7,7 +7,9 @@ pub loop-source-init : goal.loop-source-init
 loop-source-init c = record { follows = c.requires.follows; way = way_same c.args.self.now; ends = c.requires.ends }
 
 pub enter-requires-clause-follows : goal.enter-requires-clause-follows
-enter-requires-clause-follows c = (c.pass.ensures.kept c.args.source c.args.resetting.now c.args.states.now c.requires.stated c.requires.states c.loop-source.invariant.ends c.loop-source.invariant.follows).0
+enter-requires-clause-follows c =
+    (c.pass.ensures.kept c.args.source c.args.resetting.now c.args.states.now c.requires.stated c.requires.states c.loop-source.invariant.ends
+    c.loop-source.invariant.follows).0
 
 pub returns-then-not-enter-clause-way : goal.returns-then-not-enter-clause-way
 returns-then-not-enter-clause-way c = way_on (way_on c.loop-source.invariant.way c.pass.ensures.way) c.enter.ensures.way
@@ -21,14 +23,17 @@ loop-source-preserved c =
     }
 
 pub returns-clause-follows : goal.returns-clause-follows
-returns-clause-follows c = (c.pass.ensures.kept c.args.source c.args.resetting.now c.args.states.now c.requires.stated c.requires.states c.loop-source.invariant.ends c.loop-source.invariant.follows).0
+returns-clause-follows c =
+    (c.pass.ensures.kept c.args.source c.args.resetting.now c.args.states.now c.requires.stated c.requires.states c.loop-source.invariant.ends
+    c.loop-source.invariant.follows).0
 
 pub returns-clause-way : goal.returns-clause-way
 returns-clause-way c = way_on c.loop-source.invariant.way c.pass.ensures.way
 
 pub returns-clause-extended : goal.returns-clause-extended
 returns-clause-extended c =
-    let follows = (c.pass.ensures.kept c.args.source c.args.resetting.now c.args.states.now c.requires.stated c.requires.states c.loop-source.invariant.ends c.loop-source.invariant.follows).0 in
+    let follows = (c.pass.ensures.kept c.args.source c.args.resetting.now c.args.states.now c.requires.stated c.requires.states c.loop-source.invariant.ends
+        c.loop-source.invariant.follows).0 in
     let few = follows.depth in let end = c.loop-source-test.ensures.left in omega arith
 
 pub returns-then-not-enter-clause-extended : goal.returns-then-not-enter-clause-extended
@@ -37,6 +42,7 @@ returns-then-not-enter-clause-extended c =
 
 pub loop-source-smaller : goal.loop-source-smaller
 loop-source-smaller c =
-    let on = (c.pass.ensures.kept c.args.source c.args.resetting.now c.args.states.now c.requires.stated c.requires.states c.loop-source.invariant.ends c.loop-source.invariant.follows).1 in
+    let on = (c.pass.ensures.kept c.args.source c.args.resetting.now c.args.states.now c.requires.stated c.requires.states c.loop-source.invariant.ends
+        c.loop-source.invariant.follows).1 in
     let left = c.loop-source-test.ensures.left in
     let next = c.if-not-enter.ensures.entered in omega arith

@@ -22,10 +22,14 @@ returns-in_err-found-clause-cause c =
     found_none_on passes_Q c.args.net.now.net c.args.patterns c.args.self.now c.from_residual.result c.in_err-found.field-0.0 c.from_residual.ensures.1 c.in_err-found.ensures.cause
 
 pub end_of-requires-clause-slacks : goal.end_of-requires-clause-slacks
-end_of-requires-clause-slacks c = slack_count passes_Q c.args.net.now.net c.args.patterns c.args.self.now c.in_ok-found.found c.in_ok-found.ensures.found c.deref.result.now c.deref.ensures.value
+end_of-requires-clause-slacks c =
+    slack_count passes_Q c.args.net.now.net c.args.patterns c.args.self.now c.in_ok-found.found c.in_ok-found.ensures.found c.deref.result.now
+    c.deref.ensures.value
 
 pub end_of-requires-clause-slopes : goal.end_of-requires-clause-slopes
-end_of-requires-clause-slopes c = thin_slope_count passes_Q c.args.net.now.net c.args.patterns c.args.self.now c.in_ok-found.found c.in_ok-found.ensures.found c.deref-2.result.now c.deref-2.ensures.value
+end_of-requires-clause-slopes c =
+    thin_slope_count passes_Q c.args.net.now.net c.args.patterns c.args.self.now c.in_ok-found.found c.in_ok-found.ensures.found c.deref-2.result.now
+    c.deref-2.ensures.value
 
 pub returns-in_err-end-clause-cause : goal.returns-in_err-end-clause-cause
 returns-in_err-end-clause-cause c =
@@ -67,7 +71,8 @@ phase_by-requires-clause-found c = (c.args.patterns, c.in_ok-found.ensures.found
 
 pub phase_by-requires-clause-below : goal.phase_by-requires-clause-below
 phase_by-requires-clause-below c =
-    subst (λ (s : Standing). s.time <ℚ c.in-Some.end) c.self.view_is (MatchOption-at_some _ (λ (end : ℚ). c.self.inside.reached <ℚ end) c.in-Some.end c.in-Some.is c.in_ok-end.ensures.later)
+    subst (λ (s : Standing). s.time <ℚ c.in-Some.end) c.self.view_is (MatchOption-at_some _
+        (λ (end : ℚ). c.self.inside.reached <ℚ end) c.in-Some.end c.in-Some.is c.in_ok-end.ensures.later)
 
 pub extend_by-requires-clause-reaches : goal.extend_by-requires-clause-reaches
 extend_by-requires-clause-reaches c = c.requires.reaches

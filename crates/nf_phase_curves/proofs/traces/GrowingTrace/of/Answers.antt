@@ -14,10 +14,13 @@ ended-requires c = λ some.
 pub invariant_of-result : goal.invariant_of-result
 invariant_of-result c =
     subst (AreBefore c.pop-last.new.self.items) (sym c.in_ok-curve.ensures.slope)
-    (none_before c.in_ok-rates.rates.items c.pop-last.new.self.items c.pop-last.result c.in_ok-rates.rates.len (omega (arith, c.in_ok-rates.rates.ok.0)) c.pop-last.ensures.items c.pop-last.ensures.variant)
+    (none_before c.in_ok-rates.rates.items c.pop-last.new.self.items c.pop-last.result c.in_ok-rates.rates.len
+        (omega (arith, c.in_ok-rates.rates.ok.0)) c.pop-last.ensures.items c.pop-last.ensures.variant)
 
 pub returns : goal.returns
 returns c = λ i. record {
   points = c.in_ok-curve.ensures.points i;
-  rates = (ap (λ (o : Option ℚ). c.pop-last.new.self.items ++ option_to_list o) c.in_ok-curve.ensures.slope ∙ sym c.pop-last.ensures.items ∙ c.in_ok-rates.ensures.items_if_clones_equal (λ x y e. e) ∙ c.as_slice.ensures.value) i;
+  rates =
+      (ap (λ (o : Option ℚ). c.pop-last.new.self.items ++ option_to_list o) c.in_ok-curve.ensures.slope ∙ sym c.pop-last.ensures.items
+      ∙ c.in_ok-rates.ensures.items_if_clones_equal (λ x y e. e) ∙ c.as_slice.ensures.value) i;
 }

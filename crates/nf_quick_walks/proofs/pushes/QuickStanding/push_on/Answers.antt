@@ -45,7 +45,8 @@ time_with-requires-clause-some c = subst (λ (room : ℚ). 0ℚ <ℚ room) (sym 
 pub returns-in_err-times-clause-list : goal.returns-in_err-times-clause-list
 returns-in_err-times-clause-list c =
     let p = err_from_is_err_and c.from_residual-in_err-times.result c.from_residual-in_err-times.ensures.1 in
-    rw (p.1, p.2) (time_passes passes_Q c.args.net.now.net c.args.amount _ c.args.self.now _ c.args.walk c.self.view_is c.walk.view_is c.push.new.self c.in_ok-push.ensures.list c.in_err-times.field-0.0 c.in_err-times.ensures.list)
+    rw (p.1, p.2) (time_passes passes_Q c.args.net.now.net c.args.amount _ c.args.self.now _ c.args.walk c.self.view_is c.walk.view_is c.push.new.self
+        c.in_ok-push.ensures.list c.in_err-times.field-0.0 c.in_err-times.ensures.list)
 
 pub returns-in_err-push-2-clause-list : goal.returns-in_err-push-2-clause-list
 returns-in_err-push-2-clause-list c = let p = err_from_is_err_and c.from_residual-in_err-push-2.result c.from_residual-in_err-push-2.ensures.1 in rw (p.1, p.2) tt
@@ -57,7 +58,9 @@ pub returns-clause-rate : goal.returns-clause-rate
 returns-clause-rate c = subst (λ (rate : ℚ). 0ℚ ≤ℚ rate) (sym (ap (λ (t : Times). t.rate) c.times.view_is)) c.in_ok-times.ensures.rate
 
 pub returns-clause-list : goal.returns-clause-list
-returns-clause-list c = push_made passes_Q c.args.net.now.net c.args.amount _ c.args.self.now _ c.args.walk c.self.view_is c.walk.view_is c.push.new.self c.in_ok-push.ensures.list c.in_ok-times.times _ c.in_ok-times.ensures.list
+returns-clause-list c =
+    push_made passes_Q c.args.net.now.net c.args.amount _ c.args.self.now _ c.args.walk c.self.view_is c.walk.view_is c.push.new.self
+    c.in_ok-push.ensures.list c.in_ok-times.times _ c.in_ok-times.ensures.list
     c.times.view_is c.push-2.new.self.items c.in_ok-push-2.ensures.items
 
 pub same-walk : goal.same-walk

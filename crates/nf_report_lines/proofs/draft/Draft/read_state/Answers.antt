@@ -5,7 +5,9 @@ use Rattle.nf_report_lines.proofs.BodyLines.{state_count, state_wrong, state_out
 use Rattle.nf_report_lines.proofs.draft.Draft.read_state.Goals as goal
 
 pub returns-then-len-ne3-clause-says : goal.returns-then-len-ne3-clause-says
-returns-then-len-ne3-clause-says c = state_count c.args.net.now (seen_draft c.args.net.now c.args.self.now) c.args.line.now.words c.requires.words (λ e. c.if-len-ne3.true (c.len.ensures ∙ e))
+returns-then-len-ne3-clause-says c =
+    state_count c.args.net.now (seen_draft c.args.net.now c.args.self.now) c.args.line.now.words c.requires.words
+    (λ e. c.if-len-ne3.true (c.len.ensures ∙ e))
 
 pub at-requires : goal.at-requires
 at-requires c = omega (arith, c.len.ensures, c.if-len-ne3.false)

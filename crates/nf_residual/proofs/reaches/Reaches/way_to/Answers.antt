@@ -14,7 +14,9 @@ way_read tree way distance steps d s =
     ap (λ (q : ℚ). record { distance = q; steps = steps }) d ∙ ap (λ (l : List Step). record { distance = (twig_at tree way).distance; steps = l }) s
 
 pub place_of-requires : goal.place_of-requires
-place_of-requires c = place_there c.self.inside.ways c.self.inside.places.items c.deref.result.now c.args.self.now c.args.node c.index.result c.self.view_is c.deref.ensures.value c.index.ensures c.requires
+place_of-requires c =
+    place_there c.self.inside.ways c.self.inside.places.items c.deref.result.now c.args.self.now c.args.node c.index.result c.self.view_is
+    c.deref.ensures.value c.index.ensures c.requires
 
 pub steps-requires : goal.steps-requires
 steps-requires c = c.self.invariant c.index.result c.in-Some.way (ap (λ (p : Places). place_at p c.index.result) (sym c.deref.ensures.value) ∙ sym c.place_of.ensures ∙ c.in-Some.is)
@@ -28,11 +30,14 @@ returns-in_err-steps-in-Some c =
     rw p.1 tt
 
 pub returns-in-None : goal.returns-in-None
-returns-in-None c = reach_there c.self.inside.ways c.self.inside.places.items c.deref.result.now c.args.self.now c.args.node c.index.result c.self.view_is c.deref.ensures.value c.index.ensures _
+returns-in-None c =
+    reach_there c.self.inside.ways c.self.inside.places.items c.deref.result.now c.args.self.now c.args.node c.index.result c.self.view_is
+    c.deref.ensures.value c.index.ensures _
     (sym c.in-None.is ∙ c.place_of.ensures)
 
 pub returns-in_ok-steps-in-Some : goal.returns-in_ok-steps-in-Some
 returns-in_ok-steps-in-Some c =
     ap Some (way_read c.self.inside.ways c.in-Some.way c.distance.result c.in_ok-steps-in-Some.steps.items c.distance.ensures c.in_ok-steps-in-Some.ensures)
-    ∙ reach_there c.self.inside.ways c.self.inside.places.items c.deref.result.now c.args.self.now c.args.node c.index.result c.self.view_is c.deref.ensures.value c.index.ensures (Some c.in-Some.way)
+    ∙ reach_there c.self.inside.ways c.self.inside.places.items c.deref.result.now c.args.self.now c.args.node c.index.result c.self.view_is
+        c.deref.ensures.value c.index.ensures (Some c.in-Some.way)
     (sym c.in-Some.is ∙ c.place_of.ensures)

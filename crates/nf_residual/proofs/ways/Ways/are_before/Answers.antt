@@ -9,7 +9,9 @@ loop-init c = compares_first c.args.self.now c.args.way c.args.step c.args.other
     (c.decided-are_before.ensures ∙ ap (λ (s : Step). one_before c.args.step s false) c.last.ensures) c.before-there.ensures.value c.requires.way c.before-there.ensures.within
 
 pub returns-then-here-there : goal.returns-then-here-there
-returns-then-here-there c = compares_same c.args.self.now c.args.way c.args.step c.args.other c.loop.here c.loop.there c.loop.are_before c.loop.counter c.loop.invariant c.if-here-there.true
+returns-then-here-there c =
+    compares_same c.args.self.now c.args.way c.args.step c.args.other c.loop.here c.loop.there c.loop.are_before c.loop.counter c.loop.invariant
+    c.if-here-there.true
 
 pub loop-preserved : goal.loop-preserved
 loop-preserved c =

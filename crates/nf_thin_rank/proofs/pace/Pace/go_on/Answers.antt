@@ -11,7 +11,9 @@ pub goes_on_to-requires-clause-question : goal.goes_on_to-requires-clause-questi
 goes_on_to-requires-clause-question c = subst IsQuestion (sym (c.requires.behind c.in-Some.all c.in-Some.is).through.same) (posed_question c.args.ranking.now c.requires.ranking)
 
 pub goes_on_to-requires-clause-links : goal.goes_on_to-requires-clause-links
-goes_on_to-requires-clause-links c = ap (λ (q : Question). length q.hops) (c.requires.behind c.in-Some.all c.in-Some.is).through.same ∙ (hops_length c.args.ranking.now.net.now.net ∙ sym c.link_count-links.ensures)
+goes_on_to-requires-clause-links c =
+    ap (λ (q : Question). length q.hops) (c.requires.behind c.in-Some.all c.in-Some.is).through.same
+    ∙ (hops_length c.args.ranking.now.net.now.net ∙ sym c.link_count-links.ensures)
 
 pub goes_on_to-requires-clause-behind : goal.goes_on_to-requires-clause-behind
 goes_on_to-requires-clause-behind c =
@@ -26,7 +28,8 @@ pub returns-then-goes_on_to-clause-in_step : goal.returns-then-goes_on_to-clause
 returns-then-goes_on_to-clause-in_step c other all is =
     subst (λ (g : Given). StandsAt (question_in c.args.ranking.now) g c.args.pattern.now) (same_Some c.goes_on_to.new.patterns all is)
     (subst (λ (q : Question). StandsAt q c.goes_on_to.new.patterns c.args.pattern.now) (c.requires.behind c.in-Some.all c.in-Some.is).through.same
-    (c.goes_on_to.ensures.stands c.if-goes_on_to.true (subst (λ (q : Question). IsListedBy q c.args.pattern.now) (sym (c.requires.behind c.in-Some.all c.in-Some.is).through.same) c.requires.listed)))
+    (c.goes_on_to.ensures.stands c.if-goes_on_to.true (subst (λ (q : Question). IsListedBy q c.args.pattern.now)
+        (sym (c.requires.behind c.in-Some.all c.in-Some.is).through.same) c.requires.listed)))
 
 pub returns-else-goes_on_to-clause-told : goal.returns-else-goes_on_to-clause-told
 returns-else-goes_on_to-clause-told c =
