@@ -42,7 +42,7 @@ module _ {A : Type 0} (f : A → List ℕ) (xs : List A) where
   part_suc : (i : ℕ) (x : A) (now next all : List ℕ) → slice_get xs i ≡ Some x → now ++ flat_map f (drop i xs) ≡ all → next ≡ now ++ f x → next ++ flat_map f (drop (suc i) xs) ≡ all
   part_suc i x now next all at h k =
       ap (λ (l : List ℕ). l ++ flat_map f (drop (suc i) xs)) k ∙ append_assoc now (f x) (flat_map f (drop (suc i) xs))
-          ∙ ap (λ (l : List A). now ++ flat_map f l) (sym (drop_at xs i x at)) ∙ h
+      ∙ ap (λ (l : List A). now ++ flat_map f l) (sym (drop_at xs i x at)) ∙ h
 
   pub part_more : (i : ℕ) (x : A) (now next all : List ℕ) → slice_get xs i ≡ Some x → now ++ flat_map f (drop i xs) ≡ all → next ≡ now ++ f x → next ++ flat_map f (drop (i + 1) xs) ≡ all
   part_more i x now next all at h k = ap (λ (n : ℕ). next ++ flat_map f (drop n xs)) (add-one i) ∙ part_suc i x now next all at h k

@@ -210,7 +210,7 @@ module _ (s : Shape) (names : Names) where
       let own = word_fault s names w.is_trailing w.waiting word w.held in
       unless (is_some w.stopped) (word_passes s names w.is_trailing w.waiting word w.held && step_passes s w.position met.0 met.1) (or_else own (step_fault s w.position met.0 met.1))
       (λ none. let n = neither own (step_fault s w.position met.0 met.1) none in
-          and_from _ _ (word_goes w.is_trailing w.waiting word w.held n.first) (step_goes w.position met.0 met.1 n.second)) e
+      and_from _ _ (word_goes w.is_trailing w.waiting word w.held n.first) (step_goes w.position met.0 met.1 n.second)) e
 
   walk_goes : (w : Walk) (words : List Text) → walk_fault s names w words ≡ [] → walk_passes s names w words ≡ true
   unfolding walk_fault walk_passes

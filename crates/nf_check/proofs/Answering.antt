@@ -78,7 +78,7 @@ are_traces n traces all e count known = record {
 
 pub given_by : (net : Network) (flow : code.Flow) → IsNetwork net → (labels : length flow.labels.items ≡ net.nodes) (inflows : length flow.inflows.items ≡ length net.links)
     (outflows : length flow.outflows.items ≡ length net.links) (queues : length flow.queues.items ≡ length net.links) → HaveRates (flow_of flow).inflows
-        → HaveRates (flow_of flow).outflows → 0ℚ ≤ℚ flow.reached
+    → HaveRates (flow_of flow).outflows → 0ℚ ≤ℚ flow.reached
     → (ls qs : List Grown) (is os : List code_trace.Trace) → ls ≡ flow.labels.items → is ≡ flow.inflows.items → os ≡ flow.outflows.items → qs ≡ flow.queues.items
     → ((i : ℕ) → i < length ls → IsCurve (points_at (curves_of ls) i)) → ((i : ℕ) → i < length is → IsCurve (points_at (points_of (map trace_of is)) i))
     → ((i : ℕ) → i < length os → IsCurve (points_at (points_of (map trace_of os)) i)) → ((i : ℕ) → i < length qs → IsCurve (points_at (curves_of qs) i)) → IsGivenFlow net flow

@@ -129,7 +129,7 @@ module _ (passes : Passing) (inflow exit exits tail_label head_label : List Poin
 -- ---- a link whose list stops, or goes through
 module _ (passes : Passing) (net : Network) (flow : Flow) (labels : List (List Point)) (loaded : List Loaded) (e : ℕ) (here : Link) (inflow exit tail_label head_label : List Point)
     (f : inflow ≡ points_at (points_of flow.inflows) e) (g : exit ≡ (loaded_at loaded e).exit) (k : tail_label ≡ points_at labels here.tail)
-        (l : head_label ≡ points_at labels here.head) where
+    (l : head_label ≡ points_at labels here.head) where
   abbrev detours : Checked (Option Sides)
   detours = detour_list passes (points_at (points_of flow.inflows) e) (loaded_at loaded e).exit (points_at labels here.tail) (points_at labels here.head) flow.reached
 

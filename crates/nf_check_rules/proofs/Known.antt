@@ -113,7 +113,7 @@ module _ (passes : Passing) (net : Network) (flow : Flow) (given : CanBeChecked 
       let u = both_came (unless C1 (Node v) (negative_point w.first)) _ cut w.next in
       let none : negative_point w.first ≡ None = unless_came C1 (Node v) (negative_point w.first) u.first u.came in
       let exact : w.first ≡ cut_of net flow given v = checked_cut-exact passes (points_at flow.labels v) flow.reached w.first
-          (given.shape.labels.each v h) given.reached (part_came _ w.first w.came) in
+      (given.shape.labels.each v h) given.reached (part_came _ w.first w.came) in
       let is : w.first ≡ cut = ok_same _ _ u.next in
       let l : IsLabel net flow given v (cut_of net flow given v) = label-cut net flow given v h (subst (λ (c : List Point). negative_point c ≡ None) exact none) in
       subst (λ (c : List Point). IsFromZero c) is (record { curve = subst (λ (c : List Point). IsCurve c) (sym exact) l.curve; none_negative = negative-none w.first none })
@@ -130,7 +130,7 @@ module _ (passes : Passing) (net : Network) (flow : Flow) (given : CanBeChecked 
   inflows_known d e h =
       let w = done_came (each (inflow_rule passes net flow) (all_links net)) d in
       let v : Came (inflow_rule passes net flow e) = subst (λ (j : ℕ). Came (inflow_rule passes net flow j)) (from_0 e)
-          (each_came (inflow_rule passes net flow) (length net.links) 0 e w.value w.is h) in
+      (each_came (inflow_rule passes net flow) (length net.links) 0 e w.value w.is h) in
       (decides-inflow net flow given e h).holds (unless_came C1 (OfLink e) (inflow_fault (points_at (points_of flow.inflows) e)) v.value v.is)
 
 loaded_many : {A X : Type 0} (f : ℕ × X → Trial A) (links : List X) (ys : List A) → each f (enumerate_from 0 links) ≡ Ok ys → length ys ≡ length links
@@ -150,7 +150,7 @@ pub label_cut_whole : (passes : Passing) (net : Network) (flow : Flow) (v : ℕ)
     → label_cut passes net flow v ≡ (unless C1 (Node v) (negative_point label) >>= λ _. Ok label)
 label_cut_whole passes net flow v label is whole =
     let cut : in_part Check (checked_cut passes (points_at flow.labels v) flow.reached) ≡ Ok label =
-        ap (λ (l : List Point). in_part Check (checked_cut passes l flow.reached)) (sym is) ∙ ap (in_part Check) whole in
+    ap (λ (l : List Point). in_part Check (checked_cut passes l flow.reached)) (sym is) ∙ ap (in_part Check) whole in
     goes_on (in_part Check (checked_cut passes (points_at flow.labels v) flow.reached)) _ label cut
 
 pub loaded_in_number : (passes : Passing) (net : Network) (flow : Flow) (labels : List (List Point)) (loaded : List Loaded)

@@ -140,7 +140,7 @@ module _ (taken exits labels : List Point) (c : TimesRise taken) (d : TimesRise 
     one_of_three : (first_of taken ≡ Some time) ⊎ ((first_of exits ≡ Some time) ⊎ (first_of labels ≡ Some time))
     one_of_three = ⊎_elim
         (λ (w : earlier_of (first_of taken) (first_of exits) ≡ Some time). ⊎_elim (λ (v : first_of taken ≡ Some time). inl v)
-            (λ (v : first_of exits ≡ Some time). inr (inl v)) (one_of_two (first_of taken) (first_of exits) time w))
+        (λ (v : first_of exits ≡ Some time). inr (inl v)) (one_of_two (first_of taken) (first_of exits) time w))
         (λ (w : first_of labels ≡ Some time). inr (inr w))
         (one_of_two (earlier_of (first_of taken) (first_of exits)) (first_of labels) time h)
 
@@ -152,8 +152,8 @@ module _ (taken exits labels : List Point) (c : TimesRise taken) (d : TimesRise 
     is_later = ⊎_elim
         (λ (w : first_of taken ≡ Some time). by_curve taken (later now taken) c refl w)
         (λ (w : (first_of exits ≡ Some time) ⊎ (first_of labels ≡ Some time)). ⊎_elim
-            (λ (v : first_of exits ≡ Some time). by_curve exits (later now exits) d refl v)
-            (λ (v : first_of labels ≡ Some time). by_curve labels (later now labels) e refl v) w)
+        (λ (v : first_of exits ≡ Some time). by_curve exits (later now exits) d refl v)
+        (λ (v : first_of labels ≡ Some time). by_curve labels (later now labels) e refl v) w)
         one_of_three
 
     found : (o : Option ℚ) → o ≡ Some time → is_first time o ≡ true
@@ -164,9 +164,9 @@ module _ (taken exits labels : List Point) (c : TimesRise taken) (d : TimesRise 
         (λ (w : first_of taken ≡ Some time). ap (λ (b : Bool). (b || is_first time (first_of exits)) || is_first time (first_of labels)) (found (first_of taken) w))
         (λ (w : (first_of exits ≡ Some time) ⊎ (first_of labels ≡ Some time)). ⊎_elim
         (λ (v : first_of exits ≡ Some time). ap (λ (b : Bool). (is_first time (first_of taken) || b) || is_first time (first_of labels))
-            (found (first_of exits) v) ∙ ap (λ (b : Bool). b || is_first time (first_of labels)) (or_true (is_first time (first_of taken))))
+        (found (first_of exits) v) ∙ ap (λ (b : Bool). b || is_first time (first_of labels)) (or_true (is_first time (first_of taken))))
         (λ (v : first_of labels ≡ Some time). ap (λ (b : Bool). (is_first time (first_of taken) || is_first time (first_of exits)) || b)
-            (found (first_of labels) v) ∙ or_true (is_first time (first_of taken) || is_first time (first_of exits)))
+        (found (first_of labels) v) ∙ or_true (is_first time (first_of taken) || is_first time (first_of exits)))
         w)
         one_of_three
       where
@@ -215,9 +215,9 @@ module _ (sent : Sent) (curves : AreCurves sent) (places : Places) (now : ℚ) (
   first_is_earliest =
       let all : Option ℚ → Option ℚ → Option ℚ → Option ℚ = λ s t u. earlier_of (earlier_of s t) u in
       ap (λ (o : Option ℚ). all o (option_map (λ (p : Point). p.0) (slice_get sent.exits.points places.exits))
-          (option_map (λ (p : Point). p.0) (slice_get sent.labels.points places.labels))) (at_place sent.taken.points places.taken there.taken)
+      (option_map (λ (p : Point). p.0) (slice_get sent.labels.points places.labels))) (at_place sent.taken.points places.taken there.taken)
       ∙ ap (λ (o : Option ℚ). all (head_of (later now sent.taken.points)) o (option_map (λ (p : Point). p.0) (slice_get sent.labels.points places.labels)))
-          (at_place sent.exits.points places.exits there.exits)
+      (at_place sent.exits.points places.exits there.exits)
       ∙ ap (λ (o : Option ℚ). all (head_of (later now sent.taken.points)) (head_of (later now sent.exits.points)) o) (at_place sent.labels.points places.labels there.labels)
 
   pub none_next : first_time sent places ≡ None → three_after now sent.taken.points sent.exits.points sent.labels.points ≡ []

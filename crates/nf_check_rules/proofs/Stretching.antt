@@ -82,7 +82,7 @@ first_amount passes [] p time c g e = absurd c
 first_amount passes (x ∷ []) p time c g e = ap (λ (p : Point). Ok p.1) (same_Some _ _ g)
 first_amount passes (x ∷ y ∷ rest) p time c g e = ⊎_elim
     (λ (w : (is_same time x.0 ≡ true) × (time ≡ x.0)). ap (λ (b : Bool). if b then Ok x.1 else
-        (if lt_ℚ time y.0 then checked_line passes x y time else value_from passes y rest time)) w.0
+    (if lt_ℚ time y.0 then checked_line passes x y time else value_from passes y rest time)) w.0
     ∙ ap (λ (p : Point). Ok p.1) (same_Some _ _ g))
     (λ (w : (is_same time x.0 ≡ false) × (¬ (time ≡ x.0))). absurd (w.1 (e ∙ sym c.0)))
     (is_same_cases time x.0)
@@ -117,8 +117,8 @@ pub detour-is : (passes : Passing) (inflow exit tail_label head_label : List Poi
 unfolding detour_list sent_list
 detour-is passes inflow exit tail_label head_label last = three_first (checked_composed passes inflow tail_label last) (checked_composed passes exit tail_label last)
     (λ t. checked_short passes t) (λ x. checked_short passes x) (checked_short passes head_label) (λ a b c. all_stretches passes a b c (three_times a b c))
-        (sent_list passes inflow exit tail_label head_label last) (all_is (checked_composed passes inflow tail_label last)
-        (checked_composed passes exit tail_label last))
+    (sent_list passes inflow exit tail_label head_label last) (all_is (checked_composed passes inflow tail_label last)
+    (checked_composed passes exit tail_label last))
   where
     one : (a b : List Point) (r : Checked (List Point)) → (r >>= λ c. let all : List Point × List Point × List Point = (a, b, c) in Ok all) ≡ together a b r
     one a b (Ok c) = refl

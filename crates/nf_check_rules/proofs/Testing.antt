@@ -65,7 +65,7 @@ Pair = List (List Point) × List Loaded
 
 worked_is : (passes : Passing) (net : Network) (flow : Flow) → worked_list passes net flow
     ≡ (each (label_cut passes net flow) (all_nodes net) >>= λ labels. done (each (inflow_rule passes net flow) (all_links net)) >>= λ _. done
-        (each (link_rates passes net flow) (all_links net)) >>= λ _. beside labels (each (loading passes net flow labels) (enumerate_from 0 net.links)))
+    (each (link_rates passes net flow) (all_links net)) >>= λ _. beside labels (each (loading passes net flow labels) (enumerate_from 0 net.links)))
 unfolding worked_list
 worked_is passes net flow =
     go (each (label_cut passes net flow) (all_nodes net)) (done (each (inflow_rule passes net flow) (all_links net)))
@@ -107,13 +107,13 @@ labels_end passes net flow e h =
 pub arrivals-is : (passes : Passing) (net : Network) (flow : Flow) (labels : List (List Point)) (loaded : List Loaded) (source : ℕ) (label line : List Point) → source ≡ net.source
     → label ≡ points_at labels net.source → line ≡ departures flow.reached
     → arrivals_list passes net flow labels loaded ≡ (compared_by passes C3 (Node source) label line flow.reached >>= λ _. done
-        (each (arrivals passes net flow labels loaded) (nodes_but net.source net)))
+    (each (arrivals passes net flow labels loaded) (nodes_but net.source net)))
 unfolding arrivals_list
 arrivals-is passes net flow labels loaded source label line e f g =
     sym (ap (λ (s : ℕ). compared_by passes C3 (Node s) label line flow.reached >>= λ _. done (each (arrivals passes net flow labels loaded) (nodes_but net.source net))) e
     ∙ ap (λ (l : List Point). compared_by passes C3 (Node net.source) l line flow.reached >>= λ _. done (each (arrivals passes net flow labels loaded) (nodes_but net.source net))) f
     ∙ ap (λ (l : List Point). compared_by passes C3 (Node net.source) (points_at labels net.source) l flow.reached >>= λ _. done
-        (each (arrivals passes net flow labels loaded) (nodes_but net.source net))) g)
+    (each (arrivals passes net flow labels loaded) (nodes_but net.source net))) g)
 
 -- ---- the sink, however it is named
 module _ (passes : Passing) (net : Network) (flow : Flow) (labels : List (List Point)) (loaded : List Loaded) (supplied : List Point) where

@@ -93,13 +93,13 @@ halts_of Comes flows_of list Halt.Memory f said = tt
 pub closes_at : {X : Type 0} (last_of : X → ℕ) (steps_of : X → List (ℕ × Bool)) (net : Network) (sets : Sets) (slopes seen flows : List ℚ)
     (found : Option X) (x : X) → seen ≡ flows → found ≡ Some x
     → MatchOption found (IsForest (hops net) (IsInterior net sets slopes seen)) (λ y. ClosesNext net sets slopes seen (last_of y) (steps_of y))
-        → ClosesNext net sets slopes flows (last_of x) (steps_of x)
+    → ClosesNext net sets slopes flows (last_of x) (steps_of x)
 closes_at last_of steps_of net sets slopes seen flows found x same is h = subst (λ (f : List ℚ). ClosesNext net sets slopes f (last_of x) (steps_of x)) same
     (MatchOption-at_some (IsForest (hops net) (IsInterior net sets slopes seen)) (λ y. ClosesNext net sets slopes seen (last_of y) (steps_of y)) x is h)
 
 pub none_at : {X : Type 0} (last_of : X → ℕ) (steps_of : X → List (ℕ × Bool)) (net : Network) (sets : Sets) (slopes seen flows : List ℚ) (found : Option X) → seen ≡ flows → found ≡ None
     → MatchOption found (IsForest (hops net) (IsInterior net sets slopes seen)) (λ y. ClosesNext net sets slopes seen (last_of y) (steps_of y))
-        → IsForest (hops net) (IsInterior net sets slopes flows)
+    → IsForest (hops net) (IsInterior net sets slopes flows)
 none_at last_of steps_of net sets slopes seen flows found same is h = subst (λ (f : List ℚ). IsForest (hops net) (IsInterior net sets slopes f)) same
     (MatchOption-at_none (IsForest (hops net) (IsInterior net sets slopes seen)) (λ y. ClosesNext net sets slopes seen (last_of y) (steps_of y)) is h)
 
@@ -167,7 +167,7 @@ module _ (passes : Passing) (net : Network) (sets : Sets) (slopes flows : List �
 
   pub settles_on : {X : Type 0} (flows_of : X → List ℚ) (fulls : List (Option ℚ)) → fulls_list passes net sets slopes ≡ Ok fulls → (halt : Halt ℚ)
       → GivesOneOf (Cancels passes net sets slopes fulls flows) flows_of (Err halt) → {Y : Type 0} (others_of : Y → List ℚ)
-          → GivesOneOf (Settles passes net sets slopes flows) others_of (Err halt)
+      → GivesOneOf (Settles passes net sets slopes flows) others_of (Err halt)
   settles_on flows_of fulls ok (Halt.Passed p) c others_of = (c.0, settles fulls (Err c.0) ok c.1, c.2)
   settles_on flows_of fulls ok Halt.Memory c others_of = tt
 

@@ -59,10 +59,10 @@ module _ (passes : Passing) (net : Network) (sets : Sets) (rate : ℚ) (flows : 
   -- the sum over the links with one end at a node
   module _ (v : ℕ) (end : Link → ℕ) (more : ℚ → ℕ × Link → Checked ℚ) (total : List Link → (ℕ → ℚ) → ℚ)
       (more_by : (so_far : ℚ) (e : ℕ) (link : Link) → more so_far (e, link) ≡ sum_more passes net sets rate flows
-          (unwrap_or (slice_get sets.active e) false && eqb (end link) v) so_far e)
+      (unwrap_or (slice_get sets.active e) false && eqb (end link) v) so_far e)
       (total_none : (f : ℕ → ℚ) → total [] f ≡ 0ℚ)
       (total_more : (link : Link) (links : List Link) (f : ℕ → ℚ) → total (link ∷ links) f
-          ≡ (if eqb (end link) v then f 0 +ℚ total links (λ e. f (suc e)) else total links (λ e. f (suc e)))) where
+      ≡ (if eqb (end link) v then f 0 +ℚ total links (λ e. f (suc e)) else total links (λ e. f (suc e)))) where
     total-is : (links : List Link) (k : ℕ) (f : ℕ → ℚ) (start y : ℚ) → ((e : ℕ) → f e ≡ carried (k + e))
         → fold_checked more start (enumerate_from k links) ≡ Ok y → y ≡ start +ℚ total links f
     total-is [] k f start y same h = none_added start y (sym (same_Ok start y h)) ∙ ap (λ (x : ℚ). start +ℚ x) (sym (total_none f))
@@ -98,7 +98,7 @@ module _ (passes : Passing) (net : Network) (sets : Sets) (rate : ℚ) (flows : 
   pub more_told : (r : Result ℚ (PassedAt ℚ)) (end : End) (v : ℕ) (so_far : ℚ) (e : ℕ) (at : Bool)
       → r ≡ at_part Verdict (sum_more passes net sets rate flows (unwrap_or (slice_get sets.active e) false && at) so_far e)
       → ((here : Link) → IsLink net e here → at ≡ eqb (node_by end here) v) → (here : Link) → IsLink net e here
-          → r ≡ at_part Verdict (more_at passes net sets rate flows end v so_far (e, here))
+      → r ≡ at_part Verdict (more_at passes net sets rate flows end v so_far (e, here))
   more_told r Head v so_far e at said is here p =
       said ∙ ap (λ (b : Bool). at_part Verdict (sum_more passes net sets rate flows (unwrap_or (slice_get sets.active e) false && b) so_far e)) (is here p)
   more_told r Tail v so_far e at said is here p =

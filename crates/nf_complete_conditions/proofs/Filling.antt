@@ -45,7 +45,7 @@ module _ (passes : Passing) (net : Network) (sets : Sets) (slopes : List ℚ) (f
       let y : full_at passes sets slopes (e, link) ≡ Ok g.0 = subst (λ (k : ℕ). full_at passes sets slopes (k, link) ≡ Ok g.0) (let z : 0 + e ≡ e = omega arith in z) g.2 in
       ap (λ (o : Option (Option ℚ)). unwrap_or o None) g.1
       ∙ full-is passes link.capacity (number_at slopes link.head) g.0 (subst
-          (λ (b : Bool). full_on passes b link.capacity (number_at slopes link.head) ≡ Ok g.0) (ap (λ (o : Option Bool). unwrap_or o false) a) y)
+      (λ (b : Bool). full_on passes b link.capacity (number_at slopes link.head) ≡ Ok g.0) (ap (λ (o : Option Bool). unwrap_or o false) a) y)
 
 -- ---- one link: a says whether it is active, r whether it is resetting; x is its flow, s and t are the slopes of its tail and its head
 module _ (passes : Passing) (sets : Sets) (flows slopes : List ℚ) (e : ℕ) (link : Link) where
@@ -68,13 +68,13 @@ module _ (passes : Passing) (sets : Sets) (flows slopes : List ℚ) (e : ℕ) (l
   pub keeps_told : (a r : Bool) (full : Option ℚ) (answer : Bool) → slice_get sets.active e ≡ Some a → slice_get sets.resetting e ≡ Some r
       → Ok full ≡ at_part Verdict (full_at passes sets slopes (e, link))
       → answer ≡ (not a || keeps_test r full (number_at flows e) (number_at slopes link.tail) (number_at slopes link.head))
-          → AnswersWhether (KeepsAt sets flows slopes e link) (full_at passes sets slopes (e, link)) (Ok answer)
+      → AnswersWhether (KeepsAt sets flows slopes e link) (full_at passes sets slopes (e, link)) (Ok answer)
   keeps_told a r full answer at ar f same = (
     is_ok_of (full_at passes sets slopes (e, link)) full f,
     subst (λ (b : Bool). MatchBool b (KeepsAt sets flows slopes e link) (KeepsAt sets flows slopes e link → ⊥)) (sym same)
         (subst (λ (q : Bool). MatchBool (not a || keeps_test r full x s t) (Asked q x s t) (Asked q x s t → ⊥)) (sym (ap (λ (o : Option Bool). unwrap_or o false) ar))
         (asked_told a r full x s t at (subst (λ (q : Bool). full_on passes q link.capacity t ≡ Ok full) (ap (λ (o : Option Bool). unwrap_or o false) at)
-            (value_of (full_at passes sets slopes (e, link)) full f)))),
+        (value_of (full_at passes sets slopes (e, link)) full f)))),
   )
     where
       x : ℚ

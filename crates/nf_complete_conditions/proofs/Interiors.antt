@@ -91,7 +91,7 @@ module _ (passes : Passing) (net : Network) (sets : Sets) (slopes : List ℚ) (f
   Decides-asked : (e : ℕ) → Decides (interior_test sets fulls flows e) (Asked e)
   Decides-asked e = Decides-and (flag sets.active e) (not (flag sets.resetting e) && is_inside (unwrap_or (slice_get fulls e) None) (number_at flows e)) (Decides-flag sets.active e)
       (Decides-and (not (flag sets.resetting e)) (is_inside (unwrap_or (slice_get fulls e) None) (number_at flows e))
-          (Decides-not (flag sets.resetting e) (Decides-flag sets.resetting e))
+      (Decides-not (flag sets.resetting e) (Decides-flag sets.resetting e))
       (Decides-between (unwrap_or (slice_get fulls e) None) (number_at flows e)))
 
   asked_interior : (e : ℕ) (link : Link) → IsLink net e link → Asked e → IsInterior net sets slopes flows e
@@ -105,9 +105,17 @@ module _ (passes : Passing) (net : Network) (sets : Sets) (slopes : List ℚ) (f
   }
 
   interior_asked : (e : ℕ) → IsInterior net sets slopes flows e → Asked e
-  interior_asked e i =
-      (i.needs.0, (i.needs.1, (i.some, λ most h. full_by i.link.capacity refl most
-      (sym (fulls_at passes net sets slopes fulls fulls_ok e i.link i.is_link i.needs.0) ∙ h))))
+  interior_asked e i = (
+    i.needs.0,
+    (
+      i.needs.1,
+      (
+        i.some,
+        λ most h. full_by i.link.capacity refl most
+            (sym (fulls_at passes net sets slopes fulls fulls_ok e i.link i.is_link i.needs.0) ∙ h),
+      ),
+    ),
+  )
     where
       full_by : (o : Option ℚ) → i.link.capacity ≡ o → (most : ℚ) → filling i.link.capacity (number_at slopes i.link.head) ≡ Some most → number_at flows e <ℚ most
       full_by None k most h = absurd (none-some most (sym (ap (λ (o : Option ℚ). filling o (number_at slopes i.link.head)) k) ∙ h))

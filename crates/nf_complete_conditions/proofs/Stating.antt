@@ -124,7 +124,7 @@ module _ (net : Network) (sets : Sets) (flows slopes : List ℚ) where
     states = λ e h. ⊎_elim
         (λ (l : e < n). let s = so.states e l in (s.0, set_other pattern n e o (λ q. absurd (omega arith)) ∙ s.1, s.2))
         (λ (q : e ≡ n). subst (λ (k : ℕ). (s : Option State) × (slice_get (slice_set pattern n o) k ≡ Some s) × IsStateAt net sets flows slopes k s) (sym q)
-            (o, set_same pattern n o (let c = so.count in omega arith), here))
+        (o, set_same pattern n o (let c = so.count in omega arith), here))
         (before_or_at e n h);
   }
 

@@ -166,7 +166,7 @@ module _ (net : Network) (sets : Sets) (rate : ℚ) (flows slopes : List ℚ) (g
         (λ (s : v ≡ net.source). subst (λ (k : ℕ). IsBalanced net sets rate flows k) (sym s) (balanced_source thin.active_only thin.source))
         (λ (s : v ≢ net.source). ⊎_elim
         (λ (t : v ≡ net.sink). balanced_sink thin.active_only v s t (subst (λ (k : ℕ). surplus net flows k ≡ 0ℚ -ℚ rate) (sym t)
-            (IsThinFlow-sink net good.network sets rate flows slopes thin)))
+        (IsThinFlow-sink net good.network sets rate flows slopes thin)))
         (λ (t : v ≢ net.sink). balanced_inner thin.active_only v s t (thin.inner v h s t))
         (same_node v net.sink))
         (same_node v net.source)

@@ -111,7 +111,7 @@ module _ (hops : List Hop) (chosen : List Bool) (e : ℕ) (before : List Bool) (
       forest = forest-weaker hops (λ k. Has before k ⊎ (k ≡ e)) (Has (set before i true))
           (λ k h. ⊎_elim (λ (s : k ≡ i). inr (s ∙ q)) (λ (s : Has before k). inl s) (Has-set_cases before i k h))
           (forest-more hops (Has before) e hop p (flag apart.flags) (λ f g r h. flag_same apart.flags g.tail g.head (apart.closed f g r h))
-              (flag_other apart.flags hop.tail hop.head apart.from_in apart.to_out) b.forest);
+          (flag_other apart.flags hop.tail hop.head apart.from_in apart.to_out) b.forest);
     }
 
     -- of links that are known to be a forest
@@ -135,7 +135,7 @@ module _ (hops : List Hop) (chosen : List Bool) (e : ℕ) (before : List Bool) (
   push_cases (s ∷ steps) k c = ⊎_elim
       (λ (q : s.0 ≡ k). inl (contains_first s.0 (links_of steps) k q))
       (λ (q : Contains (links_of (steps ++ (e, true) ∷ [])) k). ⊎_elim (λ (r : Contains (links_of steps) k). inl (contains_more s.0 (links_of steps) k r))
-          (λ (r : k ≡ e). inr r) (push_cases steps k q))
+      (λ (r : k ≡ e). inr r) (push_cases steps k q))
       (contains_cases s.0 (links_of (steps ++ (e, true) ∷ [])) k c)
 
   push_contains : (steps : List (ℕ × Bool)) → Contains (links_of (steps ++ (e, true) ∷ [])) e
@@ -221,8 +221,14 @@ lowest-of (s ∷ steps) best result h = by (nat_le best.0 s.0) refl (lowest-of s
         go (found t k) = found (turn-other s.0 s.1 steps result.0 (λ q. absurd (omega arith)) ∙ t) k
 
     new : s.0 < best.0 → LowestOf steps s result → LowestOf (s ∷ steps) best result
-    new l r = (go r.0, (let m = r.1.0 in omega arith, λ e c. ⊎_elim (λ (q : s.0 ≡ e). let m = r.1.0 in omega arith)
-        (λ (q : Contains (links_of steps) e). r.1.1 e q) (contains_cases s.0 (links_of steps) e c)))
+    new l r = (
+      go r.0,
+      (
+        let m = r.1.0 in omega arith,
+        λ e c. ⊎_elim (λ (q : s.0 ≡ e). let m = r.1.0 in omega arith)
+            (λ (q : Contains (links_of steps) e). r.1.1 e q) (contains_cases s.0 (links_of steps) e c),
+      ),
+    )
       where
         go : Chosen steps s result → Chosen (s ∷ steps) best result
         go (kept e) = found (turn-same s.0 s.1 steps result.0 (sym (ap (λ (p : ℕ × Bool). p.0) e)) ∙ ap (λ (p : ℕ × Bool). Some p.1) (sym e))
@@ -244,8 +250,11 @@ lowest-of (s ∷ steps) best result h = by (nat_le best.0 s.0) refl (lowest-of s
 pub lowest-is : (s : ℕ × Bool) (steps : List (ℕ × Bool)) (best : ℕ × Bool) → lowest_from None (s ∷ steps) ≡ Some best → IsLowest (s ∷ steps) best
 lowest-is s steps best h =
     let r = lowest-of steps s best h in
-    record { turn = go r.0; least = λ e c. ⊎_elim (λ (q : s.0 ≡ e). let m = r.1.0 in omega arith) (λ (q : Contains (links_of steps) e). r.1.1 e q)
-        (contains_cases s.0 (links_of steps) e c) }
+    record {
+      turn = go r.0;
+      least = λ e c. ⊎_elim (λ (q : s.0 ≡ e). let m = r.1.0 in omega arith) (λ (q : Contains (links_of steps) e). r.1.1 e q)
+          (contains_cases s.0 (links_of steps) e c);
+    }
   where
     go : Chosen steps s best → turn_of (s ∷ steps) best.0 ≡ Some best.1
     go (kept e) = turn-same s.0 s.1 steps best.0 (sym (ap (λ (p : ℕ × Bool). p.0) e)) ∙ ap (λ (p : ℕ × Bool). Some p.1) (sym e)

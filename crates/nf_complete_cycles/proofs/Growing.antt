@@ -37,7 +37,7 @@ module _ (hops : List Hop) (chosen : List Bool) (from : ℕ) where
   ends_in [] t e hop c p = absurd (contains_none e c)
   ends_in (s ∷ older) (g, q, a, b, n, t) e hop c p = ⊎_elim
       (λ (w : s.0 ≡ e). subst (λ (h : Hop). InTree hops from (s ∷ older) h.tail × InTree hops from (s ∷ older) h.head)
-          (IsHop-unique hops e g hop (subst (λ (k : ℕ). IsHop hops k g) w q) p)
+      (IsHop-unique hops e g hop (subst (λ (k : ℕ). IsHop hops k g) w q) p)
       (ends_both (InTree hops from (s ∷ older)) s.1 g (inr b) (inl (end_is hops s g q))))
       (λ (w : Contains (links_of older) e). let r = ends_in older t e hop w p in (inr r.0, inr r.1))
       (contains_cases s.0 (links_of older) e c)
@@ -73,14 +73,20 @@ module _ (hops : List Hop) (chosen : List Bool) (from : ℕ) where
   back-trail (s ∷ older) (g, q, a, b, n, t) v i = ⊎_elim
       (λ (w : (eqb (end_at hops s) v ≡ true) × (end_at hops s ≡ v)).
       let r : Back (way_back hops older (begin_at hops s)) (begin_at hops s) =
-          back-trail older t (begin_at hops s) (subst (λ (k : ℕ). InTree hops from older k) (sym (begin_is hops s g q)) b) in
+      back-trail older t (begin_at hops s) (subst (λ (k : ℕ). InTree hops from older k) (sym (begin_is hops s g q)) b) in
       by w.0 (
-        (g, q, a, first_step s.1 g v (sym (end_is hops s g q) ∙ w.1), subst
-            (λ (k : ℕ). IsTrail hops (Has chosen) (way_back hops older (begin_at hops s)) k from) (begin_is hops s g q ∙ next_node s.1 g) r.0),
+        (
+          g,
+          q,
+          a,
+          first_step s.1 g v (sym (end_is hops s g q) ∙ w.1),
+          subst
+              (λ (k : ℕ). IsTrail hops (Has chosen) (way_back hops older (begin_at hops s)) k from) (begin_is hops s g q ∙ next_node s.1 g) r.0,
+        ),
         ((λ c. n (end_by (InTree hops from older) s.1 g (ends_in older t s.0 g (back_in older (begin_at hops s) s.0 c) q))), r.1),
       ))
       (λ (w : (eqb (end_at hops s) v ≡ false) × (end_at hops s ≢ v)). by w.0
-          (back-trail older t v (⊎_elim (λ (x : end_at hops s ≡ v). absurd (w.1 x)) (λ (x : InTree hops from older v). x) i)))
+      (back-trail older t v (⊎_elim (λ (x : end_at hops s ≡ v). absurd (w.1 x)) (λ (x : InTree hops from older v). x) i)))
       (eqb_tells (end_at hops s) v)
     where
       by : {b : Bool} → eqb (end_at hops s) v ≡ b → Back (if b then (s.0, not s.1) ∷ way_back hops older (begin_at hops s) else way_back hops older v) v

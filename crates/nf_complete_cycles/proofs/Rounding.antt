@@ -42,7 +42,7 @@ pub round-contains : (steps done : List (ℕ × Bool)) (e : ℕ) → Contains (l
 round-contains [] done e c = inl c
 round-contains (s ∷ steps) done e c = ⊎_elim
     (λ (h : Contains (s.0 ∷ links_of done) e). ⊎_elim (λ (q : s.0 ≡ e). inr (contains_first s.0 (links_of steps) e q))
-        (λ (q : Contains (links_of done) e). inl q) (contains_cases s.0 (links_of done) e h))
+    (λ (q : Contains (links_of done) e). inl q) (contains_cases s.0 (links_of done) e h))
     (λ (h : Contains (links_of steps) e). inr (contains_more s.0 (links_of steps) e h))
     (round-contains steps ((s.0, not s.1) ∷ done) e c)
 
@@ -63,7 +63,7 @@ round-differ [] done d f n = f
 round-differ (s ∷ steps) done d f n = round-differ steps ((s.0, not s.1) ∷ done) d.1
     ((λ c. n s.0 (contains_first s.0 (links_of steps) s.0 refl) c), f)
     (λ e c k. ⊎_elim (λ (q : s.0 ≡ e). d.0 (subst (λ (i : ℕ). Contains (links_of steps) i) (sym q) c))
-        (λ (q : Contains (links_of done) e). n e (contains_more s.0 (links_of steps) e c) q) (contains_cases s.0 (links_of done) e k))
+    (λ (q : Contains (links_of done) e). n e (contains_more s.0 (links_of steps) e c) q) (contains_cases s.0 (links_of done) e k))
 
 -- ---- each link is used in the opposite direction
 pub turn-same : (f : ℕ) (b : Bool) (steps : List (ℕ × Bool)) (e : ℕ) → f ≡ e → turn_of ((f, b) ∷ steps) e ≡ Some b

@@ -199,7 +199,7 @@ module _ (net : Network) (sets : Sets) (rate : ℚ) where
       (λ x o. (((o.starts, o.no_negative_slope), (o.led, o.enough)), (o.inactive, (o.resetting, o.others))))
       (Described-both AtNodes AtLinks
       (Described-both (λ x. Starts x × NotNegative x) (λ x. Led x × Enough x) (Described-both Starts NotNegative starts_described not_negative_described)
-          (Described-both Led Enough led_described enough_described))
+      (Described-both Led Enough led_described enough_described))
       (Described-both (EachLink net.links InactiveAt) (λ x. EachLink net.links ResettingAt x × EachLink net.links OthersAt x) inactive_described
       (Described-both (EachLink net.links ResettingAt) (EachLink net.links OthersAt) resetting_described others_described)))
 

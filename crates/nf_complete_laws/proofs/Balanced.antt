@@ -86,19 +86,19 @@ module _ (net : Network) (sets : Sets) (rate : ℚ) (flows slopes : ℕ → ℚ)
   exits e link p a = ⊎_elim
       (λ (w : (flag sets.resetting e ≡ true) × Has sets.resetting e).
       let just : exit_of e link ≡ slopes link.head = exit-is e link p true w.0
-          ∙ exit_resetting link.capacity (flows e) (slopes link.tail) (slopes link.head) (IsPositive-link net e link good p)
-          (over.resetting e link p w.1) in
+      ∙ exit_resetting link.capacity (flows e) (slopes link.tail) (slopes link.head) (IsPositive-link net e link good p)
+      (over.resetting e link p w.1) in
       (≤ℚ_of_same _ _ (sym just), λ _. just))
       (λ (w : (flag sets.resetting e ≡ false) × (Has sets.resetting e → ⊥)).
       let fits : Fits link.capacity (flows e) (slopes link.tail) (slopes link.head) = over.others e link p (a, w.1) in
       let is : exit_of e link ≡ exit_slope false link.capacity (flows e) (slopes link.tail) = exit-is e link p false w.0 in
       let just : slopes link.tail ≤ℚ slopes link.head → exit_of e link ≡ slopes link.head = λ h. is
-          ∙ fits_exit link.capacity (flows e) (slopes link.tail) (slopes link.head) (IsPositive-link net e link good p) fits h in (
+      ∙ fits_exit link.capacity (flows e) (slopes link.tail) (slopes link.head) (IsPositive-link net e link good p) fits h in (
         subst (λ (z : ℚ). slopes link.head ≤ℚ z) (sym is) (fits_least link.capacity (flows e) (slopes link.tail) (slopes link.head) (IsPositive-link net e link good p) fits),
         λ c. ⊎_elim
             (λ (k : 0ℚ <ℚ flows e). just (fits_used link.capacity (flows e) (slopes link.tail) (slopes link.head) fits k))
             (λ (o : Has sets.resetting e ⊎ (slopes link.tail ≤ℚ slopes link.head)). ⊎_elim (λ (r : Has sets.resetting e). absurd (w.1 r))
-                (λ (k : slopes link.tail ≤ℚ slopes link.head). just k) o)
+            (λ (k : slopes link.tail ≤ℚ slopes link.head). just k) o)
             c,
       ))
       (flag-cases sets.resetting e)

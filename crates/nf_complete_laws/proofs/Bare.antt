@@ -90,7 +90,7 @@ module _ (net : Network) (sets : Sets) (rate : ℚ) (flows slopes : List ℚ) (g
   first_level_or_not : (e : ℕ) (link : Link) → IsLink net e link → Has sets.active e → Decided (IsFirstLevel net sets slopes e link)
   first_level_or_not e link p a = ⊎_elim
       (λ (l : number_at slopes link.head ≡ number_at slopes link.tail). by_first l
-          (first_or_none net.links (λ k before. (k < e) × LevelInto link.head k before) (λ k before. both (below k e) (level_or_not link.head k before))))
+      (first_or_none net.links (λ k before. (k < e) × LevelInto link.head k before) (λ k before. both (below k e) (level_or_not link.head k before))))
       (λ (n : number_at slopes link.head ≡ number_at slopes link.tail → ⊥). inr (λ f. n f.level))
       (same_or_not (number_at slopes link.head) (number_at slopes link.tail))
     where
@@ -102,9 +102,9 @@ module _ (net : Network) (sets : Sets) (rate : ℚ) (flows slopes : List ℚ) (g
           → Decided (IsFirstLevel net sets slopes e link)
       by_first l c = ⊎_elim
           (λ (f : First net.links (λ k before. (k < e) × LevelInto link.head k before)). inr
-              (λ i. i.first f.0 f.1 f.3.0 (record { is_link = f.2; active = f.3.1.0; head = f.3.1.1.0 }) f.3.1.1.1))
+          (λ i. i.first f.0 f.1 f.3.0 (record { is_link = f.2; active = f.3.1.0; head = f.3.1.1.0 }) f.3.1.1.1))
           (λ (n : NoLink net.links (λ k before. (k < e) × LevelInto link.head k before)). inl
-              (record { level = l; first = λ other before h m k. n other before m.is_link (h, (m.active, (m.head, k))) }))
+          (record { level = l; first = λ other before h m k. n other before m.is_link (h, (m.active, (m.head, k))) }))
           c
 
   pub leads_or_not : (e : ℕ) (link : Link) → IsLink net e link → Has sets.active e → Decided (LeadsToBare net sets flows slopes e link)

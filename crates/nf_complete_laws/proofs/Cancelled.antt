@@ -144,23 +144,26 @@ module _ (passes : Passing) (net : Network) (sets : Sets) (rate : ℚ) (flows sl
   -- the flow that fills a link
   full_here : (e : ℕ) (link : Link) → IsLink net e link → (y : Option ℚ) × (slice_get fulls e ≡ Some y)
       × (full_on passes (unwrap_or (slice_get sets.active e) false) link.capacity (number_at slopes link.head) ≡ Ok y)
-  full_here e link p = let g = each-at (full_at passes sets slopes) net.links 0 fulls fulls_each e link p in
-      (g.0, g.1, subst (λ (k : ℕ). full_on passes (unwrap_or (slice_get sets.active k) false) link.capacity (number_at slopes link.head) ≡ Ok g.0)
-          (let z : 0 + e ≡ e = omega arith in z) g.2)
+  full_here e link p = let g = each-at (full_at passes sets slopes) net.links 0 fulls fulls_each e link p in (
+    g.0,
+    g.1,
+    subst (λ (k : ℕ). full_on passes (unwrap_or (slice_get sets.active k) false) link.capacity (number_at slopes link.head) ≡ Ok g.0)
+        (let z : 0 + e ≡ e = omega arith in z) g.2,
+  )
 
   full_bounded : (e : ℕ) (link : Link) (c : ℚ) → IsLink net e link → Has sets.active e → link.capacity ≡ Some c
       → unwrap_or (slice_get fulls e) None ≡ Some (c *ℚ number_at slopes link.head)
   full_bounded e link c p a h = let g = full_here e link p in
       ap (λ (o : Option (Option ℚ)). unwrap_or o None) g.1
       ∙ full-some passes c (number_at slopes link.head) g.0 (subst (λ (b : Bool). full_on passes b (Some c) (number_at slopes link.head) ≡ Ok g.0)
-          (ap (λ (o : Option Bool). unwrap_or o false) a)
+      (ap (λ (o : Option Bool). unwrap_or o false) a)
       (subst (λ (k : Option ℚ). full_on passes (unwrap_or (slice_get sets.active e) false) k (number_at slopes link.head) ≡ Ok g.0) h g.2))
 
   full_unbounded : (e : ℕ) (link : Link) → IsLink net e link → link.capacity ≡ None → unwrap_or (slice_get fulls e) None ≡ None
   full_unbounded e link p h = let g = full_here e link p in
       ap (λ (o : Option (Option ℚ)). unwrap_or o None) g.1
       ∙ full-none passes (unwrap_or (slice_get sets.active e) false) (number_at slopes link.head) g.0
-          (subst (λ (k : Option ℚ). full_on passes (unwrap_or (slice_get sets.active e) false) k (number_at slopes link.head) ≡ Ok g.0) h g.2)
+      (subst (λ (k : Option ℚ). full_on passes (unwrap_or (slice_get sets.active e) false) k (number_at slopes link.head) ≡ Ok g.0) h g.2)
 
   -- the room of a link
   room_here : (e : ℕ) (x : ℚ) → slice_get flows e ≡ Some x → (r : Option ℚ) × (slice_get rooms e ≡ Some r)
@@ -171,25 +174,25 @@ module _ (passes : Passing) (net : Network) (sets : Sets) (rate : ℚ) (flows sl
   room_back : (e : ℕ) (x : ℚ) → slice_get flows e ≡ Some x → turn_of steps e ≡ Some false → slice_get rooms e ≡ Some (Some x)
   room_back e x p h = let g = room_here e x p in
       g.1 ∙ ap (λ (o : Option ℚ). Some o) (room-back passes (unwrap_or (slice_get fulls e) None) x g.0
-          (subst (λ (o : Option Bool). room_on passes o (unwrap_or (slice_get fulls e) None) x ≡ Ok g.0) h g.2))
+      (subst (λ (o : Option Bool). room_on passes o (unwrap_or (slice_get fulls e) None) x ≡ Ok g.0) h g.2))
 
   room_forth : (e : ℕ) (x : ℚ) (link : Link) (c : ℚ) → slice_get flows e ≡ Some x → turn_of steps e ≡ Some true → IsLink net e link → Has sets.active e → link.capacity ≡ Some c
       → slice_get rooms e ≡ Some (Some (c *ℚ number_at slopes link.head -ℚ x))
   room_forth e x link c p h l a k = let g = room_here e x p in
       g.1 ∙ ap (λ (o : Option ℚ). Some o) (room-forth passes (c *ℚ number_at slopes link.head) x g.0
       (subst (λ (f : Option ℚ). room_on passes (Some true) f x ≡ Ok g.0) (full_bounded e link c l a k)
-          (subst (λ (o : Option Bool). room_on passes o (unwrap_or (slice_get fulls e) None) x ≡ Ok g.0) h g.2)))
+      (subst (λ (o : Option Bool). room_on passes o (unwrap_or (slice_get fulls e) None) x ≡ Ok g.0) h g.2)))
 
   room_free : (e : ℕ) (x : ℚ) (link : Link) → slice_get flows e ≡ Some x → turn_of steps e ≡ Some true → IsLink net e link → link.capacity ≡ None → slice_get rooms e ≡ Some None
   room_free e x link p h l k = let g = room_here e x p in
       g.1 ∙ ap (λ (o : Option ℚ). Some o) (room-free passes x g.0
       (subst (λ (f : Option ℚ). room_on passes (Some true) f x ≡ Ok g.0) (full_unbounded e link l k)
-          (subst (λ (o : Option Bool). room_on passes o (unwrap_or (slice_get fulls e) None) x ≡ Ok g.0) h g.2)))
+      (subst (λ (o : Option Bool). room_on passes o (unwrap_or (slice_get fulls e) None) x ≡ Ok g.0) h g.2)))
 
   room_none : (e : ℕ) (x : ℚ) → slice_get flows e ≡ Some x → turn_of steps e ≡ None → slice_get rooms e ≡ Some None
   room_none e x p h = let g = room_here e x p in
       g.1 ∙ ap (λ (o : Option ℚ). Some o) (room-none passes (unwrap_or (slice_get fulls e) None) x g.0
-          (subst (λ (o : Option Bool). room_on passes o (unwrap_or (slice_get fulls e) None) x ≡ Ok g.0) h g.2))
+      (subst (λ (o : Option Bool). room_on passes o (unwrap_or (slice_get fulls e) None) x ≡ Ok g.0) h g.2))
 
   -- a link with a room is used forward, up to the flow that fills it, or backward, down to 0
   data Room (e : ℕ) (x y : ℚ) : Type 0 where
@@ -291,7 +294,7 @@ module _ (passes : Passing) (net : Network) (sets : Sets) (rate : ℚ) (flows sl
   new_most e true h link c p k = let x = entry flows e (let b = below e true h in let n = thin.flow_count in omega arith) in
       grown_most (number_at flows e) amount _ _ (moved_by e true h)
       (subst (λ (z : ℚ). amount ≤ℚ c *ℚ number_at slopes link.head -ℚ z) (sym (number_at-is flows e x.0 x.1))
-          (amount_bound e _ (room_forth e x.0 link c x.1 h p (interior e true h).needs.0 k)))
+      (amount_bound e _ (room_forth e x.0 link c x.1 h p (interior e true h).needs.0 k)))
   new_most e false h link c p k = shrunk_most (number_at flows e) amount _ _ (moved_by e false h) amount_nn (≤ℚ_of_lt _ _ (interior_most e (interior e false h) link c p k))
 
   same_or_level : (e : ℕ) → (number_at new e ≡ number_at flows e) ⊎ (Has sets.active e × ((link : Link) → IsLink net e link → IsLevel net sets slopes e link (number_at new e)))
@@ -315,9 +318,9 @@ module _ (passes : Passing) (net : Network) (sets : Sets) (rate : ℚ) (flows sl
   same_surplus : (v : ℕ) → v < net.nodes → surplus net new v ≡ surplus net flows v
   same_surplus v h = node_line _ _ _ _ (sum_out net.links (carried_by steps) v) (sum_in net.links (carried_by steps) v) amount
       (sum_out-same net.links (number_at new) (λ e. number_at flows e +ℚ carried_by steps e *ℚ amount) v
-          (λ e l p at. new_is e (slice_get_within net.links e l p)) ∙ sum_out-line net.links (number_at flows) (carried_by steps) amount v)
+      (λ e l p at. new_is e (slice_get_within net.links e l p)) ∙ sum_out-line net.links (number_at flows) (carried_by steps) amount v)
       (sum_in-same net.links (number_at new) (λ e. number_at flows e +ℚ carried_by steps e *ℚ amount) v
-          (λ e l p at. new_is e (slice_get_within net.links e l p)) ∙ sum_in-line net.links (number_at flows) (carried_by steps) amount v)
+      (λ e l p at. new_is e (slice_get_within net.links e l p)) ∙ sum_in-line net.links (number_at flows) (carried_by steps) amount v)
       (carried-closed net (IsInterior net sets slopes flows) steps cycle.start cycle.trail cycle.differ v)
 
   pub IsThinFlow-cancelled : IsThinFlow net sets rate new slopes
@@ -341,16 +344,19 @@ module _ (passes : Passing) (net : Network) (sets : Sets) (rate : ℚ) (flows sl
   Ended = (e : ℕ) × IsInterior net sets slopes flows e × (IsInterior net sets slopes new e → ⊥)
 
   ended_by : (e : ℕ) (x a : ℚ) → slice_get flows e ≡ Some x → amount ≡ a → Room e x a → Ended
-  ended_by e x a p s (back h k) =
-      (e, interior e false h, λ i. not_both_ℚ _ _ i.some (≤ℚ_of_same _ _ (emptied (number_at flows e) amount _ (moved_by e false h)
-      (number_at-is flows e x p ∙ k ∙ sym s))))
+  ended_by e x a p s (back h k) = (
+    e,
+    interior e false h,
+    λ i. not_both_ℚ _ _ i.some (≤ℚ_of_same _ _ (emptied (number_at flows e) amount _ (moved_by e false h)
+        (number_at-is flows e x p ∙ k ∙ sym s))),
+  )
   ended_by e x a p s (forth link c h l k g) = (
     e,
     interior e true h,
     λ i. not_both_ℚ _ _
         (subst (λ (m : Link). (c : ℚ) → m.capacity ≡ Some c → number_at new e <ℚ c *ℚ number_at slopes m.head) (IsLink-unique net e i.link link i.is_link l) i.not_full c k)
         (≤ℚ_of_same _ _ (sym (filled (number_at flows e) amount _ (c *ℚ number_at slopes link.head) (moved_by e true h)
-            (ap (λ (z : ℚ). c *ℚ number_at slopes link.head -ℚ z) (number_at-is flows e x p) ∙ g ∙ sym s)))),
+        (ap (λ (z : ℚ). c *ℚ number_at slopes link.head -ℚ z) (number_at-is flows e x p) ∙ g ∙ sym s)))),
   )
 
   pub one-ended : Ended

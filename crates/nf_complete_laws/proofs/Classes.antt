@@ -143,7 +143,7 @@ module _ (net : Network) (sets : Sets) (rate : ℚ) (flows slopes : List ℚ) (p
       (λ (r : (flag sets.resetting e ≡ true) × Has sets.resetting e). subst (λ (b : Bool). Equation None b link.capacity (x e) (l link.tail) (l link.head)) (sym r.0)
       (reset_fills link.capacity (x e) (l link.tail) (l link.head) (λ h. good.bounded e link p h r.1)
       (subst (λ (b : Bool). LinkLaw b link.capacity (x e) (l link.tail) (l link.head)) r.0
-          (link_law net sets rate good.network good.acyclic flows slopes thin e link p (good.sets_are.resetting e r.1)))))
+      (link_law net sets rate good.network good.acyclic flows slopes thin e link p (good.sets_are.resetting e r.1)))))
       (λ (r : (flag sets.resetting e ≡ false) × (Has sets.resetting e → ⊥)). subst (λ (b : Bool). Equation None b link.capacity (x e) (l link.tail) (l link.head)) (sym r.0)
       (thin.active_only e (λ a. n (a, r.1))))
       (flag-cases sets.resetting e)

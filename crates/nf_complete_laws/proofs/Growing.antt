@@ -111,7 +111,7 @@ module _ (net : Network) (sets : Sets) (rate : ℚ) (slopes : ℕ → ℚ) (good
       -- ---- a push of the amount a from one node to another
       module _ (d : ℚ) (giver gainer : ℕ) (a : ℚ) (above : 0ℚ <ℚ a) (nn : 0ℚ ≤ℚ flows e +ℚ d) (most : IsAtMost link.capacity (flows e +ℚ d) (slopes link.head))
           (gives : spare net rate (pushed net rate flows e link p d) giver ≡ spare net rate flows giver -ℚ a) (has : HasSpare net rate flows giver)
-              (less : a <ℚ spare net rate flows giver)
+          (less : a <ℚ spare net rate flows giver)
           (gains : spare net rate (pushed net rate flows e link p d) gainer ≡ spare net rate flows gainer +ℚ a) (is_node : gainer < net.nodes) (not_source : gainer ≢ net.source)
           (had_none : HasSpare net rate flows gainer → ⊥)
           (others : (v : ℕ) → v ≢ giver → v ≢ gainer → spare net rate (pushed net rate flows e link p d) v ≡ spare net rate flows v)

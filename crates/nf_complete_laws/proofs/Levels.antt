@@ -20,7 +20,7 @@ module _ (net : Network) (sets : Sets) (rate : ℚ) (flows slopes : List ℚ) (g
       (λ (w : (flag sets.resetting e ≡ true) × Has sets.resetting e). absurd (n.1 w.1))
       (λ (w : (flag sets.resetting e ≡ false) × (Has sets.resetting e → ⊥)).
       subst (λ (b : Bool). LinkLaw b link.capacity (number_at flows e) (number_at slopes link.tail) (number_at slopes link.head)) w.0
-          (link_law net sets rate good acyclic flows slopes thin e link p n.0))
+      (link_law net sets rate good acyclic flows slopes thin e link p n.0))
       (flag-cases sets.resetting e)
 
   pub interior-level : (e : ℕ) → IsInterior net sets slopes flows e → (link : Link) → IsLink net e link → number_at slopes link.head ≡ number_at slopes link.tail

@@ -261,12 +261,12 @@ module _ (net : Network) (sets : Sets) (rate : ℚ) (flows slopes : ℕ → ℚ)
     new-same : (e : ℕ) (link : Link) → IsLink net e link → (Spares link.head → ⊥) → new e ≡ flows e
     new-same e link p none = new-is e link p
         ∙ capped-same link.capacity (flows e) (lowered link.head) (subst (λ (t : ℚ). IsAtMost link.capacity (flows e) t) (sym (lowered-not link.head none))
-            (at_most net sets rate flows slopes good over e link p))
+        (at_most net sets rate flows slopes good over e link p))
 
     new-near : (e : ℕ) (link : Link) → IsLink net e link → flows e ≤ℚ new e +ℚ capacity_at net e *ℚ h
     new-near e link p = subst (λ (o : Option Link). flows e ≤ℚ lowered_by o (flows e) +ℚ capacity_by o *ℚ h) (sym p)
         (capped-near link.capacity (flows e) (slopes link.head) (lowered link.head) h (IsPositive-link net e link good p) n
-            (at_most net sets rate flows slopes good over e link p) (lowered-near link.head))
+        (at_most net sets rate flows slopes good over e link p) (lowered-near link.head))
 
     less_out : (v : ℕ) → sum_out net.links new v ≤ℚ sum_out net.links flows v
     less_out v = sum_out-order net.links new flows v (λ e link p _. new-le e link p)
@@ -316,7 +316,7 @@ module _ (net : Network) (sets : Sets) (rate : ℚ) (flows slopes : ℕ → ℚ)
       no_negative_slope = lowered-not_negative;
       inactive = λ e link p none. new-is e link p
           ∙ capped-none link.capacity (flows e) (lowered link.head) (IsPositive-link net e link good p) (over.inactive e link p none)
-              (lowered-not_negative link.head (good.heads e link p));
+          (lowered-not_negative link.head (good.heads e link p));
       resetting = λ e link p r. subst (λ (x : ℚ). Fills link.capacity x (lowered link.head)) (sym (new-is e link p))
           (capped-fills link.capacity (flows e) (slopes link.head) (lowered link.head) (IsPositive-link net e link good p) (over.resetting e link p r) (lowered-le link.head));
       others = others;

@@ -81,7 +81,7 @@ module _ (net : Network) (rate : ℚ) (flows : ℕ → ℚ) (e : ℕ) (link : Li
       others = λ k other q a. ⊎_elim
           (λ (w : (k ≡ e) × (pushed k ≡ flows e +ℚ d)). subst (λ (x : ℚ). Fits other.capacity x (slopes other.tail) (slopes other.head)) (sym w.1)
           (subst (λ (l : Link). Fits l.capacity (flows e +ℚ d) (slopes l.tail) (slopes l.head))
-              (IsLink-unique net e link other p (subst (λ (j : ℕ). IsLink net j other) w.0 q)) (fits n m)))
+          (IsLink-unique net e link other p (subst (λ (j : ℕ). IsLink net j other) w.0 q)) (fits n m)))
           (λ (w : (k ≢ e) × (pushed k ≡ flows k)). subst (λ (x : ℚ). Fits other.capacity x (slopes other.tail) (slopes other.head)) (sym w.1) (over.others k other q a))
           (pushed-cases k);
       led = over.led;

@@ -45,7 +45,7 @@ module _ (net : Network) (sets : Sets) (rate : ℚ) (flows slopes : ℕ → ℚ)
   pub not_negative : (e : ℕ) (link : Link) → IsLink net e link → 0ℚ ≤ℚ flows e
   not_negative e link p = ⊎_elim
       (λ (r : Has sets.resetting e). not_negative-fills link.capacity _ _ (IsPositive-link net e link good p) (over.resetting e link p r)
-          (over.no_negative_slope link.head (good.heads e link p)))
+      (over.no_negative_slope link.head (good.heads e link p)))
       (λ (o : NeedsState sets e ⊎ (Has sets.active e → ⊥)). ⊎_elim
       (λ (n : NeedsState sets e). (over.others e link p n).no_negative)
       (λ (a : Has sets.active e → ⊥). ≤ℚ_of_same _ _ (sym (over.inactive e link p a)))
@@ -58,7 +58,7 @@ module _ (net : Network) (sets : Sets) (rate : ℚ) (flows slopes : ℕ → ℚ)
       (λ (o : NeedsState sets e ⊎ (Has sets.active e → ⊥)). ⊎_elim
       (λ (n : NeedsState sets e). (over.others e link p n).most)
       (λ (a : Has sets.active e → ⊥). IsAtMost-none link.capacity _ _ (IsPositive-link net e link good p) (over.inactive e link p a)
-          (over.no_negative_slope link.head (good.heads e link p)))
+      (over.no_negative_slope link.head (good.heads e link p)))
       o)
       (kind_of sets e)
 

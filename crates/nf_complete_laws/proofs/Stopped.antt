@@ -70,7 +70,7 @@ module _ (passes : Passing) (net : Network) (good : IsNetwork net) (bounds : Bou
   no_answer s phase (PassesAt place at) k h well flows slopes thin = passed_other (suc s.made) (Some place) at phase (same_Some _ _ h)
   no_answer s phase NoPattern k h well flows slopes thin =
       none-search passes net (sets_at net s.labels) (rate_at net s.time) k.search.base bounds.patterns flows slopes (AreGoodSets-well net good s well)
-          (rate_from-not_negative net.pieces s.time good.pieces) k.search.is_search thin
+      (rate_from-not_negative net.pieces s.time good.pieces) k.search.is_search thin
 
   none_fails : (s : Standing) (c : Cause ℚ) (phase : ℕ) → c ≡ Cause.NoPattern phase → WellRun net s → Fails passes net bounds.horizon bounds.patterns s c → NoneGoesOn net s
   none_fails s _ phase e well (at_slack p below h) flows slopes thin = passed_other _ _ _ phase e

@@ -74,9 +74,16 @@ second_active : Has queue_sets.active 1
 second_active = active_of_slack two_links queue_labels 1 unbounded_link refl second_slack
 
 EachIsEntered-two_links : EachIsEntered two_links queue_sets
-EachIsEntered-two_links v h other =
-    (1, unbounded_link, record { is_link = refl; active = second_active; head =
-    node_cases (λ (v : ℕ). (v ≡ 0 → ⊥) → 1 ≡ v) v h (λ o. absurd (o refl)) (λ _. refl) other })
+EachIsEntered-two_links v h other = (
+  1,
+  unbounded_link,
+  record {
+    is_link = refl;
+    active = second_active;
+    head =
+        node_cases (λ (v : ℕ). (v ≡ 0 → ⊥) → 1 ≡ v) v h (λ o. absurd (o refl)) (λ _. refl) other;
+  },
+)
 
 ResetsAreBounded-two_links : ResetsAreBounded two_links queue_sets
 ResetsAreBounded-two_links e link p = by_link (λ e (l : Link). l.capacity ≡ None → Has queue_sets.resetting e → ⊥) e link p

@@ -44,7 +44,7 @@ none-before low high (p ∷ rest) = ⊎_elim
     (λ (w : (lt_ℚ low p.0 ≡ false) × (p.0 ≤ℚ low)).
     ap (λ (k : ℕ). filter (lies_between low high) (take k (p ∷ rest))) (place-past low p rest w.1)
     ∙ ap (λ (b : Bool). cond (b && lt_ℚ p.0 high) (p ∷ filter (lies_between low high) (take (place_of low rest) rest))
-        (filter (lies_between low high) (take (place_of low rest) rest))) w.0
+    (filter (lies_between low high) (take (place_of low rest) rest))) w.0
     ∙ none-before low high rest)
     (lt_ℚ_cases low p.0)
 
@@ -59,7 +59,7 @@ later-from-place time [] r = tt
 later-from-place time (p ∷ rest) r = ⊎_elim
     (λ (w : (lt_ℚ time p.0 ≡ true) × (time <ℚ p.0)). subst (λ (k : ℕ). AllLater time (drop k (p ∷ rest))) (sym (place-behind time p rest w.1)) (first-later time p rest r w.1))
     (λ (w : (lt_ℚ time p.0 ≡ false) × (p.0 ≤ℚ time)). subst (λ (k : ℕ). AllLater time (drop k (p ∷ rest))) (sym (place-past time p rest w.1))
-        (later-from-place time rest (rises-rest p rest r)))
+    (later-from-place time rest (rises-rest p rest r)))
     (lt_ℚ_cases time p.0)
 
 later-front : (time : ℚ) (front back : List Point) → AllLater time (front ++ back) → AllLater time front
@@ -72,7 +72,7 @@ unfolding AllLater
 none-behind low high [] a = refl
 none-behind low high (p ∷ rest) a =
     ap (λ (b : Bool). cond b (p ∷ filter (lies_between low high) rest) (filter (lies_between low high) rest))
-        (second_false (lt_ℚ low p.0) (lt_ℚ p.0 high) (not_below_test p.0 high (≤ℚ_of_lt _ _ a.0)))
+    (second_false (lt_ℚ low p.0) (lt_ℚ p.0 high) (not_below_test p.0 high (≤ℚ_of_lt _ _ a.0)))
     ∙ none-behind low high rest a.1
 
 one-test : (low high : ℚ) (points : List Point) → AllLater low points → filter (lies_between low high) points ≡ filter (λ (p : Point). lt_ℚ p.0 high) points
@@ -93,13 +93,13 @@ between-places low high points i j r h e f =
     let order : i ≤ j = subst (λ (k : ℕ). k ≤ j) (sym e) (subst (λ (k : ℕ). place_of low points ≤ k) (sym f) (place-rises low high points h)) in
     let split : drop i points ≡ slice_range points i j ++ drop j points = drop_split points i j order in
     let all : AllLater low (slice_range points i j ++ drop j points) = subst (AllLater low) split
-        (subst (λ (k : ℕ). AllLater low (drop k points)) (sym e) (later-from-place low points r)) in
+    (subst (λ (k : ℕ). AllLater low (drop k points)) (sym e) (later-from-place low points r)) in
     let behind_all : AllLater high (drop j points) = subst (λ (k : ℕ). AllLater high (drop k points)) (sym f) (later-from-place high points r) in
     ap (filter (lies_between low high)) (take-drop i points) ∙ filter-append (lies_between low high) (take i points) (drop i points)
     ∙ ap (λ (l : List Point). l ++ filter (lies_between low high) (drop i points)) (ap (λ (k : ℕ). filter (lies_between low high) (take k points)) e ∙ none-before low high points)
     ∙ ap (filter (lies_between low high)) split ∙ filter-append (lies_between low high) (slice_range points i j) (drop j points)
     ∙ ap (λ (l : List Point). filter (lies_between low high) (slice_range points i j) ++ l) (none-behind low high (drop j points) behind_all)
-        ∙ append-nil (filter (lies_between low high) (slice_range points i j))
+    ∙ append-nil (filter (lies_between low high) (slice_range points i j))
     ∙ one-test low high (slice_range points i j) (later-front low (slice_range points i j) (drop j points) all)
 
 -- ---- along them
@@ -131,7 +131,7 @@ along-level first last points s t = ap (λ (b : Bool). points_along b first last
     none (p ∷ rest) = ⊎_elim
         (λ (w : (lt_ℚ p.0 first ≡ true) × (p.0 <ℚ first)).
         ap (λ (b : Bool). cond (b && lt_ℚ p.0 first) (p ∷ filter (lies_between last first) rest) (filter (lies_between last first) rest))
-            (not_below_test last p.0 (below w.1)) ∙ none rest)
+        (not_below_test last p.0 (below w.1)) ∙ none rest)
         (λ (w : (lt_ℚ p.0 first ≡ false) × (first ≤ℚ p.0)).
         ap (λ (b : Bool). cond b (p ∷ filter (lies_between last first) rest) (filter (lies_between last first) rest)) (second_false (lt_ℚ last p.0) (lt_ℚ p.0 first) w.0) ∙ none rest)
         (lt_ℚ_cases p.0 first)

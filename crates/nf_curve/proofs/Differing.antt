@@ -38,7 +38,7 @@ module _ (passes : Passing) (left right : List Point) (last : ℚ) where
       by_sides : (r : Checked Sides) → (r >>= λ s. differ_at passes (do_differ s) time left right >>= λ ends. difference_here passes left right s ends
           (difference_from passes left right last times))
           ≡ ((r >>= λ s. differ_at passes (do_differ s) time left right >>= λ ends. Ok (if ends then Some s else None)) >>= λ found. or_later found
-              (difference_from passes left right last times))
+          (difference_from passes left right last times))
       by_sides (Ok s) = by_corner s (differ_at passes (do_differ s) time left right)
       by_sides (Err q) = refl
 
@@ -117,14 +117,19 @@ module _ (last : ℚ) (left right : List Point) where
 
   pub kept-before : (now kept : Option Moment) → kept ≡ only_before last now → IsThere left right now → Kept now kept
   kept-before now kept e w =
-      subst (λ (k : Option Moment). Kept now k) (sym e) (record { there = only-there now w; before = only-before now; times = only-times now; fewer =
-      only-fewer now })
+      subst (λ (k : Option Moment). Kept now k) (sym e) (record {
+        there = only-there now w;
+        before = only-before now;
+        times = only-times now;
+        fewer =
+            only-fewer now;
+      })
 
 -- what a step gives, by the tests that it makes
 pub step_found : (passes : Passing) (left right : List Point) (time : ℚ) (part : Part) (sides : Sides) (differ ends found : Bool)
     → Ok sides ≡ at_part part (sides_at passes left right time)
     → do_differ sides ≡ differ → Ok ends ≡ at_part part (differ_at passes differ time left right) → ends ≡ found
-        → Ok (if found then Some sides else None) ≡ at_part part (difference_step passes left right time)
+    → Ok (if found then Some sides else None) ≡ at_part part (difference_step passes left right time)
 step_found passes left right time part sides differ ends found e t d f =
     sym (after_ok part (sides_at passes left right time) (λ sides. differ_at passes (do_differ sides) time left right >>= λ ends. Ok (if ends then Some sides else None)) sides (sym e)
     ∙ ap (λ (t : Bool). at_part part (differ_at passes t time left right >>= λ ends. Ok (if ends then Some sides else None))) t

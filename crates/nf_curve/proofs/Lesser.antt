@@ -29,7 +29,7 @@ module _ (passes : Passing) (part : Part) (left right : List Point) where
   first_goes time times all a first e =
       one (least_after passes left right first times)
       ∙ sym (ap (λ (l : List ℚ). least_from passes left right l) a ∙ ap (λ (r : Checked Sides). r >>= λ first. least_after passes left right first
-          times >>= λ rest. Ok (least_point first ∷ rest)) (was_ok part (sides_at passes left right time) first e))
+      times >>= λ rest. Ok (least_point first ∷ rest)) (was_ok part (sides_at passes left right time) first e))
     where
       one : (r : Checked (List Point)) → with_front (least_point first ∷ []) r ≡ (r >>= λ rest. Ok (least_point first ∷ rest))
       one (Ok ys) = refl
@@ -55,6 +55,6 @@ module _ (passes : Passing) (part : Part) (left right : List Point) where
           ∙ ap (with_front front) (sym (more_points w.0 [] (least_point now) (least_after passes left right now times)))
           ∙ ap (λ (r : Checked (List Point)). with_front front (r >>= λ between. least_after passes left right now times >>= λ rest. Ok (between ++ least_point now ∷ rest))) (sym w.1)
           ∙ ap (λ (r : Checked Sides). with_front front (r >>= λ now. crossing passes
-              (is_crossed before now) before now >>= λ between. least_after passes left right now times >>= λ rest. Ok (between ++ least_point now ∷ rest)))
+          (is_crossed before now) before now >>= λ between. least_after passes left right now times >>= λ rest. Ok (between ++ least_point now ∷ rest)))
           (sym (was_ok part (sides_at passes left right time) now is_now))
           ∙ so_far

@@ -166,7 +166,7 @@ value_from-between passes time p [] r h = sym (ap (λ (k : ℕ). value_between p
 value_from-between passes time p (q ∷ rest) r h = ⊎_elim
     (λ (w : (lt_ℚ time q.0 ≡ true) × (time <ℚ q.0)). here w.0 w.1)
     (λ (w : (lt_ℚ time q.0 ≡ false) × (q.0 ≤ℚ time)). ap (λ (b : Bool). if b then Ok p.1 else
-        (if lt_ℚ time q.0 then checked_line passes p q time else value_from passes q rest time)) (apart w.1)
+    (if lt_ℚ time q.0 then checked_line passes p q time else value_from passes q rest time)) (apart w.1)
     ∙ ap (λ (b : Bool). if b then checked_line passes p q time else value_from passes q rest time) w.0
     ∙ value_from-between passes time q rest r.1 w.1 ∙ sym (further w.1 (place_of time rest) refl))
     (lt_ℚ_cases time q.0)
@@ -176,7 +176,7 @@ value_from-between passes time p (q ∷ rest) r h = ⊎_elim
         ≡ value_between passes time (slice_get (p ∷ q ∷ rest) (place_of time (p ∷ q ∷ rest) - 1)) (slice_get (p ∷ q ∷ rest) (place_of time (p ∷ q ∷ rest)))
     here t k = ap (λ (b : Bool). if is_same time p.0 then Ok p.1 else (if b then checked_line passes p q time else value_from passes q rest time)) t
         ∙ sym (ap (λ (k : ℕ). value_between passes time (slice_get (p ∷ q ∷ rest) (k - 1)) (slice_get (p ∷ q ∷ rest) k))
-            (place-past time p (q ∷ rest) h ∙ ap suc (place-behind time q rest k)))
+        (place-past time p (q ∷ rest) h ∙ ap suc (place-behind time q rest k)))
 
     apart : q.0 ≤ℚ time → is_same time p.0 ≡ false
     apart k = ⊎_elim
@@ -191,9 +191,9 @@ value_from-between passes time p (q ∷ rest) r h = ⊎_elim
     further k n e =
         ap (λ (k : ℕ). value_between passes time (slice_get (p ∷ q ∷ rest) (k - 1)) (slice_get (p ∷ q ∷ rest) k)) (place-past time p (q ∷ rest) h ∙ ap suc (place-past time q rest k))
         ∙ ap (λ (k : ℕ). value_between passes time (slice_get (p ∷ q ∷ rest) k) (slice_get (q ∷ rest) (suc (place_of time rest))))
-            (let one : suc (suc (place_of time rest)) - 1 ≡ suc (place_of time rest) = omega arith in one)
+        (let one : suc (suc (place_of time rest)) - 1 ≡ suc (place_of time rest) = omega arith in one)
         ∙ ap (λ (k : ℕ). value_between passes time (slice_get (q ∷ rest) k) (slice_get (q ∷ rest) (suc (place_of time rest))))
-            (let one : place_of time rest ≡ suc (place_of time rest) - 1 = omega arith in one)
+        (let one : place_of time rest ≡ suc (place_of time rest) - 1 = omega arith in one)
         ∙ sym (ap (λ (k : ℕ). value_between passes time (slice_get (q ∷ rest) (k - 1)) (slice_get (q ∷ rest) k)) (place-past time q rest k))
 
 -- the first point is at time 0, so its place is at least 1

@@ -111,7 +111,7 @@ module _ (passes : Passing) (part : Part) (points : List Point) where
         ap (λ (l : List Point). with_front l (short_from passes after (drop j points))) (h ∙ by_test (is_same before after))
         ∙ sym (front_more front (if is_same before after then [] else q ∷ []) (short_from passes after (drop j points)))
         ∙ ap (λ (k : Checked ℚ). with_front front (k >>= λ after. short_from passes after (drop j points) >>= λ later. Ok
-            ((if is_same before after then [] else q ∷ []) ++ later))) (sym (was_ok part (checked_slope passes q r) after g))
+        ((if is_same before after then [] else q ∷ []) ++ later))) (sym (was_ok part (checked_slope passes q r) after g))
         ∙ is_step
       where
         by_test : (b : Bool) → (if b then front else front ++ q ∷ []) ≡ front ++ (if b then [] else q ∷ [])

@@ -27,7 +27,7 @@ keeps-found points place p q slope f g e =
 -- a kept slope is that of its piece
 pub keeps-kept : (part : Part) (points : List Point) (place : ℕ) (kept : Option PieceSlope) (known : PieceSlope) → Keeps points kept → kept ≡ Some known → known.place ≡ place
     → (p q : Point) → slice_get points (place - 1) ≡ Some p → slice_get points place ≡ Some q
-        → ◌≡◌ {A = Result ℚ (PassedAt ℚ)} (Ok known.slope) (at_part part (checked_slope passes_Q p q))
+    → ◌≡◌ {A = Result ℚ (PassedAt ℚ)} (Ok known.slope) (at_part part (checked_slope passes_Q p q))
 keeps-kept part points place kept known k is at p q f g =
     let w = subst (λ (o : Option PieceSlope). Keeps points o) is k in
     sym (ap (at_part part) (w p q (ap (λ (n : ℕ). slice_get points (n - 1)) at ∙ f) (ap (slice_get points) at ∙ g)))
@@ -45,4 +45,4 @@ pub slope-read : (part : Part) (points : List Point) (place : ℕ) (p q : Point)
     → (a b : Point) → slice_get points (place - 1) ≡ Some a → slice_get points place ≡ Some b → r ≡ at_part part (checked_slope passes_Q a b)
 slope-read part points place p q r f g e a b i j =
     e ∙ ap (λ (p : Point). at_part part (checked_slope passes_Q p q)) (same_Some _ _ (sym f ∙ i))
-        ∙ ap (λ (q : Point). at_part part (checked_slope passes_Q a q)) (same_Some _ _ (sym g ∙ j))
+    ∙ ap (λ (q : Point). at_part part (checked_slope passes_Q a q)) (same_Some _ _ (sym g ∙ j))

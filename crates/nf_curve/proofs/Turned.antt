@@ -97,7 +97,7 @@ module _ (passes : Passing) (time : ℚ) where
   late points (suc zero) p q j f g = absurd (omega arith)
   late points (suc (suc n)) p q j f g =
       ap (λ (o : Option Point). turn_here passes time o (slice_get points (suc n)) (slice_get points (suc (suc n))))
-          (ap (slice_get points) (let d : n ≡ suc (suc n) - 2 = omega arith in d) ∙ f)
+      (ap (slice_get points) (let d : n ≡ suc (suc n) - 2 = omega arith in d) ∙ f)
       ∙ ap (λ (o : Option Point). turn_here passes time (Some p) o (slice_get points (suc (suc n)))) (ap (slice_get points) (let d : suc n ≡ suc (suc n) - 1 = omega arith in d) ∙ g)
 
   pub turn-apart : (points : List Point) (k : ℕ) (p q : Point) → IsCurve points → 0ℚ ≤ℚ time → k ≡ place_of time points → 2 ≤ k
@@ -112,7 +112,7 @@ module _ (passes : Passing) (time : ℚ) where
   turn-there points k p q c h e j f g t = checked_turn-place points k c h e ∙ late points k p q j f g
       ∙ ap (λ (b : Bool). if b then turn_between passes (Some p) (Some q) (slice_get points k) else Ok false) t
       ∙ sym (ap (λ (o : Option Point). turn_between passes o (slice_get points (k - 1)) (slice_get points k)) f
-          ∙ ap (λ (o : Option Point). turn_between passes (Some p) o (slice_get points k)) g)
+      ∙ ap (λ (o : Option Point). turn_between passes (Some p) o (slice_get points k)) g)
 
 -- by the three points
 pub turn-by : (passes : Passing) (points : List Point) (k : ℕ) (p q : Point) (r : Option Point) → slice_get points (k - 2) ≡ Some p

@@ -109,10 +109,10 @@ module _ (time : ℚ) (left right : List Point) (r : TimesRise left) (s : TimesR
       (merged_from-cases (λ (l : List ℚ). (time <ℚ min_ℚ p.0 q.0) × (l ≡ min_ℚ p.0 q.0 ∷ times_after (min_ℚ p.0 q.0) left right)) p.0 (merged (times_of ls)) q.0 (times_of rs)
       (λ h. on p.0 (p.0 ∷ merged (times_of ls) (times_of (q ∷ rs))) (min_is_left p.0 q.0 (≤ℚ_of_lt _ _ h)) v.after
       (ap (λ (l : List Point). p.0 ∷ merged (times_of l) (times_of (later p.0 right))) v.next
-          ∙ ap (λ (l : List Point). p.0 ∷ merged (times_of ls) (times_of l)) (w.stays p.0 (≤ℚ_of_lt _ _ v.after) h)))
+      ∙ ap (λ (l : List Point). p.0 ∷ merged (times_of ls) (times_of l)) (w.stays p.0 (≤ℚ_of_lt _ _ v.after) h)))
       (λ h. on q.0 (q.0 ∷ merged (times_of (p ∷ ls)) (times_of rs)) (min_is_right p.0 q.0 (≤ℚ_of_lt _ _ h)) w.after
       (ap (λ (l : List Point). q.0 ∷ merged (times_of l) (times_of (later q.0 right))) (v.stays q.0 (≤ℚ_of_lt _ _ w.after) h)
-          ∙ ap (λ (l : List Point). q.0 ∷ merged (times_of (p ∷ ls)) (times_of l)) w.next))
+      ∙ ap (λ (l : List Point). q.0 ∷ merged (times_of (p ∷ ls)) (times_of l)) w.next))
       (λ h. on p.0 (p.0 ∷ merged (times_of ls) (times_of rs)) (min_is_left p.0 q.0 (≤ℚ_of_same _ _ h)) v.after
       (ap (λ (l : List Point). p.0 ∷ merged (times_of l) (times_of (later p.0 right))) v.next
       ∙ ap (λ (l : List Point). p.0 ∷ merged (times_of ls) (times_of l)) (ap (λ (t : ℚ). later t right) h ∙ w.next))))
@@ -126,7 +126,7 @@ module _ (time : ℚ) (left right : List Point) (r : TimesRise left) (s : TimesR
       (option_map (λ (p : Point). p.0) (slice_get right (place_of time right))) → ComesNext time left right next
   comes-next next e = subst (λ (o : Option ℚ). ComesNext time left right o)
       (sym (e ∙ ap (λ (o : Option ℚ). earlier_of o (option_map (λ (p : Point). p.0) (slice_get right (place_of time right)))) (place-head time left)
-          ∙ ap (λ (o : Option ℚ). earlier_of (head_of (later time left)) o) (place-head time right)))
+      ∙ ap (λ (o : Option ℚ). earlier_of (head_of (later time left)) o) (place-head time right)))
       (steps (later time left) (later time right) refl refl)
 
 -- ---- the merge begins at time 0
@@ -153,7 +153,7 @@ module _ (left right : List Point) (c : IsCurve left) (d : IsCurve right) (now :
   next-is = comes-next now.time left right (curve-rises left c) (curve-rises right d) next
       (g ∙ ap (λ (o : Option ℚ). earlier_of o t) (e ∙ ap (λ (k : ℕ). option_map (λ (p : Point). p.0) (slice_get left k)) there.left_place)
       ∙ ap (λ (o : Option ℚ). earlier_of (option_map (λ (p : Point). p.0) (slice_get left (place_of now.time left))) o)
-          (f ∙ ap (λ (k : ℕ). option_map (λ (p : Point). p.0) (slice_get right k)) there.right_place))
+      (f ∙ ap (λ (k : ℕ). option_map (λ (p : Point). p.0) (slice_get right k)) there.right_place))
 
   pub walk-ends : next ≡ None → times_after now.time left right ≡ []
   walk-ends h = subst (λ (o : Option ℚ). ComesNext now.time left right o) h next-is

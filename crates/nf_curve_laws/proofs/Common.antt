@@ -9,8 +9,19 @@ pub use Rattle.nf_frac_def.specs.Passing.{Passing, result_of}
 pub use Rattle.nf_frac_def.specs.declared.Op.TheVariants.{Difference, Product, Quotient, Sum}
 pub use Rattle.nf_model.specs.Curve.{IsCorner, IsCurve, IsShort, Point, TimesRise, TurnsAt, Within, slope, value}
 pub use Rattle.nf_model_laws.proofs.Affine.{IsAffine-composed, IsAffine-less, IsAffine-nn, IsAffine-part, IsAffine-plus, IsAffine-same, line_end, line_start}
-pub use Rattle.nf_model_laws.proofs.Curves.{IsCurve-rises, TimesRise-rest, by_first, slope-times, slope-unique, value-after, value-before, value-first,
-    value-line, value-merge, value-point}
+pub use Rattle.nf_model_laws.proofs.Curves.{
+  IsCurve-rises,
+  TimesRise-rest,
+  by_first,
+  slope-times,
+  slope-unique,
+  value-after,
+  value-before,
+  value-first,
+  value-line,
+  value-merge,
+  value-point,
+}
 pub use Rattle.nf_model_laws.specs.Affine.{IsAffine}
 pub use Rattle.nf_rational.specs.Operations.{0ℚ, 1ℚ, ◌*ℚ◌, ◌+ℚ◌, ◌-ℚ◌, ◌/ℚ◌}
 pub use Rattle.nf_rational.specs.Order.{lt_ℚ, min_ℚ, ◌<ℚ◌, ◌≤ℚ◌}

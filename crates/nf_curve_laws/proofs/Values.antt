@@ -13,7 +13,7 @@ module _ (passes : Passing) where
       → (time ≡ p.0 → y ≡ p.1 → P) → (time <ℚ q.0 → checked_line passes p q time ≡ Ok y → P) → (q.0 ≤ℚ time → value_from passes q rest time ≡ Ok y → P) → P
   piece_cases {P} p q rest time y e f g h = ⊎_elim
       (λ (a : (is_same time p.0 ≡ true) × (time ≡ p.0)). f a.1 (same_Ok _ _
-          (sym e ∙ ap (λ (b : Bool). if b then Ok p.1 else (if lt_ℚ time q.0 then checked_line passes p q time else value_from passes q rest time)) a.0)))
+      (sym e ∙ ap (λ (b : Bool). if b then Ok p.1 else (if lt_ℚ time q.0 then checked_line passes p q time else value_from passes q rest time)) a.0)))
       (λ (a : (is_same time p.0 ≡ false) × (¬ (time ≡ p.0))).
       let e' : (if lt_ℚ time q.0 then checked_line passes p q time else value_from passes q rest time) ≡ Ok y =
       sym (ap (λ (b : Bool). if b then Ok p.1 else (if lt_ℚ time q.0 then checked_line passes p q time else value_from passes q rest time)) a.0) ∙ e in
@@ -77,8 +77,14 @@ module _ (passes : Passing) where
       subst (λ (l : List Point). Cut (p ∷ rest) last l) (same_Ok _ _ w.next)
       (⊎_elim
       (λ (v : (lt_ℚ p.0 last ≡ true) × (p.0 <ℚ last)). subst (λ (b : Bool). Cut (p ∷ rest) last ((if b then p ∷ points_before last rest else []) ++ (last, w.between) ∷ [])) (sym v.0)
-      (record { first = p; rest = points_before last rest ++ (last, w.between) ∷ []; cut_is = refl; begins = c.0; follows =
-          cut_from p rest last w.between c.1 v.1 y (value (p ∷ rest)) (λ t i. refl) }))
+      (record {
+        first = p;
+        rest = points_before last rest ++ (last, w.between) ∷ [];
+        cut_is = refl;
+        begins = c.0;
+        follows =
+            cut_from p rest last w.between c.1 v.1 y (value (p ∷ rest)) (λ t i. refl);
+      }))
       (λ (v : (lt_ℚ p.0 last ≡ false) × (last ≤ℚ p.0)). subst (λ (b : Bool). Cut (p ∷ rest) last ((if b then p ∷ points_before last rest else []) ++ (last, w.between) ∷ [])) (sym v.0)
       (record { first = (last, w.between); rest = []; cut_is = refl; begins = ≤ℚ_antisymm last 0ℚ (subst (λ (z : ℚ). last ≤ℚ z) c.0 v.1) h; follows = ends (sym y) refl }))
       (lt_ℚ_cases p.0 last))
@@ -88,11 +94,17 @@ pub cut-follows : (passes : Passing) (points : List Point) (last : ℚ) → IsCu
 cut-follows passes [] last c h = absurd c
 cut-follows passes (p ∷ rest) last c h = ⊎_elim
     (λ (v : (lt_ℚ p.0 last ≡ true) × (p.0 <ℚ last)). subst (λ (b : Bool). Cut passes (p ∷ rest) last
-        ((if b then p ∷ points_before last rest else []) ++ (last, value (p ∷ rest) last) ∷ [])) (sym v.0)
-    (record { first = p; rest = points_before last rest ++ (last, value (p ∷ rest) last) ∷ []; cut_is = refl; begins = c.0; follows =
-        cut_from passes p rest last (value (p ∷ rest) last) c.1 v.1 refl (value (p ∷ rest)) (λ t i. refl) }))
+    ((if b then p ∷ points_before last rest else []) ++ (last, value (p ∷ rest) last) ∷ [])) (sym v.0)
+    (record {
+      first = p;
+      rest = points_before last rest ++ (last, value (p ∷ rest) last) ∷ [];
+      cut_is = refl;
+      begins = c.0;
+      follows =
+          cut_from passes p rest last (value (p ∷ rest) last) c.1 v.1 refl (value (p ∷ rest)) (λ t i. refl);
+    }))
     (λ (v : (lt_ℚ p.0 last ≡ false) × (last ≤ℚ p.0)). subst (λ (b : Bool). Cut passes (p ∷ rest) last
-        ((if b then p ∷ points_before last rest else []) ++ (last, value (p ∷ rest) last) ∷ [])) (sym v.0)
+    ((if b then p ∷ points_before last rest else []) ++ (last, value (p ∷ rest) last) ∷ [])) (sym v.0)
     (record { first = (last, value (p ∷ rest) last); rest = []; cut_is = refl; begins = ≤ℚ_antisymm last 0ℚ (subst (λ (z : ℚ). last ≤ℚ z) c.0 v.1) h; follows = ends refl refl }))
     (lt_ℚ_cases p.0 last)
 

@@ -42,10 +42,10 @@ module _ (passes : Passing) (net : Network) (phases patterns : ℕ) (first : Sta
     -- If no thin flow is returned, a phase was added.
     pub gone_further : count < phases → (answer : Option ThinFlow) → answer ≡ None → (t : Standing) → Reaches passes net t
         → MatchOption answer (GoesToEnd passes net patterns s t) (λ thin. GoesForever passes net patterns s thin.pattern (tail_by thin))
-            → GoneOn passes net phases patterns first (count + 1) t
+        → GoneOn passes net phases patterns first (count + 1) t
     gone_further may answer is t reaches g =
         further may t reaches (subst (λ (o : Option ThinFlow). MatchOption o (GoesToEnd passes net patterns s t)
-            (λ thin. GoesForever passes net patterns s thin.pattern (tail_by thin))) is g)
+        (λ thin. GoesForever passes net patterns s thin.pattern (tail_by thin))) is g)
 
     -- ---- the end of the run
     pub ends_at_phases : count ≡ phases → (made : ℕ) → made ≡ s.made → IsForeverRun passes net phases patterns s (Stops (Cause.Phases made))
@@ -58,7 +58,7 @@ module _ (passes : Passing) (net : Network) (phases patterns : ℕ) (first : Sta
         → IsForeverRun passes net phases patterns after (NeverEnds thin.pattern (tail_by thin))
     ends_never may answer thin is after g stays =
         let goes_forever = subst (λ (o : Option ThinFlow). MatchOption o (GoesToEnd passes net patterns s after)
-            (λ thin. GoesForever passes net patterns s thin.pattern (tail_by thin))) is g in
+        (λ thin. GoesForever passes net patterns s thin.pattern (tail_by thin))) is g in
         let same : after ≡ s = subst (λ (o : Option ThinFlow). IsSome o → after ≡ s) is stays refl in
         subst (λ (t : Standing). IsForeverRun passes net phases patterns t (NeverEnds thin.pattern (tail_by thin))) (sym same)
         (run_of (NeverEnds thin.pattern (tail_by thin)) (never_ends (may_go may) goes_forever))

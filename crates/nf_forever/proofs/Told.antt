@@ -140,7 +140,7 @@ module _ (passes : Passing) (net : Network) (good : IsNetwork net) (phases patte
       → IfOk result (λ f. IfSome f.tail (λ tail. (until : ℚ) → 0ℚ ≤ℚ until → Equilibrium net (flow_until net (flow_in f.flow) (tail_in tail) until)))
   tail_answered (Ok f) e =
       tail_seen f.tail (λ tail. (until : ℚ) → 0ℚ ≤ℚ until → Equilibrium net (flow_until net (flow_in f.flow) tail until))
-          (goes_on_told passes net good phases patterns (forever_in f) (is_told f e))
+      (goes_on_told passes net good phases patterns (forever_in f) (is_told f e))
   tail_answered (Err x) e = tt
 
   pub grows_answered : {E : Type 0} (result : Result told.Forever E) → Answered result → IfOk result (λ f. IfSome f.tail (λ tail. TailGrows net (flow_in f.flow) (tail_in tail)))

@@ -1,6 +1,18 @@
 -- The names that most proofs of this crate cite, passed on from one place. Declares nothing.
-pub use Rattle.nf_forever_def.specs.Extended.{extended, flow_until, labels_then, labels_with_end, last_point, queue_then, queues_with_end, trace_with_end,
-    traces_with_end, up_to, value_after, with_end}
+pub use Rattle.nf_forever_def.specs.Extended.{
+  extended,
+  flow_until,
+  labels_then,
+  labels_with_end,
+  last_point,
+  queue_then,
+  queues_with_end,
+  trace_with_end,
+  traces_with_end,
+  up_to,
+  value_after,
+  with_end,
+}
 pub use Rattle.nf_forever_def.specs.ForeverRun.{End, Forever, IsForever, IsForeverRun, NeverEnds, RunsForever, Stops, at_phases, fails, forever_of, goes, never_ends}
 pub use Rattle.nf_forever_laws.specs.Cuts.{Cut, IsLeastCapacity, IsStaticCut, LeadsOut, capacity_sum, cut_capacity, outward_capacity}
 pub use Rattle.nf_forever_laws.specs.Growth.{GrowsByCuts, GrowsByLeastCut, KeepsSets, slower_than_sink}

@@ -35,7 +35,7 @@ ends_later passes net slacks slopes time end pieces h = by b.0 b.1 b.2
     by (Some length) e k =
         let c = bind_ok (checked passes Sum time length) (λ end. Ok (Some end)) (Some end) k in
         later end length (IsExtension-some net slacks slopes time length (extension_is net slacks slopes time passes length pieces e))
-            (sym (same_end c.0 end c.2) ∙ checked-is passes Sum time length c.0 c.1)
+        (sym (same_end c.0 end c.2) ∙ checked-is passes Sum time length c.0 c.1)
 
 -- ---- the unique end
 moves_not_ends : (t : Standing) (p : Pattern) (tail : Tail) → Moves t ≡ Ends p tail → ⊥
@@ -78,9 +78,11 @@ module _ (passes : Passing) (net : Network) (phases patterns : ℕ) where
   one_end s l m o r knows (never_ends may g) (fails may' f) =
       absurd (ends_not_fault _ _ _ (one_outcome passes net patterns s knows _ _ (ends-comes passes net patterns s _ _ g)
       (fails-comes passes net patterns s _ f)))
-  one_end s l m o r knows (never_ends may g) (never_ends may' h) =
-      (refl, same_tail _ _ _ _ (one_outcome passes net patterns s knows _ _ (ends-comes passes net patterns s _ _ g)
-      (ends-comes passes net patterns s _ _ h)))
+  one_end s l m o r knows (never_ends may g) (never_ends may' h) = (
+    refl,
+    same_tail _ _ _ _ (one_outcome passes net patterns s knows _ _ (ends-comes passes net patterns s _ _ g)
+        (ends-comes passes net patterns s _ _ h)),
+  )
   one_end s l m o r knows (never_ends may g) (goes may' h rest) =
       absurd (moves_not_ends _ _ _ (one_outcome passes net patterns s knows _ _ (goes-comes passes net patterns s _ h)
       (ends-comes passes net patterns s _ _ g)))

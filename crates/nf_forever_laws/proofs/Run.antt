@@ -60,7 +60,7 @@ module _ (passes : Passing) (net : Network) (good : IsNetwork net) (phases patte
   tail_on s last pattern tail _ e (fails may f) = absurd (cc)
   tail_on s last pattern tail _ e (never_ends {pattern = p} {tail = t} may g) =
       subst (λ (q : Pattern). GoesForever passes net patterns s q tail) (same_pattern p pattern t tail e)
-          (subst (λ (u : Tail). GoesForever passes net patterns s p u) (same_tail p pattern t tail e) g)
+      (subst (λ (u : Tail). GoesForever passes net patterns s p u) (same_tail p pattern t tail e) g)
     where
       same_pattern : (p q : Pattern) (t u : Tail) → NeverEnds p t ≡ NeverEnds q u → p ≡ q
       same_pattern p q t u e = cc
@@ -80,7 +80,7 @@ module _ (passes : Passing) (net : Network) (good : IsNetwork net) (phases patte
     IsThinFlow-tail = let first = forever.finds.is_search.answers in
         let listed = forever.finds.is_search.is_listing.listed forever.place pattern first.has_place in
         IsThinFlow-accepted net (sets_at net last.labels) (rate_at net last.time) pattern tail.flows tail.slopes good
-            (AreSets-sets_at net last.labels) listed.states listed.entered first.solution.solves first.solution.meets
+        (AreSets-sets_at net last.labels) listed.states listed.entered first.solution.solves first.solution.meets
 
     pub IsUnending-tail : IsUnending net (slacks_of (hops net) last.labels) tail.slopes last.time
     IsUnending-tail = unending_is net (slacks_of (hops net) last.labels) tail.slopes last.time passes good.pieces

@@ -15,7 +15,7 @@ pub AreSlopes-more : (points : List Point) (rates : List ℚ) (last new : Point)
     → AreSlopes (points ++ new ∷ []) (rates ++ slope (last_point points) new ∷ [])
 AreSlopes-more points rates last new l are = subst (λ (ps : List Point). AreSlopes (ps ++ new ∷ []) (rates ++ slope (last_point points) new ∷ [])) (sym l.same)
     (AreSlopes-appended l.front last new rates (slope (last_point points) new) (subst (λ (ps : List Point). AreSlopes ps rates) l.same are)
-        (ap (λ (p : Point). slope p new) (last_point-is points last l)))
+    (ap (λ (p : Point). slope p new) (last_point-is points last l)))
 
 -- ---- a curve with its rates
 module _ (trace : Trace) (flow sl a y t label amount : ℚ) (are : AreSlopes trace.points trace.rates) (l : LastPoint trace.points (a, y)) (some : 0ℚ <ℚ t)

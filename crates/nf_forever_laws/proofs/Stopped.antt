@@ -21,7 +21,7 @@ module _ (passes : Passing) (net : Network) (good : IsNetwork net) (phases patte
   no_answer s phase (PassesAt place at) k h well thin = passed_other (suc s.made) (Some place) at phase (same_Some _ _ h)
   no_answer s phase NoPattern k h well thin =
       none-search passes net (sets_at net s.labels) (rate_at net s.time) k.base patterns flows slopes (AreGoodSets-well net good s well)
-          (rate_from-not_negative net.pieces s.time good.pieces) k.is_search thin
+      (rate_from-not_negative net.pieces s.time good.pieces) k.is_search thin
 
   none_fails : (s : Standing) (c : Cause ℚ) (phase : ℕ) → Wants c phase → WellRun net s → FailsOn passes net patterns s c → NoneAt s
   none_fails s _ phase e well (at_slack p h) thin = passed_other _ _ _ phase e

@@ -84,7 +84,7 @@ module _ (net : Network) (flow : Flow) (tail : Tail) (until : ℚ) (labels : Lis
     label_goes : GoesOnTo (curves.labels v) (curves'.labels v) (flow.reached, label_now v) (flow.reached +ℚ while, label_now v +ℚ number_at tail.slopes v *ℚ while)
     label_goes = subst (λ (ps : List Point). GoesOnTo (curves.labels v) ps (flow.reached, label_now v) (flow.reached +ℚ while, label_now v +ℚ number_at tail.slopes v *ℚ while))
         (ap (λ (p : Point). curves.labels v ++ p ∷ []) (sym (same_point until (flow.reached +ℚ while) (number_at then v)
-            (label_now v +ℚ number_at tail.slopes v *ℚ while) (sym (back_and_forth flow.reached until)) then_is)) ∙ sym label_new)
+        (label_now v +ℚ number_at tail.slopes v *ℚ while) (sym (back_and_forth flow.reached until)) then_is)) ∙ sym label_new)
         (GoesOnTo-appended (curves.labels v) (flow.reached, label_now v) (flow.reached +ℚ while, label_now v +ℚ number_at tail.slopes v *ℚ while) ends (later_by flow.reached while some))
 
     new_at : at curves'.labels v (flow.reached +ℚ while) ≡ number_at then v
@@ -187,9 +187,11 @@ module _ (net : Network) (flow : Flow) (tail : Tail) (until : ℚ) (labels : Lis
         (grown.description_stands.outflows_end e link p);
     outflows_stay = λ e link p. trace_stays e link p (λ (k : Link). k.head) (good.heads e link p) flow.outflows shape.outflows.count outflow_rates
         (grown.description_stands.outflows_end e link p);
-    queues_go = λ e link p h. subst (λ (ps : List Point). GoesOnTo (curves.queues e) ps (label_now link.tail, at curves.queues e (label_now link.tail))
-        (label_now link.tail +ℚ number_at tail.slopes link.tail *ℚ while, queue_by_slack link.capacity
-        (link_slack (at curves'.labels) link (flow.reached +ℚ while)))) (sym (queue_after e link p))
+    queues_go = λ e link p h. subst (λ (ps : List Point). GoesOnTo (curves.queues e) ps (label_now link.tail, at curves.queues e (label_now link.tail)) (
+      label_now link.tail +ℚ number_at tail.slopes link.tail *ℚ while,
+      queue_by_slack link.capacity
+          (link_slack (at curves'.labels) link (flow.reached +ℚ while)),
+    )) (sym (queue_after e link p))
         ((queue_step e link p).goes h);
     queues_stay = λ e link p h. queue_after e link p ∙ (queue_step e link p).stays h;
   }
@@ -212,12 +214,21 @@ module _ (net : Network) (flow : Flow) (tail : Tail) (until : ℚ) (labels : Lis
   new_shape : HasShape net new
   new_shape = record {
     labels = record { count = labels_with_end-length until then flow.labels net.nodes then_length shape.labels.count; each = λ v h. (new_grown.curves_stand.labels_end v h).curve };
-    inflows = record { count = length-map new.inflows (λ (t : Trace). t.points)
-        ∙ inflows_count; each = λ e h. (let l = link_within net e h in (new_grown.curves_stand.inflows_end e l.0 l.1).curve) };
-    outflows = record { count = length-map new.outflows (λ (t : Trace). t.points)
-        ∙ outflows_count; each = λ e h. (let l = link_within net e h in (new_grown.description_stands.outflows_end e l.0 l.1).curve) };
-    queues = record { count = queues-length while tail.slopes then net.links flow.queues shape.queues.count; each =
-        λ e h. (let l = link_within net e h in (new_grown.description_stands.queues_end e l.0 l.1).curve) };
+    inflows = record {
+      count = length-map new.inflows (λ (t : Trace). t.points)
+          ∙ inflows_count;
+      each = λ e h. (let l = link_within net e h in (new_grown.curves_stand.inflows_end e l.0 l.1).curve);
+    };
+    outflows = record {
+      count = length-map new.outflows (λ (t : Trace). t.points)
+          ∙ outflows_count;
+      each = λ e h. (let l = link_within net e h in (new_grown.description_stands.outflows_end e l.0 l.1).curve);
+    };
+    queues = record {
+      count = queues-length while tail.slopes then net.links flow.queues shape.queues.count;
+      each =
+          λ e h. (let l = link_within net e h in (new_grown.description_stands.queues_end e l.0 l.1).curve);
+    };
   }
 
   new_inflow_rates : HasSlopes new.inflows

@@ -74,7 +74,9 @@ pub factors_of_sum : (x y : ℚ) → gcd (nat_abs (sum_over x y)) (gcd x.den y.d
 factors_of_sum x y =
     let t = nat_abs (sum_over x y) in
     let found = IsGcd-gcd t (gcd x.den y.den) in
-    same_from_IsGcd t (x.den * left_over x y) _ _
-    (found.0, dvd_trans (gcd t (gcd x.den y.den)) found.1 (dvd_trans (gcd x.den y.den) (IsGcd-gcd x.den y.den).0 (dvd-mul_right x.den (left_over x y))),
-        λ e u v. found.2 e u (in_common x y e u v))
+    same_from_IsGcd t (x.den * left_over x y) _ _ (
+      found.0,
+      dvd_trans (gcd t (gcd x.den y.den)) found.1 (dvd_trans (gcd x.den y.den) (IsGcd-gcd x.den y.den).0 (dvd-mul_right x.den (left_over x y))),
+      λ e u v. found.2 e u (in_common x y e u v),
+    )
     (IsGcd-gcd t (x.den * left_over x y))

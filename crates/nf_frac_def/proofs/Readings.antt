@@ -66,11 +66,23 @@ module _ (passes : Passing) where
   first_found : (q : Passed ℚ) (rest : List (Passed ℚ)) (p : Passed ℚ) (b : Bool) → b ≡ does_pass passes q → cond b (Some q) (find (does_pass passes) rest) ≡ Some p
       → (find (does_pass passes) rest ≡ Some p → IsFirstPassing passes rest p) → IsFirstPassing passes (q ∷ rest) p
   first_found q rest p true e f next =
-      record { before = []; after = rest; split = ap (λ x. x ∷ rest) (some_injective f); none_before = tt; passing =
-      ap (does_pass passes) (sym (some_injective f)) ∙ sym e }
+      record {
+        before = [];
+        after = rest;
+        split = ap (λ x. x ∷ rest) (some_injective f);
+        none_before = tt;
+        passing =
+            ap (does_pass passes) (sym (some_injective f)) ∙ sym e;
+      }
   first_found q rest p false e f next =
-      let h = next f in record { before = q ∷ h.before; after = h.after; split = ap (λ l. q ∷ l) h.split; none_before = (sym e, h.none_before); passing =
-      h.passing }
+      let h = next f in record {
+        before = q ∷ h.before;
+        after = h.after;
+        split = ap (λ l. q ∷ l) h.split;
+        none_before = (sym e, h.none_before);
+        passing =
+            h.passing;
+      }
 
   pub found_is_first : (operations : List (Passed ℚ)) (p : Passed ℚ) → find (does_pass passes) operations ≡ Some p → IsFirstPassing passes operations p
   found_is_first [] p e = cc

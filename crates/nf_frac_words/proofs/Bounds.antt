@@ -14,7 +14,7 @@ pub passes_by_tenth : (start value bound i : ℕ) (digits : List ℕ) → i < le
 passes_by_tenth start value bound i digits h rest wide fits =
     let step : value_after value (drop i digits) ≡ value_after (10 * value + (get_or digits i 0 - 48)) (drop (i + 1) digits) = ap (value_after value) (drop_more digits i 0 h) in
     let most : 10 * value + (get_or digits i 0 - 48) ≤ value_after (10 * value + (get_or digits i 0 - 48)) (drop (i + 1) digits) =
-        le-value_after (10 * value + (get_or digits i 0 - 48)) (drop (i + 1) digits) in
+    le-value_after (10 * value + (get_or digits i 0 - 48)) (drop (i + 1) digits) in
     omega arith
 
 -- a value that exceeds the bound with this digit exceeds it with all digits
@@ -23,7 +23,7 @@ pub passes_by_digit : (start value bound i : ℕ) (digits : List ℕ) → i < le
 passes_by_digit start value bound i digits h rest wide fits =
     let step : value_after value (drop i digits) ≡ value_after (10 * value + (get_or digits i 0 - 48)) (drop (i + 1) digits) = ap (value_after value) (drop_more digits i 0 h) in
     let most : 10 * value + (get_or digits i 0 - 48) ≤ value_after (10 * value + (get_or digits i 0 - 48)) (drop (i + 1) digits) =
-        le-value_after (10 * value + (get_or digits i 0 - 48)) (drop (i + 1) digits) in
+    le-value_after (10 * value + (get_or digits i 0 - 48)) (drop (i + 1) digits) in
     omega arith
 
 -- ---- digit by digit

@@ -49,7 +49,7 @@ parts_by_fields bound word left right r is_left is_right e = rw (is_left, is_rig
 
 pub decimal_by_fields : (bound : ℕ) (word left right : List ℕ) (r : Result (ℤ × ℕ) NumberFault) → is_decimal word ≡ true → left ≡ before point word → right ≡ after point word
     → r ≡ parts_or_fault bound (unsigned left) right (signed_by left (value_of (unsigned left) * 10 ^ length right + value_of right)) (10 ^ length right)
-        → r ≡ decimal_parts_of bound word
+    → r ≡ decimal_parts_of bound word
 unfolding decimal_parts_of
 decimal_by_fields bound word left right r is is_left is_right e = rw (is_left, is_right) at e ∙ sym (cond-true _ _ _ is)
 

@@ -54,7 +54,7 @@ whole_read bound n fits some =
     let front : before slash (signed_digits_of n) ≡ signed_digits_of n = before_none slash (signed_digits_of n) none in
     let back : denominator (signed_digits_of n) ≡ 49 ∷ [] = cond-false _ _ _ none in
     rw (front, back, unsigned_is, signed_is) (parts_read bound (magnitude_of n) (49 ∷ []) n 1
-        (record { some_left = some_magnitude n; some_right = omega arith; left = digits_magnitude n; right = refl }) fits some (omega arith))
+    (record { some_left = some_magnitude n; some_right = omega arith; left = digits_magnitude n; right = refl }) fits some (omega arith))
 
 ratio_read : (bound : ℕ) (n : ℤ) (d : ℕ) → nat_abs n ≤ bound → d ≤ bound → 0 < d → parts_of bound (signed_digits_of n ++ slash ∷ digits_of d) ≡ Ok (n, d)
 unfolding parts_of
@@ -62,9 +62,9 @@ ratio_read bound n d fits_n fits_d some =
     let none : has slash (signed_digits_of n) ≡ false = no_separator slash n (omega arith) (omega arith) in
     let front : before slash (signed_digits_of n ++ slash ∷ digits_of d) ≡ signed_digits_of n = before_at slash (signed_digits_of n) (digits_of d) none in
     let back : denominator (signed_digits_of n ++ slash ∷ digits_of d) ≡ digits_of d =
-        cond-true _ _ _ (has-append slash (signed_digits_of n) (digits_of d) none) ∙ after_at slash (signed_digits_of n) (digits_of d) none in
+    cond-true _ _ _ (has-append slash (signed_digits_of n) (digits_of d) none) ∙ after_at slash (signed_digits_of n) (digits_of d) none in
     rw (front, back, unsigned_is, signed_is, value_of-digits_of) (parts_read bound (magnitude_of n) (digits_of d) n d
-        (record { some_left = some_magnitude n; some_right = some_digits d; left = digits_magnitude n; right = are_digits-digits_of d }) fits_n fits_d some)
+    (record { some_left = some_magnitude n; some_right = some_digits d; left = digits_magnitude n; right = are_digits-digits_of d }) fits_n fits_d some)
 
 pub printed_read : (bound : ℕ) (n : ℤ) (d : ℕ) → nat_abs n ≤ bound → d ≤ bound → 0 < d → parts_of bound (printed_parts n d) ≡ Ok (n, d)
 unfolding printed_parts

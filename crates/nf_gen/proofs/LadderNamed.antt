@@ -56,8 +56,14 @@ length-drawn number place (l ∷ links) = ap (λ (k : ℕ). suc k) (length-drawn
 by_name : (nodes : List Name) (links : List NamedLink) → AllByRecursion (HasBoth nodes) links → links_by_name nodes (names_of links) (map (numbered nodes) links) ≡ links
 by_name nodes [] h = refl
 by_name nodes (l ∷ links) h =
-    λ i. record { name = l.name; tail = name_at-place nodes l.tail h.0.0 i; head = name_at-place nodes l.head h.0.1 i; transit = l.transit; capacity =
-        l.capacity } ∷ by_name nodes links h.1 i
+    λ i. record {
+      name = l.name;
+      tail = name_at-place nodes l.tail h.0.0 i;
+      head = name_at-place nodes l.head h.0.1 i;
+      transit = l.transit;
+      capacity =
+          l.capacity;
+    } ∷ by_name nodes links h.1 i
 
 -- ---- pieces
 ten_is_later : le_ℚ (whole (pos 10)) (whole (pos 0)) ≡ false
@@ -124,8 +130,12 @@ module _ (number rungs : ℕ) (some : 1 ≤ rungs) (few : rungs ≤ 30) where
 
   named_down : AllByRecursion AreNamesOf (links_down rungs)
   named_down =
-      all_map AreNamesOf rung_at 1 rungs (λ j low high. record { name = lettered_is_name 114 j refl (omega arith); tail = upper_name j (omega arith); head =
-      lower_name j (omega arith) })
+      all_map AreNamesOf rung_at 1 rungs (λ j low high. record {
+        name = lettered_is_name 114 j refl (omega arith);
+        tail = upper_name j (omega arith);
+        head =
+            lower_name j (omega arith);
+      })
 
   named_out : AllByRecursion AreNamesOf (links_out rungs)
   named_out = (record { name = refl; tail = upper_name rungs few; head = refl }, (record { name = refl; tail = lower_name rungs few; head = refl }, tt))

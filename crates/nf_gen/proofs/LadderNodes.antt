@@ -42,10 +42,10 @@ next_rung k j some e =
     ∙ ap (λ names. with_names names (lower (suc k) ∷ []))
     (with_name_there (ladder_nodes k ++ upper (suc k) ∷ []) (lower k)
     (has_name-append (ladder_nodes k) (upper (suc k) ∷ []) (lower k) ∙ or_left (has_name (ladder_nodes k) (lower k))
-        (has_name (upper (suc k) ∷ []) (lower k)) (has_lower 1 k k some (omega arith))))
+    (has_name (upper (suc k) ∷ []) (lower k)) (has_lower 1 k k some (omega arith))))
     ∙ with_name_new (ladder_nodes k ++ upper (suc k) ∷ []) (lower (suc k))
     (has_name-append (ladder_nodes k) (upper (suc k) ∷ []) (lower (suc k))
-        ∙ or_from (has_name (ladder_nodes k) (lower (suc k))) (has_name (upper (suc k) ∷ []) (lower (suc k))) (no_lower 1 k (suc k) (omega arith)) refl)
+    ∙ or_from (has_name (ladder_nodes k) (lower (suc k))) (has_name (upper (suc k) ∷ []) (lower (suc k))) (no_lower 1 k (suc k) (omega arith)) refl)
     ∙ append_assoc (ladder_nodes k) (upper (suc k) ∷ []) (lower (suc k) ∷ [])
     ∙ sym (nodes_push k)
 
@@ -122,7 +122,7 @@ module _ (rungs : ℕ) (some : 1 ≤ rungs) where
   ends_there =
       every_append (HasEnds (ladder_nodes rungs)) (links_in ++ links_along rungs ++ links_down rungs) (links_out rungs)
       (every_append (HasEnds (ladder_nodes rungs)) (links_in ++ links_along rungs) (links_down rungs)
-          (every_append (HasEnds (ladder_nodes rungs)) links_in (links_along rungs) ends_into ends_along) ends_down) ends_out
+      (every_append (HasEnds (ladder_nodes rungs)) links_in (links_along rungs) ends_into ends_along) ends_down) ends_out
 
   pub ends_listed : list_all (has_name (ladder_nodes rungs)) (ends_of (ladder_ends rungs)) ≡ true
   ends_listed = tested (has_name (ladder_nodes rungs)) (ends_of (ladder_ends rungs)) (each_end (ladder_nodes rungs) (ladder_ends rungs) ends_there)
@@ -159,9 +159,9 @@ module _ (rungs : ℕ) (some : 1 ≤ rungs) where
   pub link_count : length (ladder_ends rungs) ≡ 3 * rungs + 2
   link_count =
       let all : length (links_in ++ links_along rungs ++ links_down rungs ++ links_out rungs) ≡ length
-          (links_in ++ links_along rungs ++ links_down rungs) + 2 = length-append (links_in ++ links_along rungs ++ links_down rungs) (links_out rungs) in
+      (links_in ++ links_along rungs ++ links_down rungs) + 2 = length-append (links_in ++ links_along rungs ++ links_down rungs) (links_out rungs) in
       let front : length (links_in ++ links_along rungs ++ links_down rungs) ≡ length (links_in ++ links_along rungs) + length (links_down rungs) =
-          length-append (links_in ++ links_along rungs) (links_down rungs) in
+      length-append (links_in ++ links_along rungs) (links_down rungs) in
       let first : length (links_in ++ links_along rungs) ≡ 2 + length (links_along rungs) = length-append links_in (links_along rungs) in
       let a : length (links_along rungs) ≡ 2 * (rungs - 1) = length_along 1 (rungs - 1) in
       let b : length (links_down rungs) ≡ rungs = length_down 1 rungs in

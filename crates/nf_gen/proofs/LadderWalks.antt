@@ -126,7 +126,7 @@ module _ (number rungs : ℕ) (some : 1 ≤ rungs) (few : rungs ≤ 30) where
       let next : suc j + 1 ≡ suc (suc j) = omega arith in
       subst (λ (k : ℕ). Reaches (file_of number rungs) (suc (suc j)) (rail k)) next
       (by_link (link_from (rail (suc j)) (rail (suc j)) (rail (suc j + 1))) (suc j) (on (suc j) (omega arith) (omega arith))
-          (rail_reached rail first on (suc j) (omega arith) (omega arith)))
+      (rail_reached rail first on (suc j) (omega arith) (omega arith)))
 
   upper_reached : (j : ℕ) → 1 ≤ j → j ≤ rungs → Reaches (file_of number rungs) j (upper j)
   upper_reached = rail_reached upper (by_link (link_from (codes "su") (codes "s") (upper 1)) 0 (0, refl) source_reached) (λ j low high. on_rails _ j low high (0, refl))
@@ -170,7 +170,7 @@ module _ (number rungs : ℕ) (some : 1 ≤ rungs) (few : rungs ≤ 30) where
   hop_small e hop is =
       let c = hop_from e hop is in
       subst (λ (x : Hop). IsSmall x.transit) c.is_image (entry_all (λ (l : NamedLink). IsSmall l.transit) (ladder_links number rungs) e c.entry
-          (drawn_small number 0 (ladder_ends rungs)) c.is_entry)
+      (drawn_small number 0 (ladder_ends rungs)) c.is_entry)
 
   tail_low : (e : ℕ) (hop : Hop) → IsHop (draft_hops (file_of number rungs)) e hop → hop.tail < length (ladder_nodes rungs)
   tail_low e hop is =
@@ -189,12 +189,12 @@ module _ (number rungs : ℕ) (some : 1 ≤ rungs) (few : rungs ≤ 30) where
   no_passing_sum p =
       let t : IsSmall p.hop.transit = hop_small p.link p.hop p.is_hop in
       let s : IsWholeSum (draft_hops (file_of number rungs)) p.is_least.taken.0 =
-          whole_sum (draft_hops (file_of number rungs)) hop_small p.is_least.taken.0 (source_place (file_of number rungs)) p.hop.tail p.is_least.taken.1 in
+      whole_sum (draft_hops (file_of number rungs)) hop_small p.is_least.taken.0 (source_place (file_of number rungs)) p.hop.tail p.is_least.taken.1 in
       let least_is : p.least ≡ whole (pos s.value) = sym p.is_least.taken.2 ∙ s.is in
       let r = node_reached p.hop.tail (tail_low p.link p.hop p.is_hop) in
       let b : IsWholeSum (draft_hops (file_of number rungs)) r.0 = whole_sum (draft_hops (file_of number rungs)) hop_small r.0 (source_place (file_of number rungs)) p.hop.tail r.1 in
       let below : s.value ≤ b.value = below_whole s.value b.value (subst (λ (x : ℚ). x ≤ℚ whole (pos b.value)) least_is
-          (subst (λ (x : ℚ). p.least ≤ℚ x) b.is (p.is_least.bound r.0 r.1))) in
+      (subst (λ (x : ℚ). p.least ≤ℚ x) b.is (p.is_least.bound r.0 r.1))) in
       let most : b.value ≤ 5 * length r.0 = b.few in
       let short : length r.0 ≤ 31 = r.2 in
       let few_t : t.value ≤ 5 = t.few in

@@ -82,7 +82,7 @@ along_more (suc i) old upper_text new first x y z start some h k m =
     let before : suc i - 1 ≡ i = omega arith in
     let on : suc i ≡ suc i + 1 - 1 = omega arith in
     let front : WritesLinks (flat_map rails_on (range_with_len 1 i)) start old first x =
-        subst (λ (n : ℕ). WritesLinks (flat_map rails_on (range_with_len 1 n)) start old first x) before h in
+    subst (λ (n : ℕ). WritesLinks (flat_map rails_on (range_with_len 1 n)) start old first x) before h in
     subst (λ (n : ℕ). WritesLinks (flat_map rails_on (range_with_len 1 n)) start new first z) on
     (subst (λ ls. WritesLinks ls start new first z) (sym (ap (flat_map rails_on) (count_push i) ∙ flat_map-append rails_on (range_with_len 1 i) (suc i ∷ [])))
     (writes_more (flat_map rails_on (range_with_len 1 i)) (rails_on (suc i)) start old new first x z front

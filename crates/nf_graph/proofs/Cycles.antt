@@ -56,8 +56,19 @@ back_more hops chosen placed start visited walk node e tail i hop below b enters
       way = (hop, p, sym t, subst (λ (v : ℕ). IsWalk hops walk v start) (sym enters.head ∙ ap (λ (h : Hop). h.head) same) b.way);
       along = along_more chosen walk e enters.chosen_too b.along;
       seen = λ v s. ⊎_elim
-          (λ (q : v ≡ i). (1, record { place = 0; number = e; hop = hop; at_place = refl; is_hop = p; head = sym (ap (λ (h : Hop). h.head) same)
-              ∙ enters.head ∙ sym n ∙ sym q; is_count = refl }))
+          (λ (q : v ≡ i). (
+            1,
+            record {
+              place = 0;
+              number = e;
+              hop = hop;
+              at_place = refl;
+              is_hop = p;
+              head = sym (ap (λ (h : Hop). h.head) same)
+                  ∙ enters.head ∙ sym n ∙ sym q;
+              is_count = refl;
+            },
+          ))
           (λ (k : Has visited v). turns_later hops walk e v (b.seen v k)) (Has-set_cases visited i v s);
     }
 

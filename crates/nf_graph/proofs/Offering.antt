@@ -155,11 +155,29 @@ offers_settled hops sums offers v sum o h = record {
   count = h.count ∙ sym (length-set sums v (Some sum));
   given = λ w q u g.
       let x : Offers hops sums w q = h.given w q (was_open w u) g in
-      record { number = x.number; hop = x.hop; is_hop = x.is_hop; before = x.before; tail = set_other sums v x.hop.tail (Some sum) x.before o x.tail; head =
-          x.head; not_settled = u; is_sum = x.is_sum };
+      record {
+        number = x.number;
+        hop = x.hop;
+        is_hop = x.is_hop;
+        before = x.before;
+        tail = set_other sums v x.hop.tail (Some sum) x.before o x.tail;
+        head =
+            x.head;
+        not_settled = u;
+        is_sum = x.is_sum;
+      };
   least =
-      λ w q x c. h.least w q (record { number = x.number; hop = x.hop; is_hop = x.is_hop; before = x.before; tail =
-      was_settled x.hop.tail x.before x.tail (none x.number x.hop c); head = x.head; not_settled = was_open w x.not_settled; is_sum = x.is_sum }) tt;
+      λ w q x c. h.least w q (record {
+        number = x.number;
+        hop = x.hop;
+        is_hop = x.is_hop;
+        before = x.before;
+        tail =
+            was_settled x.hop.tail x.before x.tail (none x.number x.hop c);
+        head = x.head;
+        not_settled = was_open w x.not_settled;
+        is_sum = x.is_sum;
+      }) tt;
   fits = λ e hop q p t c z. h.fits e hop q p (was_settled hop.tail q t (none e hop c)) tt z;
 }
   where
@@ -200,7 +218,7 @@ step_found sums offers v sum o h = record {
 module _ (sums offers : List (Option ℚ)) (count : ℕ) where
   given_nearer : (best offered nearer : Option Step) → IsNearer best offered nearer → ((step : Step) → best ≡ Some step → IsUnsettled sums step.node × HasSum offers step.node step.sum)
       → ((step : Step) → offered ≡ Some step → IsUnsettled sums step.node × HasSum offers step.node step.sum) → (step : Step) → nearer ≡ Some step
-          → IsUnsettled sums step.node × HasSum offers step.node step.sum
+      → IsUnsettled sums step.node × HasSum offers step.node step.sum
   given_nearer None offered nearer n g h step q = h step (sym n ∙ q)
   given_nearer (Some best) None nearer n g h step q = g step (sym n ∙ q)
   given_nearer (Some best) (Some offered) nearer n g h step q = ⊎_elim

@@ -89,13 +89,13 @@ module _ (nodes : ℕ) (hops : List Hop) (chosen placed : List Bool) (order : Li
 pub placed_first : (nodes : ℕ) (hops : List Hop) (chosen placed : List Bool) (order : List ℕ) → placed ≡ replicate nodes false → order ≡ [] → ArePlaced nodes hops chosen placed order
 placed_first nodes hops chosen placed order e f =
     subst (λ (o : List ℕ). ArePlaced nodes hops chosen placed o) (sym f) (subst (λ (p : List Bool). ArePlaced nodes hops chosen p []) (sym e) (record {
-  count = length-replicate nodes;
-  sum = free-replicate nodes;
-  placed_at = λ v s. absurd (Has-replicate nodes v s);
-  at_placed = λ i v p. absurd (cc);
-  once = λ i j v p q. absurd (cc);
-  earlier = λ e j hop p s q. absurd (cc);
-}))
+      count = length-replicate nodes;
+      sum = free-replicate nodes;
+      placed_at = λ v s. absurd (Has-replicate nodes v s);
+      at_placed = λ i v p. absurd (cc);
+      once = λ i j v p q. absurd (cc);
+      earlier = λ e j hop p s q. absurd (cc);
+    }))
   where
     length-replicate : (n : ℕ) → length (replicate n false) ≡ n
     length-replicate zero = refl

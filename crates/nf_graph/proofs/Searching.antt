@@ -46,6 +46,12 @@ module _ (hops : List Hop) (chosen placed : List Bool) where
   pub searched_placed : (searched : List ℕ) (i : ℕ) → AreSearched hops chosen placed searched → AreSearched hops chosen (set placed i true) searched
   searched_placed searched i h = record {
     count = h.count ∙ sym (length-set placed i true);
-    none = λ v s p e l x. h.none v s p e l (record { hop = x.hop; is_hop = x.is_hop; chosen_too = x.chosen_too; head = x.head; free =
-        λ f. x.free (Has-set_other placed i x.hop.tail f) });
+    none = λ v s p e l x. h.none v s p e l (record {
+      hop = x.hop;
+      is_hop = x.is_hop;
+      chosen_too = x.chosen_too;
+      head = x.head;
+      free =
+          λ f. x.free (Has-set_other placed i x.hop.tail f);
+    });
   }

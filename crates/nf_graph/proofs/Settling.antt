@@ -114,7 +114,7 @@ module _ (nodes : ℕ) (hops : List Hop) (from : ℕ) (sums : List (Option ℚ))
     start = set_other sums v from (Some sum) 0ℚ x.not_settled settled.start;
     least = λ w s h. ⊎_elim
         (λ (e : (w ≡ v) × (Some s ≡ Some sum)). subst (λ (k : ℕ). IsLeastTransit hops from k s) (sym e.0)
-            (subst (λ (t : ℚ). IsLeastTransit hops from v t) (same _ _ e.1) (offer_is_least v sum x m)))
+        (subst (λ (t : ℚ). IsLeastTransit hops from v t) (same _ _ e.1) (offer_is_least v sum x m)))
         (λ (k : slice_get sums w ≡ Some (Some s)). settled.least w s k)
         (set_cases sums v w (Some sum) (Some s) h);
   }

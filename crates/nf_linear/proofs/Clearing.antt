@@ -111,7 +111,7 @@ module _ (passes : Passing) (column pivot : ℕ) (pivot_row : Row) where
   clear_each-is i (row ∷ rows) e b =
       let long : length pivot_row ≡ length row = e 0 (omega arith) in
       ap (λ (r : Checked Row). r >>= λ r. clear_each passes column pivot (number_at pivot_row column) (some_from (suc column) (drop (suc column) pivot_row))
-          (suc i) rows >>= λ rs. Ok (r ∷ rs))
+      (suc i) rows >>= λ rs. Ok (r ∷ rs))
       (unless_is (i == pivot || is_zero (number_at row column)) row long (omega arith))
       ∙ ap (λ (s : Checked (List Row)). Lists.clear_unless passes (i == pivot || is_zero (number_at row column)) column pivot_row row >>= λ r. s >>= λ rs. Ok (r ∷ rs))
       (clear_each-is (suc i) rows (λ j c. e (suc j) (omega arith)) b)

@@ -128,7 +128,7 @@ one_grows rows k c i columns b free =
     (λ (same : c ≡ k).
     let now : get_or (set columns k (bit_or (get_or columns k 0) rows)) c 0 ≡ bit_or (get_or columns k 0) rows =
     ap (λ (n : ℕ). get_or (set columns k (bit_or (get_or columns k 0) rows)) n 0) same
-        ∙ get_or-set_same columns k (bit_or (get_or columns k 0) rows) 0 (subst (λ (n : ℕ). n < length columns) same b) in
+    ∙ get_or-set_same columns k (bit_or (get_or columns k 0) rows) 0 (subst (λ (n : ℕ). n < length columns) same b) in
     let whole : IsFree (bit_or (get_or columns k 0) rows) i = subst (λ (word : ℕ). IsFree word i) now free in
     subst (λ (n : ℕ). IsFree (get_or columns n 0) i) (sym same) (free_within (get_or columns k 0) (bit_or (get_or columns k 0) rows) i (within_left (get_or columns k 0) rows) whole))
     (λ (apart : c ≡ k → ⊥). subst (λ (word : ℕ). IsFree word i) (get_or-set_other columns k c (bit_or (get_or columns k 0) rows) 0 apart) free)
@@ -155,7 +155,7 @@ one_covered rows k i columns row y one covered c b free =
     (λ (same : c ≡ k).
     let now : get_or (set columns k (bit_or (get_or columns k 0) rows)) c 0 ≡ bit_or (get_or columns k 0) rows =
     ap (λ (n : ℕ). get_or (set columns k (bit_or (get_or columns k 0) rows)) n 0) same
-        ∙ get_or-set_same columns k (bit_or (get_or columns k 0) rows) 0 (subst (λ (n : ℕ). n < length columns) same inside) in
+    ∙ get_or-set_same columns k (bit_or (get_or columns k 0) rows) 0 (subst (λ (n : ℕ). n < length columns) same inside) in
     let whole : IsFree (bit_or (get_or columns k 0) rows) i = subst (λ (word : ℕ). IsFree word i) now free in
     absurd (not_free rows i one (free_within rows (bit_or (get_or columns k 0) rows) i (within_right (get_or columns k 0) rows) whole)))
     (λ (apart : c ≡ k → ⊥).
@@ -169,11 +169,11 @@ module _ (passes : Passing) where
   fold_covered f rows i (other ∷ others) columns row after one covered e =
       go (less_unless passes false f other.1 (number_at row other.0)) e
       (λ y h. fold_covered f rows i others (set columns other.0 (bit_or (get_or columns other.0 0) rows)) (set row other.0 y) after one
-          (one_covered rows other.0 i columns row y one covered) h)
+      (one_covered rows other.0 i columns row y one covered) h)
     where
       go : (r : Checked ℚ) → ((r >>= λ y. Ok (set row other.0 y)) >>= λ next. fold_checked (entry_less passes f) next others) ≡ Ok after
           → ((y : ℚ) → fold_checked (entry_less passes f) (set row other.0 y) others ≡ Ok after
-              → RowIsCovered (spread rows others (set columns other.0 (bit_or (get_or columns other.0 0) rows))) i after)
+          → RowIsCovered (spread rows others (set columns other.0 (bit_or (get_or columns other.0 0) rows))) i after)
           → RowIsCovered (spread rows others (set columns other.0 (bit_or (get_or columns other.0 0) rows))) i after
       go (Err p) h more = absurd (cc)
       go (Ok y) h more = more y h

@@ -66,7 +66,7 @@ module _ (passes : Passing) (f : ℚ) where
 
   with_zero_taken : (c : ℕ) (pivot_row row : Row) → length pivot_row ≡ length row → c < length row
       → folded (set row c 0ℚ) (some_from (suc c) (drop (suc c) pivot_row))
-          ≡ (entries_less passes f (drop (suc c) pivot_row) (drop (suc c) row) >>= λ later. Ok (take c row ++ 0ℚ ∷ later))
+      ≡ (entries_less passes f (drop (suc c) pivot_row) (drop (suc c) row) >>= λ later. Ok (take c row ++ 0ℚ ∷ later))
   with_zero_taken c pivot_row row e b =
       some_taken (drop (suc c) pivot_row) (set row c 0ℚ) (suc c) (omega (arith, length-drop (suc c) pivot_row, length-set row c 0ℚ))
       ∙ ap (λ (d : Row). entries_less passes f (drop (suc c) pivot_row) d >>= λ ys. Ok (take (suc c) (set row c 0ℚ) ++ ys)) (drop_set row c 0ℚ)

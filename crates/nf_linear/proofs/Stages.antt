@@ -41,7 +41,7 @@ module _ (rows : List Row) (pivots : List ℕ) (column pivot : ℕ) (e : pivot_o
   column_cleared passes new_rows new_pivots cleared pushed =
       ap (λ (o : Option ℕ). at_part Part.Table (eliminate_at passes (eliminated rows pivots) column o)) e
       ∙ ap (λ (r : Checked (List Row)). at_part Part.Table (r >>= λ rows. Ok (Some (eliminated rows (pivots ++ pivot ∷ [])))))
-          (ok_of_part Part.Table (clear_rows passes column pivot (row_at rows pivot) 0 rows) new_rows (sym cleared))
+      (ok_of_part Part.Table (clear_rows passes column pivot (row_at rows pivot) 0 rows) new_rows (sym cleared))
       ∙ ap (λ (p : List ℕ). Ok (Some (eliminated new_rows p))) (sym pushed)
 
   -- the column stops where its rows do

@@ -111,9 +111,9 @@ pub takes_stops : (passes : Passing) (factor : ℚ) (others : List (ℕ × ℚ))
     → TakesOff passes factor others before row k → Err q ≡ at_part Part.Table (fold_checked (entry_less passes factor) before others)
 takes_stops passes factor others before row k e column p x q b is seen value stop h =
     let first : at_part Part.Table (less_unless passes false factor p (number_at row column)) ≡ Err q =
-        ap (λ (w : ℚ). at_part Part.Table (less_unless passes false factor p w)) (sym value) ∙ sym stop in
+    ap (λ (w : ℚ). at_part Part.Table (less_unless passes false factor p w)) (sym value) ∙ sym stop in
     let here : at_part Part.Table (entry_less passes factor row (column, p)) ≡ Err q =
-        stopped Part.Table (less_unless passes false factor p (number_at row column)) (λ y. Ok (set row column y)) q first in
+    stopped Part.Table (less_unless passes false factor p (number_at row column)) (λ y. Ok (set row column y)) q first in
     sym (sym h.same ∙ ap (λ (l : List (ℕ × ℚ)). at_part Part.Table (fold_checked (entry_less passes factor) row l)) (next_other others k e column p b is seen)
     ∙ stopped Part.Table (entry_less passes factor row (column, p)) (λ next. fold_checked (entry_less passes factor) next (drop (k + 1) others)) q here)
 
@@ -124,7 +124,7 @@ takes_more passes factor others before row k e column p x y after b is seen valu
     let split : drop k others ≡ (column, p) ∷ drop (k + 1) others = next_other others k e column p b is seen in
     let long : length after ≡ length row = ap (length {A = ℚ}) made ∙ length-set row column y in
     let given : less_unless passes false factor p (number_at row column) ≡ Ok y = ap (λ (w : ℚ). less_unless passes false factor p w) (sym value)
-        ∙ ok_of_part Part.Table (less_unless passes false factor p x) y gives in
+    ∙ ok_of_part Part.Table (less_unless passes false factor p x) y gives in
     let step : entry_less passes factor row (column, p) ≡ Ok after = ap (λ (r : Checked ℚ). r >>= λ y. Ok (set row column y)) given ∙ ap Ok (sym made) in
     record {
       fits = subst (λ (n : ℕ). AllByRecursion (λ (other : ℕ × ℚ). other.0 < n) (drop (k + 1) others)) (sym long)

@@ -172,7 +172,7 @@ all_columns {n} done s values e =
 
 module _ (n c more : ℕ) (done : Eliminated) (s : IsCleared n c done.rows done.pivots) (inside : c < n) (values : Option (List ℚ))
     (rest : (next : Eliminated) → IsCleared n (suc c) next.rows next.pivots → with_solution (eliminate_from never more (suc c) next) ≡ Ok values
-        → Says n (numbers next.rows) values) where
+    → Says n (numbers next.rows) values) where
   by_pivot : (o : Option ℕ) → pivot_of done.rows done.pivots c ≡ o
       → with_solution (eliminate_at never done c o >>= if_some never (λ next. eliminate_from never more (suc c) next)) ≡ Ok values → Says n (numbers done.rows) values
   by_pivot None h e = subst (λ (v : Option (List ℚ)). Says n (numbers done.rows) v) (value_is (Ok None) None values refl e) (loose s inside h)
@@ -181,7 +181,7 @@ module _ (n c more : ℕ) (done : Eliminated) (s : IsCleared n c done.rows done.
       let next : Eliminated = record { rows = rows_after c p (row_at done.rows p) 0 done.rows; pivots = done.pivots ++ p ∷ [] } in
       says_before (is_step s inside p pivot) values (rest next (next_cleared s inside p pivot)
       (sym (ap (λ (r : Checked (List Row)). with_solution ((r >>= λ rows. Ok (Some (record { rows = rows; pivots = done.pivots ++ p ∷ [] }))) >>= if_some
-          never (λ next. eliminate_from never more (suc c) next)))
+      never (λ next. eliminate_from never more (suc c) next)))
       (rows_exact c p (row_at done.rows p) 0 done.rows)) ∙ e))
 
 eliminated : (more n c : ℕ) → c + more ≡ n → (done : Eliminated) → IsCleared n c done.rows done.pivots → (values : Option (List ℚ))

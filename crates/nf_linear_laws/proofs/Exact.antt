@@ -22,7 +22,7 @@ module _ (passes fewer : Passing) (none_more : PassesFewer passes fewer) where
   cleared_as : (column : ℕ) (pivot_row row : Row) → GivesAs (cleared_row passes column pivot_row row) (cleared_row fewer column pivot_row row)
   cleared_as column pivot_row row =
       bind _ _ _ _ (one passes fewer none_more Quotient (number_at row column) (number_at pivot_row column))
-          (λ f. bind _ _ _ _ (entries_as f (drop (suc column) pivot_row) (drop (suc column) row)) (λ later. same _))
+      (λ f. bind _ _ _ _ (entries_as f (drop (suc column) pivot_row) (drop (suc column) row)) (λ later. same _))
 
   unless_as : (stays : Bool) (column : ℕ) (pivot_row row : Row) → GivesAs (clear_unless passes stays column pivot_row row) (clear_unless fewer stays column pivot_row row)
   unless_as true column pivot_row row = same (Ok row)
@@ -32,7 +32,7 @@ module _ (passes fewer : Passing) (none_more : PassesFewer passes fewer) where
   rows_under column pivot pivot_row i [] = same (Ok [])
   rows_under column pivot pivot_row i (row ∷ rows) =
       bind _ _ _ _ (unless_as (i == pivot || is_zero (number_at row column)) column pivot_row row)
-          (λ r. bind _ _ _ _ (rows_under column pivot pivot_row (suc i) rows) (λ rs. same (Ok (r ∷ rs))))
+      (λ r. bind _ _ _ _ (rows_under column pivot pivot_row (suc i) rows) (λ rs. same (Ok (r ∷ rs))))
 
   eliminate_at_as : (done : Eliminated) (column : ℕ) (pivot : Option ℕ) → GivesAs (eliminate_at passes done column pivot) (eliminate_at fewer done column pivot)
   eliminate_at_as done column None = same (Ok None)

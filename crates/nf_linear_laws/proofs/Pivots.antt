@@ -100,7 +100,7 @@ members_below [] n h q e = absurd (cc)
 members_below (x ∷ xs) n h q e = ⊎_elim
     (λ (s : (eqb q x ≡ true) × (q ≡ x)). subst (λ (k : ℕ). k < n) (sym s.1) (h 0 (omega arith)))
     (λ (s : (eqb q x ≡ false) × (q ≢ x)). members_below xs n (λ d b. h (suc d) (omega arith)) q
-        (let k : (false || list_any (eqb q) xs) ≡ true = subst (λ (t : Bool). (t || list_any (eqb q) xs) ≡ true) s.0 e in k))
+    (let k : (false || list_any (eqb q) xs) ≡ true = subst (λ (t : Bool). (t || list_any (eqb q) xs) ≡ true) s.0 e in k))
     (eqb_tells q x)
 
 pub different : (a b : ℕ) → a ≢ b → eqb a b ≡ false
@@ -123,7 +123,7 @@ module _ (xs : List ℕ) (n : ℕ) (count : length xs ≡ n) (below : (d : ℕ) 
   too_many : (i : ℕ) → i < n → ((d : ℕ) → d < n → get_or xs d 0 ≢ i) → ⊥
   too_many i b h =
       let many : suc (length xs) ≤ n = length-le_from_distinct_below (i ∷ xs) n (IsDistinct-from_apart eqb (i ∷ xs) (one_more_apart i h))
-          (members_below (i ∷ xs) n (one_more_below i b)) in
+      (members_below (i ∷ xs) n (one_more_below i b)) in
       omega arith
 
   pub every_one : (i : ℕ) → i < n → (d : ℕ) × (d < n) × (get_or xs d 0 ≡ i)

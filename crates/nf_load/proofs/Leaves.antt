@@ -141,7 +141,7 @@ module _ (capacity : Option ℚ) (before after : lists.Exit) (pace : Pace) (is_p
     rise_by_step : (leaving : Leaving) → IsBusy c pace.rate leaving → amounts.rise ≡ c *ℚ step
     rise_by_step leaving busy = whole_rise pace.rate amounts.run amounts.rise step c leaving.exit
         (rise_by amounts.rise amounts.run pace.rate apart (checked-is passes_Q Quotient amounts.rise amounts.run pace.rate amounts.slope_is))
-            (step_by_run leaving busy) (slope_times leaving busy)
+        (step_by_run leaving busy) (slope_times leaving busy)
 
     busy_leaving : (leaving : Leaving) → IsBusy c pace.rate leaving → IsLeaving before after leaving
     busy_leaving leaving busy = record {

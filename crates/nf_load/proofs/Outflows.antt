@@ -50,7 +50,7 @@ leaves all leaving points new slopes more last known i j one next after are h at
   amount = one.waits.amount;
   linked = subst (λ (t : ℚ). Linked IsRate new more (t, one.waits.amount)) (sym g)
       (subst (λ (l : List Point). Linked IsRate l more (one.exit, one.waits.amount)) (sym e)
-          (subst (λ (l : List (Option ℚ)). Linked IsRate (points ++ (one.exit, one.waits.amount) ∷ []) l (one.exit, one.waits.amount)) (sym f)
+      (subst (λ (l : List (Option ℚ)). Linked IsRate (points ++ (one.exit, one.waits.amount) ∷ []) l (one.exit, one.waits.amount)) (sym f)
       (one_more IsRate points slopes (last, h.amount) (one.exit, one.waits.amount) known h.linked (h.next one at apart))));
   next = λ y there differ. subst (λ (t : ℚ). IsRate after (t, one.waits.amount) (y.exit, y.waits.amount)) (sym g)
       (subst (λ (o : Option ℚ). IsRate o (one.exit, one.waits.amount) (y.exit, y.waits.amount)) (sym k)

@@ -100,14 +100,14 @@ module _ (part : Part) (passes : Passing) (capacity rate : ℚ) (before : lists.
   change_passes p e =
       ap (λ (r : Checked ℚ). at_part part (r >>= λ queue. Ok (record { time = end.0; amount = end.1; queue = queue } ∷ []))) grown_is
       ∙ after_err part (checked passes Difference rate capacity >>= λ change. grown_by passes change before.queue before.time end.0) _ p
-          (after_err part (checked passes Difference rate capacity) _ p e)
+      (after_err part (checked passes Difference rate capacity) _ p e)
 
   pub change_goes : (change : ℚ) → at_part part (checked passes Difference rate capacity) ≡ Ok change
       → at_part part (lists.grows passes capacity rate before end) ≡ at_part part (queue_at_end change)
   change_goes change e =
       ap (λ (r : Checked ℚ). at_part part (r >>= λ queue. Ok (record { time = end.0; amount = end.1; queue = queue } ∷ []))) grown_is
       ∙ ap (λ (r : Checked ℚ). at_part part ((r >>= λ change. grown_by passes change before.queue before.time end.0) >>= λ queue. Ok
-          (record { time = end.0; amount = end.1; queue = queue } ∷ [])))
+      (record { time = end.0; amount = end.1; queue = queue } ∷ [])))
       (was_ok part (checked passes Difference rate capacity) change e)
 
 -- ---- the paces so far, and over one more piece

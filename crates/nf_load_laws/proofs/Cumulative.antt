@@ -79,7 +79,7 @@ module _ (passes : Passing) (f : ℚ → ℚ) (last : ℚ) where
       let p = then_ok (checked passes Product piece.rate d.between) _ y d.next in
       checked-is passes Sum so_far p.between y p.next
       ∙ ap (λ (x : ℚ). so_far +ℚ x) (checked-is passes Product piece.rate d.between p.between p.first
-          ∙ ap (λ (x : ℚ). piece.rate *ℚ x) (checked-is passes Difference end piece.start d.between d.first))
+      ∙ ap (λ (x : ℚ). piece.rate *ℚ x) (checked-is passes Difference end piece.start d.between d.first))
 
   -- the amount supplied by then and the remaining pieces make the whole amount
   abbrev GoesOn : ℚ → List Piece → Type 0
@@ -144,7 +144,7 @@ module _ (passes : Passing) (f : ℚ → ℚ) (last : ℚ) where
       (λ (w : (lt_ℚ piece.start last ≡ false) × (last ≤ℚ piece.start)).
       let here : end_of (piece ∷ later) last ≡ last = min_is_right piece.start last w.1 in
       subst (λ (l : List Point). FollowsFrom f last p l) (sym (after_0 last so_far (zero_lt p.0 last n (subst (λ (x : ℚ). p.0 <ℚ x) here h)))
-          ∙ cumulative_done passes so_far piece later last points w.0 g)
+      ∙ cumulative_done passes so_far piece later last points w.0 g)
       (goes k at (subst (λ (x : ℚ). p.0 <ℚ x) here h) (subst (λ (x : ℚ). IsAffine f p.0 x k) here line) (ends (subst (λ (x : ℚ). f x ≡ so_far) here e) refl)))
       (lt_ℚ_cases piece.start last)
     where
@@ -219,7 +219,7 @@ module _ (passes : Passing) (pieces : List Piece) (last : ℚ) (good : ArePieces
   from_start [] points e h g = later_start points (subst (λ (l : List Piece). 0ℚ <ℚ end_of l last) e h) (ap (λ (l : List Piece). cumulative_from passes 0ℚ l last) (sym e) ∙ g)
   from_start (piece ∷ later) points e h g = ⊎_elim
       (λ (l : 0ℚ <ℚ piece.start). later_start points (subst (λ (l : List Piece). 0ℚ <ℚ end_of l last) e (both piece.start last l h))
-          (ap (λ (l : List Piece). cumulative_from passes 0ℚ l last) (sym e) ∙ g))
+      (ap (λ (l : List Piece). cumulative_from passes 0ℚ l last) (sym e) ∙ g))
       (λ (l : piece.start ≤ℚ 0ℚ). at_start piece later points e (≤ℚ_antisymm _ _ l (starts_nn (piece ∷ later) piece later e refl)) h g)
       (lt_or_le_ℚ 0ℚ piece.start)
     where
@@ -234,7 +234,7 @@ module _ (passes : Passing) (pieces : List Piece) (last : ℚ) (good : ArePieces
       absurd (not_both_ℚ piece.start last w.1 (subst (λ (x : ℚ). x ≤ℚ piece.start) (sym z) (starts_nn (piece ∷ later) piece later e refl))))
       (λ (w : (lt_ℚ piece.start last ≡ false) × (last ≤ℚ piece.start)).
       subst (λ (l : List Point). FollowsFrom (λ t. supplied pieces t) last (0ℚ, 0ℚ) l)
-          (sym (at_0 last 0ℚ z) ∙ cumulative_done passes 0ℚ piece later last points w.0 g) (ends begins_0 (sym z)))
+      (sym (at_0 last 0ℚ z) ∙ cumulative_done passes 0ℚ piece later last points w.0 g) (ends begins_0 (sym z)))
       (lt_ℚ_cases piece.start last)
 
   -- if no operation passes, the curve is the amount supplied by the pieces up to the last time

@@ -35,7 +35,7 @@ same_line : (a b t k l x y u v z w : ℚ) → a <ℚ b → x ≡ y → u ≡ v �
     → (b -ℚ a) *ℚ z ≡ (b -ℚ a) *ℚ w
 same_line a b t k l x y u v z w h e f p q r s =
     linear_eq (a ∷ b ∷ t ∷ k ∷ l ∷ x ∷ y ∷ u ∷ v ∷ z ∷ w ∷ []) (eq_times (b -ℚ a) e ∷ eq_times (t -ℚ a) f ∷ eq_times (t -ℚ a) e ∷ eq_times
-        (t -ℚ a) p ∷ eq_times (t -ℚ a) q ∷ eq_times (b -ℚ a) r ∷ eq_times (b -ℚ a) s ∷ []) (search reading_of) tt tt
+    (t -ℚ a) p ∷ eq_times (t -ℚ a) q ∷ eq_times (b -ℚ a) r ∷ eq_times (b -ℚ a) s ∷ []) (search reading_of) tt tt
 
 pub ps-times_gap : (c x y : ℚ) → 0ℚ <ℚ c → x <ℚ y → 0ℚ <ℚ c *ℚ (y -ℚ x)
 ps-times_gap c x y h k = ps_times c (y -ℚ x) h (less_ps x y k)

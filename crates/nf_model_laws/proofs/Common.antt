@@ -14,8 +14,22 @@ pub use Rattle.nf_rational.specs.Operations.{0ℚ, 1ℚ, ◌*ℚ◌, ◌+ℚ◌,
 pub use Rattle.nf_rational.specs.Order.{le_ℚ, lt_ℚ, max_ℚ, min_ℚ, ◌<ℚ◌, ◌≤ℚ◌}
 pub use Rattle.nf_rational.specs.Rational.{ℚ}
 pub use Rattle.nf_rational_laws.proofs.Chains.{<_≤_trans, ≤ℚ_refl, ≤ℚ_trans}
-pub use Rattle.nf_rational_laws.proofs.Facts.{first_and_zero, first_of_sum, gap_np, less_le, less_zero, nn_plus_one, plus_zero_le, plus_zero_times,
-    same_sums, sum_le, term_and_zero, without_zero, zero_of_zero_times, zero_plus}
+pub use Rattle.nf_rational_laws.proofs.Facts.{
+  first_and_zero,
+  first_of_sum,
+  gap_np,
+  less_le,
+  less_zero,
+  nn_plus_one,
+  plus_zero_le,
+  plus_zero_times,
+  same_sums,
+  sum_le,
+  term_and_zero,
+  without_zero,
+  zero_of_zero_times,
+  zero_plus,
+}
 pub use Rattle.nf_rational_laws.proofs.Linear.{eq, eq_times, le, le_times, linear_eq, linear_false, linear_le, linear_lt, lt}
 pub use Rattle.nf_rational_laws.proofs.Order.{<ℚ_irrefl, less_nn, less_ps, lt_or_le_ℚ, nn_plus, nn_times, nn_whole, not_both_ℚ, ps_times, ps_whole, ≤ℚ_antisymm, ≤ℚ_of_lt, ≤ℚ_of_same}
 pub use Rattle.nf_rational_laws.proofs.Polynomial.{reading_of}

@@ -151,9 +151,9 @@ value-rises p (q ∷ rest) s t r v h k = by_first p q rest s
     (λ b e. line_rises p.0 p.1 s t (slope p q) _ _ k (nn-slope p.0 p.1 q.0 q.1 r.0 v.0) d e)
     (λ b e. subst (λ (y : ℚ). value (p ∷ q ∷ rest) s ≤ℚ y) (sym e)
     (≤ℚ_trans _ _ _ (line_rises p.0 p.1 s q.0 (slope p q) _ q.1 (≤ℚ_of_lt _ _ a) (nn-slope p.0 p.1 q.0 q.1 r.0 v.0) d
-        (sym (line_end p.0 p.1 q.0 q.1 (slope p q) (slope-times p q r.0)))) (value-floor q rest t r.1 v.1 b))))
+    (sym (line_end p.0 p.1 q.0 q.1 (slope p q) (slope-times p q r.0)))) (value-floor q rest t r.1 v.1 b))))
     (λ a d. subst (λ (y : ℚ). y ≤ℚ value (p ∷ q ∷ rest) t) (sym d) (subst (λ (y : ℚ). value (q ∷ rest) s ≤ℚ y)
-        (sym (value-after p q rest t (≤ℚ_trans _ _ _ a k))) (value-rises q rest s t r.1 v.1 a k)))
+    (sym (value-after p q rest t (≤ℚ_trans _ _ _ a k))) (value-rises q rest s t r.1 v.1 a k)))
 
 pub NeverFalls-value : (points : List (ℚ × ℚ)) → IsCurve points → ValuesRise points → NeverFalls (value points)
 NeverFalls-value [] c v s t h k = absurd c
@@ -256,13 +256,13 @@ pub value-append_before : (front : List (ℚ × ℚ)) (p q : ℚ × ℚ) (t : �
     → value ((front ++ p ∷ []) ++ q ∷ []) t ≡ value (front ++ p ∷ []) t
 value-append_before [] p q t c h i k =
     value-line p q [] t (h, tt) (≤ℚ_trans _ _ _ k (≤ℚ_of_lt _ _ h)) ∙ subst (λ (u : ℚ). p.1 +ℚ slope p q *ℚ (u -ℚ p.0) ≡ p.1)
-        (≤ℚ_antisymm _ _ (subst (λ (z : ℚ). z ≤ℚ t) (sym c.0) i) k) (line_start p.0 p.1 (slope p q))
+    (≤ℚ_antisymm _ _ (subst (λ (z : ℚ). z ≤ℚ t) (sym c.0) i) k) (line_start p.0 p.1 (slope p q))
 value-append_before (x ∷ front) p q t c h i k = value-push_before front x p q t c.1 h k
 
 pub EndsAt-push_before : (points : List (ℚ × ℚ)) (p q : ℚ × ℚ) (t : ℚ) → EndsAt points p → p.0 <ℚ q.0 → 0ℚ ≤ℚ t → t ≤ℚ p.0 → value (points ++ q ∷ []) t ≡ value points t
 EndsAt-push_before points p q t e h i k =
     ap (λ (l : List (ℚ × ℚ)). value (l ++ q ∷ []) t) e.same ∙ value-append_before e.front p q t
-        (subst (λ (l : List (ℚ × ℚ)). IsCurve l) e.same e.curve) h i k ∙ sym (ap (λ (l : List (ℚ × ℚ)). value l t) e.same)
+    (subst (λ (l : List (ℚ × ℚ)). IsCurve l) e.same e.curve) h i k ∙ sym (ap (λ (l : List (ℚ × ℚ)). value l t) e.same)
 
 -- ---- the same for a curve as it stands
 pub IsCurve-append : (front : List (ℚ × ℚ)) (p q : ℚ × ℚ) → IsCurve (front ++ p ∷ []) → p.0 <ℚ q.0 → IsCurve ((front ++ p ∷ []) ++ q ∷ [])

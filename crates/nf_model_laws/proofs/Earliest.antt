@@ -61,10 +61,10 @@ module _ (net : Network) (amount : ℕ → ℚ → ℚ) (departure : ℚ) (label
     starts = labels.source;
     not_before = λ e hop p. by_link net (λ (h : Hop). h.head ≢ net.source → (exit : ℚ) × IsExitOf net amount e (label h.tail) exit × (label h.head ≤ℚ exit)) e
         (λ link q other. let x : (exit : ℚ) × IsExit link.transit link.capacity (amount e) (label link.tail) exit × (label link.head ≤ℚ exit) =
-            labels.not_before e link q other in (x.0, (link, q, x.1), x.2)) hop p;
+        labels.not_before e link q other in (x.0, (link, q, x.1), x.2)) hop p;
     entered = λ v h other.
         let x : (e : ℕ) × (link : Link) × IsLink net e link × (link.head ≡ v)
-            × IsExit link.transit link.capacity (amount e) (label link.tail) (label link.head) = labels.entered v h other in
+        × IsExit link.transit link.capacity (amount e) (label link.tail) (label link.head) = labels.entered v h other in
         (x.0, hop_of x.1, hop_at net x.0 x.1 x.2, x.3, (x.1, x.2, x.4));
   }
 

@@ -173,7 +173,7 @@ module _ (hops : List Hop) (nodes source : ℕ) (Cross : ℕ → ℚ → ℚ →
         let before : label hop.tail ≤ℚ between = (first hop.tail (good.tails e hop p)).least front between w c in
         let o : (exit : ℚ) × Cross e (label hop.tail) exit = exits e hop p (subst (λ (k : ℕ). k ≢ source) (sym at) other) in
         let same : o.0 ≡ label hop.head = ≤ℚ_antisymm _ _ (subst (λ (k : ℕ). o.0 ≤ℚ label k) (sym at)
-            (can.keeps e hop (label hop.tail) between o.0 (label v) p before o.1 x)) (over_hop e hop o.0 p o.1) in
+        (can.keeps e hop (label hop.tail) between o.0 (label v) p before o.1 x)) (over_hop e hop o.0 p o.1) in
         (e, hop, p, at, subst (λ (t : ℚ). Cross e (label hop.tail) t) same o.1)
 
     by_walk : (v : ℕ) → v ≢ source → (walk : List ℕ) → IsWalk hops walk source v → Comes Cross walk departure (label v) → Entry v

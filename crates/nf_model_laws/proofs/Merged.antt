@@ -9,7 +9,7 @@ pub value-merged : (front : List (ℚ × ℚ)) (p q r : ℚ × ℚ) (rest : List
 value-merged [] p q r rest t c e h = value-merge [] p q r rest t c.1 e (subst (λ (z : ℚ). z ≤ℚ t) (sym c.0) h)
 value-merged (x ∷ front) p q r rest t c e h = ⊎_elim
     (λ (l : t <ℚ p.0). value-front front x p (q ∷ r ∷ rest) t c.1 (≤ℚ_of_lt _ _ l)
-        ∙ sym (value-front front x p (r ∷ rest) t (TimesRise-merge (x ∷ front) p q r rest c.1) (≤ℚ_of_lt _ _ l)))
+    ∙ sym (value-front front x p (r ∷ rest) t (TimesRise-merge (x ∷ front) p q r rest c.1) (≤ℚ_of_lt _ _ l)))
     (λ (l : p.0 ≤ℚ t). value-merge (x ∷ front) p q r rest t c.1 e l)
     (lt_or_le_ℚ t p.0)
 

@@ -101,7 +101,7 @@ carried-is n w (link ∷ links) f b =
     (λ v. (if eqb link.head v then 0ℚ -ℚ w v *ℚ f 0 else 0ℚ) +ℚ w v *ℚ out_less_in links rest v)
     (λ v. one_link (w v) (sum_out links rest v) (sum_in links rest v) (f 0) (eqb link.tail v) (eqb link.head v))
     ∙ ap (λ (s : ℚ). sum_to n (λ v. if eqb link.tail v then w v *ℚ f 0 else 0ℚ) +ℚ s)
-        (sum_to-plus n _ (λ v. if eqb link.head v then 0ℚ -ℚ w v *ℚ f 0 else 0ℚ) (λ v. w v *ℚ out_less_in links rest v) (λ v. refl)))
+    (sum_to-plus n _ (λ v. if eqb link.head v then 0ℚ -ℚ w v *ℚ f 0 else 0ℚ) (λ v. w v *ℚ out_less_in links rest v) (λ v. refl)))
 
 -- ---- two flows compared link by link
 pub carried-le : (w : ℕ → ℚ) (links : List Link) (x y : ℕ → ℚ)

@@ -39,7 +39,7 @@ module _ (capacity : ℚ) (amount : ℚ → ℚ) (start end rate queue : ℚ) (l
       (λ (l : start ≤ℚ since). ⊎_elim
       (λ (f : rate <ℚ capacity). slower rate capacity start time since y _ _ _ (line.line time h k) (line.line since l (≤ℚ_trans _ _ _ w.1 k)) (≤ℚ_of_lt _ _ f) w.1 n)
       (λ (f : capacity ≤ℚ rate). faster rate capacity start time since queue y _ _ _ (line.line time h k) (line.line since l (≤ℚ_trans _ _ _ w.1 k)) f l
-          (IsQueue-nn (Some capacity) amount start queue before) m)
+      (IsQueue-nn (Some capacity) amount start queue before) m)
       (lt_or_le_ℚ rate capacity))
       (lt_or_le_ℚ since start)
 

@@ -13,8 +13,12 @@ StartsRise rest = Unit {0}
 
 ArePieces-rest : (p : Piece) (rest : List Piece) → ArePieces (p ∷ rest) → ArePieces rest
 ArePieces-rest p rest a =
-    record { starts = λ i piece e. a.starts (suc i) piece e; rise = λ i piece next e f. a.rise (suc i) piece next e f; rates =
-    λ i piece e. a.rates (suc i) piece e }
+    record {
+      starts = λ i piece e. a.starts (suc i) piece e;
+      rise = λ i piece next e f. a.rise (suc i) piece next e f;
+      rates =
+          λ i piece e. a.rates (suc i) piece e;
+    }
 
 pub StartsRise-pieces : (pieces : List Piece) → ArePieces pieces → StartsRise pieces
 StartsRise-pieces [] a = tt
@@ -107,9 +111,10 @@ module _ (time later : ℚ) (h : time <ℚ later) where
 -- ---- the same, of pieces by their number
 NoneBetween-from : (pieces : List Piece) (time later : ℚ) → NoStartBetween pieces time later → NoneBetween pieces time later
 NoneBetween-from [] time later n = tt
-NoneBetween-from (p ∷ rest) time later n =
-    (⊎_elim (λ (l : time <ℚ p.start). inr (n 0 p refl l)) (λ (l : p.start ≤ℚ time). inl l) (lt_or_le_ℚ time p.start),
-    NoneBetween-from rest time later (λ i piece e. n (suc i) piece e))
+NoneBetween-from (p ∷ rest) time later n = (
+  ⊎_elim (λ (l : time <ℚ p.start). inr (n 0 p refl l)) (λ (l : p.start ≤ℚ time). inl l) (lt_or_le_ℚ time p.start),
+  NoneBetween-from rest time later (λ i piece e. n (suc i) piece e),
+)
 
 no_time : (y r t u : ℚ) → t ≡ u → y ≡ y +ℚ r *ℚ (u -ℚ t)
 no_time y r t u e = linear_eq (y ∷ r ∷ t ∷ u ∷ []) (eq_times r e ∷ []) (search reading_of) tt tt

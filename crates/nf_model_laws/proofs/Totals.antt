@@ -24,7 +24,7 @@ pub two_cancel : (n s t : ℕ) (f : ℕ → ℚ) → s < n → t < n → s ≢ t
 two_cancel n s t f h k other none e =
     total (f s) (f t) _ _ (sum_to-only n s (f s) h) (sum_to-only n t (f t) k)
     (sym (sum_to-plus n (λ v. only_at s (f s) v +ℚ only_at t (f t) v) (only_at s (f s)) (only_at t (f t)) (λ v. refl))
-        ∙ sym (sum_to-same n f (λ v. only_at s (f s) v +ℚ only_at t (f t) v) at) ∙ e)
+    ∙ sym (sum_to-same n f (λ v. only_at s (f s) v +ℚ only_at t (f t) v) at) ∙ e)
   where
     total : (a b p q : ℚ) → p ≡ a → q ≡ b → p +ℚ q ≡ 0ℚ → a +ℚ b ≡ 0ℚ
     total a b p q e f g = linear_eq (a ∷ b ∷ p ∷ q ∷ []) (eq e ∷ eq f ∷ eq g ∷ []) (search reading_of) tt tt
@@ -50,7 +50,7 @@ module _ (net : Network) (good : IsNetwork net) where
       → ((v : ℕ) → v < net.nodes → v ≢ net.source → v ≢ net.sink → out_less_in net.links f v ≡ 0ℚ) → out_less_in net.links f net.sink ≡ 0ℚ -ℚ rate
   sink_takes f rate e inner = taken _ _ rate e
       (two_cancel net.nodes net.source net.sink (out_less_in net.links f) good.source good.sink good.apart inner
-          (all_zero net.nodes net.links f (λ e link p. (good.tails e link p, good.heads e link p))))
+      (all_zero net.nodes net.links f (λ e link p. (good.tails e link p, good.heads e link p))))
     where
       taken : (y z r : ℚ) → y ≡ r → y +ℚ z ≡ 0ℚ → z ≡ 0ℚ -ℚ r
       taken y z r e f = linear_eq (y ∷ z ∷ r ∷ []) (eq e ∷ eq f ∷ []) (search reading_of) tt tt

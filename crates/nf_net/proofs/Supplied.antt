@@ -75,13 +75,13 @@ module _ (passes : Passing) (time : ℚ) where
       step true is cases e rest =
           let found = bind_ok (with_piece passes so_far piece (end_before later time)) (λ sum. supplied_after passes sum later time) v e in
           let starts : piece.start <ℚ time = ⊎_elim (λ (w : (lt_ℚ piece.start time ≡ true) × (piece.start <ℚ time)). w.1)
-              (λ (w : (lt_ℚ piece.start time ≡ false) × (time ≤ℚ piece.start)). cc) cases in
+          (λ (w : (lt_ℚ piece.start time ≡ false) × (time ≤ℚ piece.start)). cc) cases in
           joined v found.0 so_far piece.rate (end_before later time) piece.start (supplied later time) (rest found.0 found.2)
-              (with_piece_is passes so_far piece (end_before later time) found.0 found.1)
+          (with_piece_is passes so_far piece (end_before later time) found.0 found.1)
           ∙ ap (λ (t : ℚ). so_far +ℚ (piece.rate *ℚ t +ℚ supplied later time)) (sym (time_when piece.start later time (first_rises piece later r) starts))
       step false is cases e rest =
           let starts : time ≤ℚ piece.start = ⊎_elim (λ (w : (lt_ℚ piece.start time ≡ true) × (piece.start <ℚ time)). cc)
-              (λ (w : (lt_ℚ piece.start time ≡ false) × (time ≤ℚ piece.start)). w.1) cases in
+          (λ (w : (lt_ℚ piece.start time ≡ false) × (time ≤ℚ piece.start)). w.1) cases in
           nothing_more v so_far piece.rate (supplied later time) (rest so_far e)
           ∙ ap (λ (t : ℚ). so_far +ℚ (piece.rate *ℚ t +ℚ supplied later time)) (sym (time_unless piece.start later time starts))
 

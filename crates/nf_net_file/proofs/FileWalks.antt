@@ -167,15 +167,15 @@ module _ (draft : Draft) (hops : List Hop) (are : hops ≡ draft_hops draft) whe
   pub has_passing : (from e : ℕ) (left right : ℚ) → from ≡ source_place draft → PassesAt hops from e left right → is_wide greatest left ≡ false → HasPassingSum draft
   has_passing from e left right is given fraction =
       let p : PassesAt (draft_hops draft) (source_place draft) e left right =
-          subst (λ (hs : List Hop). PassesAt hs (source_place draft) e left right) are (subst (λ (v : ℕ). PassesAt hops v e left right) is given) in
+      subst (λ (hs : List Hop). PassesAt hs (source_place draft) e left right) are (subst (λ (v : ℕ). PassesAt hops v e left right) is given) in
       record { link = e; hop = p.hop; least = left; is_hop = p.is_hop; is_least = p.least; is_fraction = fraction; passes = ap (λ (t : ℚ). passes_Q Sum left t) p.transit ∙ p.passes }
 
   pub has_no_passing : (from : ℕ) → from ≡ source_place draft → ((link : ℕ) (left right : ℚ) → PassesAt hops from link left right → ⊥) → HasPassingSum draft → ⊥
   has_no_passing from is f p =
       let given : PassesAt (draft_hops draft) (source_place draft) p.link p.least p.hop.transit =
-          record { hop = p.hop; is_hop = p.is_hop; least = p.is_least; transit = refl; passes = p.passes } in
+      record { hop = p.hop; is_hop = p.is_hop; least = p.is_least; transit = refl; passes = p.passes } in
       f p.link p.least p.hop.transit (subst (λ (v : ℕ). PassesAt hops v p.link p.least p.hop.transit) (sym is)
-          (subst (λ (hs : List Hop). PassesAt hs (source_place draft) p.link p.least p.hop.transit) (sym are) given))
+      (subst (λ (hs : List Hop). PassesAt hs (source_place draft) p.link p.least p.hop.transit) (sym are) given))
 
   pub passing_by_fault : (from : ℕ) → from ≡ source_place draft → (fault : DistanceFault) (r : Result Bool AllocError) → ForPassed (PassesAt hops from) fault
       → IfOk r (λ passing. (passing ≡ true) × HasFraction fault) → IfOk r (λ passing. MatchBool passing (HasPassingSum draft) (HasPassingSum draft → ⊥))

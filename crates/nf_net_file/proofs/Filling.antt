@@ -11,7 +11,7 @@ pub filled : {A B : Type 0} (given : List A → List B) (xs : List A) (i : ℕ) 
     → given (x ∷ drop (i + 1) xs) ≡ more ++ given (drop (i + 1) xs) → front ++ given (drop i xs) ≡ whole → new ++ given (drop (i + 1) xs) ≡ whole
 filled {B = B} given xs i x front more new whole grown below is step h =
     ap (λ (l : List B). l ++ given (drop (i + 1) xs)) grown ∙ append_assoc front more (given (drop (i + 1) xs))
-        ∙ ap (λ (l : List B). front ++ l) (sym step ∙ ap given (sym (at_entry xs i x below is))) ∙ h
+    ∙ ap (λ (l : List B). front ++ l) (sym step ∙ ap given (sym (at_entry xs i x below is))) ∙ h
 
 -- and at the end, where nothing is left
 pub filled_all : {A B : Type 0} (given : List A → List B) (xs : List A) (i : ℕ) (front whole : List B) → length xs ≤ i → given [] ≡ []

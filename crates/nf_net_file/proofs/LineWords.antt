@@ -125,13 +125,13 @@ module _ (version : ℕ) (words : List (List ℕ)) (n : length words ≡ 6) wher
   module _ (name tail head name_word tail_word head_word : Name) (is_name_word : name_word ≡ word_at words 1) (is_tail_word : tail_word ≡ word_at words 2)
       (is_head_word : head_word ≡ word_at words 3)
       (read_name : (name ≡ name_word) × (is_name name_word ≡ true)) (read_tail : (tail ≡ tail_word) × (is_name tail_word ≡ true))
-          (read_head : (head ≡ head_word) × (is_name head_word ≡ true)) where
+      (read_head : (head ≡ head_word) × (is_name head_word ≡ true)) where
     with_names : (transit : _) (capacity : _) → number_in version (word_at words 4) ≡ transit → capacity_in version (word_at words 5) ≡ capacity
         → link_line version (drop 1 words) ≡ link_entry name tail head transit capacity
     with_names transit capacity t k =
         link_is version words n (ap is_name (sym is_name_word) ∙ read_name.1) (ap is_name (sym is_tail_word) ∙ read_tail.1) (ap is_name (sym is_head_word) ∙ read_head.1)
         ∙ ap (λ (x : Name). link_entry x (word_at words 2) (word_at words 3) (number_in version (word_at words 4)) (capacity_in version (word_at words 5)))
-            (sym (read_name.0 ∙ is_name_word))
+        (sym (read_name.0 ∙ is_name_word))
         ∙ ap (λ (x : Name). link_entry name x (word_at words 3) (number_in version (word_at words 4)) (capacity_in version (word_at words 5))) (sym (read_tail.0 ∙ is_tail_word))
         ∙ ap (λ (x : Name). link_entry name tail x (number_in version (word_at words 4)) (capacity_in version (word_at words 5))) (sym (read_head.0 ∙ is_head_word))
         ∙ ap (λ x. link_entry name tail head x (capacity_in version (word_at words 5))) t ∙ ap (λ x. link_entry name tail head transit x) k

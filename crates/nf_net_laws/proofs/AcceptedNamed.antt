@@ -193,10 +193,12 @@ module _ (draft : Draft) (g : IsGoodDraft draft) (fine : AllByRecursion (λ rule
       let r : IsReachedName draft (name_at nodes v) = has_every (IsReachedName draft) nodes (name_at nodes v) (nodes_reached draft g fine flags act) (has_at nodes v low) in
       let c = walk_to_net r.reached.0 (place_of draft.nodes (name_at nodes v)) r.reached.1 in
       let ends_at : place_of nodes (name_at draft.nodes (place_of draft.nodes (name_at nodes v))) ≡ v =
-          ap (place_of nodes) (name_at-place draft.nodes (name_at nodes v) r.there) ∙ place_at nodes v nodes_distinct low in
-      (c.image, subst (λ hops. IsWalk hops c.image 0 v) (sym hops_are) (subst (λ w. IsWalk (hops_among nodes active) c.image 0 w) ends_at
-          (subst (λ u. IsWalk (hops_among nodes active) c.image u (place_of nodes (name_at draft.nodes (place_of draft.nodes (name_at nodes v)))))
-          source_number c.is_walk)))
+      ap (place_of nodes) (name_at-place draft.nodes (name_at nodes v) r.there) ∙ place_at nodes v nodes_distinct low in (
+        c.image,
+        subst (λ hops. IsWalk hops c.image 0 v) (sym hops_are) (subst (λ w. IsWalk (hops_among nodes active) c.image 0 w) ends_at
+            (subst (λ u. IsWalk (hops_among nodes active) c.image u (place_of nodes (name_at draft.nodes (place_of draft.nodes (name_at nodes v)))))
+            source_number c.is_walk)),
+      )
 
   is_network : IsNetwork n.net
   is_network = record {
@@ -209,7 +211,7 @@ module _ (draft : Draft) (g : IsGoodDraft draft) (fine : AllByRecursion (λ rule
         (at_marked (IsNamedLink draft.version) active good_links e c.entry c.is_entry).transit);
     capacities = λ e link capacity is eq. (let c = link_from e link is in
         positive_capacity draft.version c.entry.capacity capacity (at_marked (IsNamedLink draft.version) active good_links e c.entry c.is_entry).capacity
-            (ap (λ (x : Link). x.capacity) c.is_image ∙ eq));
+        (ap (λ (x : Link). x.capacity) c.is_image ∙ eq));
     pieces = are_pieces draft.pieces g.not_negative g.rise;
     cycles = λ e walk v h. subst (λ hops. 0ℚ <ℚ transit_sum hops (e ∷ walk)) (sym hops_are)
         (circles draft g nodes active active_of fine.1.1.1.1.0 e walk v (subst (λ hops. IsWalk hops (e ∷ walk) v v) hops_are h));
@@ -235,7 +237,7 @@ module _ (draft : Draft) (g : IsGoodDraft draft) (fine : AllByRecursion (λ rule
   all_names = record {
     each = subst (λ names. list_all is_name names ≡ true) all_nodes_are
         (all_with_names is_name nodes (ends idle) (all_with_names is_name (s ∷ t ∷ []) (ends active) (λ i. s_is_name i && (t_is_name i && true))
-            (ends_are_names active good_links)) (ends_are_names idle good_idle));
+        (ends_are_names active good_links)) (ends_are_names idle good_idle));
     distinct = subst (IsDistinct bytes_eq) all_nodes_are (distinct_with_names nodes (ends idle) nodes_distinct);
   }
 
@@ -297,13 +299,16 @@ module _ (draft : Draft) (g : IsGoodDraft draft) (fine : AllByRecursion (λ rule
     taken = (
         let c = walk_to_file draft g nodes active active_of h.taken.0 0 (place_of nodes l.tail) h.taken.1 in
         let from : place_of draft.nodes (name_at nodes 0) ≡ source_place draft = ap (place_of draft.nodes) first_name in
-        let to : place_of draft.nodes (name_at nodes (place_of nodes l.tail)) ≡ place_of draft.nodes l.tail = ap (place_of draft.nodes) (name_at-place nodes l.tail named_) in
-        (c.image, subst (λ u. IsWalk (draft_hops draft) c.image u (place_of draft.nodes l.tail)) from
-            (subst (λ w. IsWalk (draft_hops draft) c.image (place_of draft.nodes (name_at nodes 0)) w) to c.is_walk), c.sum ∙ h.taken.2));
+        let to : place_of draft.nodes (name_at nodes (place_of nodes l.tail)) ≡ place_of draft.nodes l.tail = ap (place_of draft.nodes) (name_at-place nodes l.tail named_) in (
+          c.image,
+          subst (λ u. IsWalk (draft_hops draft) c.image u (place_of draft.nodes l.tail)) from
+              (subst (λ w. IsWalk (draft_hops draft) c.image (place_of draft.nodes (name_at nodes 0)) w) to c.is_walk),
+          c.sum ∙ h.taken.2,
+        ));
     bound = λ walk w. (
         let c = walk_to_net walk (place_of draft.nodes l.tail) w in
         let to : place_of nodes (name_at draft.nodes (place_of draft.nodes l.tail)) ≡ place_of nodes l.tail =
-            ap (place_of nodes) (name_at-place draft.nodes l.tail (there draft g fine flags act i l is).0) in
+        ap (place_of nodes) (name_at-place draft.nodes l.tail (there draft g fine flags act i l is).0) in
         subst (λ x. least ≤ℚ x) c.sum (h.bound c.image (subst (λ u. IsWalk (hops_among nodes active) c.image u (place_of nodes l.tail)) source_number
         (subst (λ v. IsWalk (hops_among nodes active) c.image (place_of nodes (name_at draft.nodes (source_place draft))) v) to c.is_walk))));
   }

@@ -100,9 +100,11 @@ module _ (draft : Draft) (g : IsGoodDraft draft) (fine : AllByRecursion (λ rule
   hop_there i l is = slice_get-image (λ l. hop_of (numbered draft.nodes l)) draft.links i l is
 
   pub reached_on : (i : ℕ) (l : NamedLink) → slice_get draft.links i ≡ Some l → Reached l → IsReached draft (place_of draft.nodes l.head)
-  reached_on i l is r =
-      (r.0 ++ i ∷ [], walk_push (draft_hops draft) r.0 (source_place draft) (place_of draft.nodes l.tail) i (hop_of (numbered draft.nodes l)) r.1
-      (hop_there i l is) refl)
+  reached_on i l is r = (
+    r.0 ++ i ∷ [],
+    walk_push (draft_hops draft) r.0 (source_place draft) (place_of draft.nodes l.tail) i (hop_of (numbered draft.nodes l)) r.1
+        (hop_there i l is) refl,
+  )
 
   -- ---- the sink is reached
   active_ones : AllByRecursion (λ l. Entry draft.links l × Reached l) (marked flags draft.links)
@@ -139,7 +141,7 @@ module _ (draft : Draft) (g : IsGoodDraft draft) (fine : AllByRecursion (λ rule
           let head : place_of draft.nodes c.entry.head ≡ place_of draft.nodes t = ap (λ (x : Hop). x.head) c.is_image ∙ r.head in
           let same : c.entry.head ≡ t = same_place c.entry.head t (there r.number c.entry c.is_entry).1 t_there head in
           let yes : has_name (heads (marked flags draft.links)) t ≡ true = subst (λ name. has_name (heads (marked flags draft.links)) name ≡ true) same
-              (head_among (marked flags draft.links) k.0 c.entry k.1) in
+          (head_among (marked flags draft.links) k.0 c.entry k.1) in
           absurd (cc)
 
   leaves : (¬ IsReached draft (place_of draft.nodes t)) → LeavesUnreached draft

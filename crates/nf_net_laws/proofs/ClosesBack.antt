@@ -104,7 +104,7 @@ module _ (n : Named) (h : IsNamed n) where
   reached_in v low =
       let w : (walk : List ℕ) × IsWalk (hops n.net) walk n.net.source v = h.network.reached v low in
       let c : Carried (hops n.net) (all_hops n) (λ v. v) (λ v. Unit {0}) w.0 n.net.source v =
-          carried (hops n.net) (all_hops n) (λ v. v) (λ v. Unit {0}) to_all w.0 n.net.source v tt w.1 in
+      carried (hops n.net) (all_hops n) (λ v. v) (λ v. Unit {0}) to_all w.0 n.net.source v tt w.1 in
       (c.image, subst (λ s. IsWalk (all_hops n) c.image s v) (sym source_is) c.is_walk)
 
   pub reached_below : (v : ℕ) → IsReached (draft_of n) v → v < n.net.nodes
@@ -129,12 +129,12 @@ module _ (n : Named) (h : IsNamed n) where
     | inl e ↦ let b : MatchBool (1 == 1) ((v : ℕ) × (v < length (all_nodes n)) × (¬ IsReached (draft_of n) v))
         (¬ IsReached (draft_of n) (place_of (all_nodes n) (name_at n.node_names 1)))
         = subst (λ k. MatchBool (k == 1) ((v : ℕ) × (v < length (all_nodes n)) × (¬ IsReached (draft_of n) v))
-            (¬ IsReached (draft_of n) (place_of (all_nodes n) (name_at n.node_names 1)))) e broken in
+        (¬ IsReached (draft_of n) (place_of (all_nodes n) (name_at n.node_names 1)))) e broken in
         b.2 (reached_in b.0 (subst (λ k. b.0 < k) (nothing_idle e) b.1))
     | inr e ↦ let b : MatchBool (2 == 1) ((v : ℕ) × (v < length (all_nodes n)) × (¬ IsReached (draft_of n) v))
         (¬ IsReached (draft_of n) (place_of (all_nodes n) (name_at n.node_names 1)))
         = subst (λ k. MatchBool (k == 1) ((v : ℕ) × (v < length (all_nodes n)) × (¬ IsReached (draft_of n) v))
-            (¬ IsReached (draft_of n) (place_of (all_nodes n) (name_at n.node_names 1)))) e broken in
+        (¬ IsReached (draft_of n) (place_of (all_nodes n) (name_at n.node_names 1)))) e broken in
         b (subst (IsReached (draft_of n)) (sym sink_is) (reached_in n.net.sink h.network.sink))
   ]
 

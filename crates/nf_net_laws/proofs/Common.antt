@@ -9,12 +9,56 @@ pub use Rattle.nf_model.specs.Walk.{Hop, IsHop, IsLeastTransit, IsWalk, transit_
 pub use Rattle.nf_model_laws.proofs.Networks.{transit_of-hop}
 pub use Rattle.nf_net_def.specs.Named.{Named, NamedLink, active_links, all_hops, all_links, all_nodes, ends, hops_among, link_by_name, links_by_name, names_of, numbered}
 pub use Rattle.nf_net_def.specs.Names.{AreNames, Name, has_name, is_name, is_name_byte, name_at, place_of, with_name, with_names, without}
-pub use Rattle.nf_net_def.specs.NetClosing.{AreActive, Breaks, HasPassingSum, HasZeroCycle, IsFirst, IsReached, LeavesUnreached, StandsFor, closing_rules,
-    draft_hops, marked, network_of, sink_name, source_name, source_place}
+pub use Rattle.nf_net_def.specs.NetClosing.{
+  AreActive,
+  Breaks,
+  HasPassingSum,
+  HasZeroCycle,
+  IsFirst,
+  IsReached,
+  LeavesUnreached,
+  StandsFor,
+  closing_rules,
+  draft_hops,
+  marked,
+  network_of,
+  sink_name,
+  source_name,
+  source_place,
+}
 pub use Rattle.nf_net_def.specs.NetFile.{Closes, Reads, as_rule, by_bytes, by_lines}
-pub use Rattle.nf_net_def.specs.NetLines.{Broken, Draft, End, Entry, InflowLine, LinkLine, Sink, Source, add_line, add_lines, after, broken_rule,
-    draft_after, draft_from, empty_draft, end_line, entry_of, first_rule, in_line, inflow_entry, inflow_line, is_negative, is_no_capacity, is_not_after,
-    link_entry, link_line, node_line, too_many_nodes, unless, version_of}
+pub use Rattle.nf_net_def.specs.NetLines.{
+  Broken,
+  Draft,
+  End,
+  Entry,
+  InflowLine,
+  LinkLine,
+  Sink,
+  Source,
+  add_line,
+  add_lines,
+  after,
+  broken_rule,
+  draft_after,
+  draft_from,
+  empty_draft,
+  end_line,
+  entry_of,
+  first_rule,
+  in_line,
+  inflow_entry,
+  inflow_line,
+  is_negative,
+  is_no_capacity,
+  is_not_after,
+  link_entry,
+  link_line,
+  node_line,
+  too_many_nodes,
+  unless,
+  version_of,
+}
 pub use Rattle.nf_net_def.specs.NetText.{canonical, canonical_lines, inflow_words, link_words}
 pub use Rattle.nf_net_def.specs.Numbers.{capacity_in, capacity_word, greatest, number_in}
 pub use Rattle.nf_net_def.specs.WellNamed.{IsCapacity, IsFraction, IsFractionPiece, IsNamed, IsNamedLink, IsNumbered, IsWithinLimits, SumsFit}
@@ -32,9 +76,56 @@ pub use Rattle.nf_rational_laws.proofs.Results.{same_Ok, true_or_false}
 pub use Rattle.nf_rational_laws.proofs.Tests.{le_of_test, lt_of_test, test_of_le, test_of_lt}
 pub use Rattle.nf_text_def.specs.Faults.{LineFault, LongLine, NotAscii, first_fault, first_fault_of, is_allowed, line_fault, longest_line}
 pub use Rattle.nf_text_def.specs.Words.{ReadLine, content_lines, is_blank, line_of_words, parts_with_bytes, read_line, read_lines, without_comment, words}
-pub use Rattle.std.proofs.lemmas.Bool.{and_parts, and_right, eq-eqb, eqb-false, eqb-true, le-leb, le-ltb, leb-false, leb-true, lt-leb, ltb-false, ltb-true,
-    ne_eqb, not-false, not-true, or_cases, or_from, or_left, or_parts, or_right}
+pub use Rattle.std.proofs.lemmas.Bool.{
+  and_parts,
+  and_right,
+  eq-eqb,
+  eqb-false,
+  eqb-true,
+  le-leb,
+  le-ltb,
+  leb-false,
+  leb-true,
+  lt-leb,
+  ltb-false,
+  ltb-true,
+  ne_eqb,
+  not-false,
+  not-true,
+  or_cases,
+  or_from,
+  or_left,
+  or_parts,
+  or_right,
+}
 pub use Rattle.std.specs.Bool.{Decides, MatchBool, one_answer}
 pub use Rattle.std.specs.List.{AllByRecursion, AllZip, IsDistinct, flat_map, join_with_byte, list_all, list_any, position_or_len, range_with_len, slice_split}
-pub use Rattle.std.specs.Prelude.{All, Bool, List, None, Some, [], false, length, map, nat_le, nat_lt, not, refl, slice_index, take, true, ℕ, ◌&&◌, ◌++◌,
-    ◌+◌, ◌-◌, ◌<◌, ◌==◌, ◌||◌, ◌∷◌, ◌≡◌, ◌≤◌}
+pub use Rattle.std.specs.Prelude.{
+  All,
+  Bool,
+  List,
+  None,
+  Some,
+  [],
+  false,
+  length,
+  map,
+  nat_le,
+  nat_lt,
+  not,
+  refl,
+  slice_index,
+  take,
+  true,
+  ℕ,
+  ◌&&◌,
+  ◌++◌,
+  ◌+◌,
+  ◌-◌,
+  ◌<◌,
+  ◌==◌,
+  ◌||◌,
+  ◌∷◌,
+  ◌≡◌,
+  ◌≤◌,
+}

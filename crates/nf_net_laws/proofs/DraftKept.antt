@@ -269,10 +269,12 @@ module _ (draft : Draft) (h : IsGoodDraft draft) where
   link_kept : (l : NamedLink) → IsReadLink draft.version l → broken_rule draft (LinkLine l) ≡ None → IsGoodDraft (after draft (LinkLine l))
   link_kept l good e =
       let two : List Name = l.tail ∷ l.head ∷ [] in
-      let a = first_says_no (has_name (names_of draft.links) l.name) N9 ((too_many_nodes draft (l.tail ∷ l.head ∷ []),
-          N10) ∷ (nat_le 200 (length draft.links), N11) ∷ (is_negative l.transit, N13) ∷ (is_no_capacity l.capacity, N14) ∷ []) e in
+      let a = first_says_no (has_name (names_of draft.links) l.name) N9 ((
+        too_many_nodes draft (l.tail ∷ l.head ∷ []),
+        N10,
+      ) ∷ (nat_le 200 (length draft.links), N11) ∷ (is_negative l.transit, N13) ∷ (is_no_capacity l.capacity, N14) ∷ []) e in
       let b = first_says_no (too_many_nodes draft (l.tail ∷ l.head ∷ [])) N10
-          ((nat_le 200 (length draft.links), N11) ∷ (is_negative l.transit, N13) ∷ (is_no_capacity l.capacity, N14) ∷ []) a.1 in
+      ((nat_le 200 (length draft.links), N11) ∷ (is_negative l.transit, N13) ∷ (is_no_capacity l.capacity, N14) ∷ []) a.1 in
       let c = first_says_no (nat_le 200 (length draft.links)) N11 ((is_negative l.transit, N13) ∷ (is_no_capacity l.capacity, N14) ∷ []) b.1 in
       let d = first_says_no (is_negative l.transit) N13 ((is_no_capacity l.capacity, N14) ∷ []) c.1 in
       let f = first_says_no (is_no_capacity l.capacity) N14 [] d.1 in
@@ -298,7 +300,7 @@ module _ (draft : Draft) (h : IsGoodDraft draft) where
               ∙ all_pushed (has_name (with_names draft.nodes (l.tail ∷ l.head ∷ []))) (ends draft.links) (l.tail ∷ l.head ∷ []) (ends_kept (l.tail ∷ l.head ∷ []))
               (λ i. now_there draft.nodes (l.tail ∷ l.head ∷ []) l.tail (or_left (bytes_eq l.tail l.tail) (bytes_eq l.tail l.head || false) (bytes_eq-self l.tail)) i
               && (now_there draft.nodes (l.tail ∷ l.head ∷ []) l.head (or_right (bytes_eq l.head l.tail) (bytes_eq l.head l.head || false)
-                  (or_left (bytes_eq l.head l.head) false (bytes_eq-self l.head))) i && true));
+              (or_left (bytes_eq l.head l.head) false (bytes_eq-self l.head))) i && true));
           link_names = subst (IsDistinct bytes_eq) (sym (map-append (λ (l : NamedLink). l.name) draft.links (l ∷ []))) (distinct_push (names_of draft.links) l.name h.link_names a.0);
           few_links = one_more_below draft.links l c.0;
         };
@@ -307,8 +309,10 @@ module _ (draft : Draft) (h : IsGoodDraft draft) where
 
   piece_kept : (piece : Piece) → IsFractionPiece piece → broken_rule draft (InflowLine piece) ≡ None → IsGoodDraft (after draft (InflowLine piece))
   piece_kept piece good e =
-      let a = first_says_no (nat_le 200 (length draft.pieces)) N12 ((is_negative piece.start || is_negative piece.rate,
-          N15) ∷ (is_not_after piece.start (last_or None draft.pieces), N16) ∷ []) e in
+      let a = first_says_no (nat_le 200 (length draft.pieces)) N12 ((
+        is_negative piece.start || is_negative piece.rate,
+        N15,
+      ) ∷ (is_not_after piece.start (last_or None draft.pieces), N16) ∷ []) e in
       let b = first_says_no (is_negative piece.start || is_negative piece.rate) N15 ((is_not_after piece.start (last_or None draft.pieces), N16) ∷ []) a.1 in
       let c = first_says_no (is_not_after piece.start (last_or None draft.pieces)) N16 [] b.1 in
       let signs = or_parts (is_negative piece.start) (is_negative piece.rate) b.0 in

@@ -143,13 +143,13 @@ links_follow draft (l ∷ links) all open_ v good e distinct few low = (
   after draft (LinkLine l),
   line_read draft (link_words l) (LinkLine l) open_ (link_says draft.version l v good.0)
       (five_no (has_name (names_of draft.links) l.name) (too_many_nodes draft (l.tail ∷ l.head ∷ [])) (nat_le 200 (length draft.links))
-          (is_negative l.transit) (is_no_capacity l.capacity) N9 N10 N11 N13 N14
+      (is_negative l.transit) (is_no_capacity l.capacity) N9 N10 N11 N13 N14
       (distinct_before (names_of draft.links) l.name (names_of links) (subst (IsDistinct bytes_eq) (ap names_of (sym e) ∙ names_of-append draft.links (l ∷ links)) distinct))
       (le-ltb 64 (length (with_names draft.nodes (l.tail ∷ l.head ∷ []))) (let more : length (with_names draft.nodes (l.tail ∷ l.head ∷ [])) ≤ length
-          (with_names draft.nodes (l.tail ∷ l.head ∷ ends links)) = length-with_names (with_names draft.nodes (l.tail ∷ l.head ∷ [])) (ends links) in
-          omega arith))
+      (with_names draft.nodes (l.tail ∷ l.head ∷ ends links)) = length-with_names (with_names draft.nodes (l.tail ∷ l.head ∷ [])) (ends links) in
+      omega arith))
       (lt-leb 200 (length draft.links) (let long : length (draft.links ++ l ∷ links) ≡ length draft.links + suc (length links) =
-          length-append draft.links (l ∷ links) in let same : length (draft.links ++ l ∷ links) ≡ length all = ap (λ x. length x) e in omega arith))
+      length-append draft.links (l ∷ links) in let same : length (draft.links ++ l ∷ links) ≡ length all = ap (λ x. length x) e in omega arith))
       (not_negative l.transit good.0.transit)
       (is_above draft.version l.capacity good.0.capacity)),
   links_follow (after draft (LinkLine l)) links all open_ v good.1 (append_assoc draft.links (l ∷ []) links ∙ e) distinct few low,
@@ -174,8 +174,8 @@ pieces_follow draft (piece ∷ pieces) all open_ good positive rises e few = (
   line_read draft (inflow_words piece) (InflowLine piece) open_ (inflow_says draft.version piece good.0)
       (three_no (nat_le 200 (length draft.pieces)) (is_negative piece.start || is_negative piece.rate) (is_not_after piece.start (last_or None draft.pieces)) N12 N15 N16
       (lt-leb 200 (length draft.pieces) (let long : length (draft.pieces ++ piece ∷ pieces) ≡ length draft.pieces + suc (length pieces) =
-          length-append draft.pieces (piece ∷ pieces) in let same : length (draft.pieces ++ piece ∷ pieces) ≡ length all = ap (λ x. length x) e in
-          omega arith))
+      length-append draft.pieces (piece ∷ pieces) in let same : length (draft.pieces ++ piece ∷ pieces) ≡ length all = ap (λ x. length x) e in
+      omega arith))
       (or_from (is_negative piece.start) (is_negative piece.rate) (not_negative piece.start positive.0.0) (not_negative piece.rate positive.0.1))
       rises.0),
   pieces_follow (after draft (InflowLine piece)) pieces all open_ good.1 positive.1

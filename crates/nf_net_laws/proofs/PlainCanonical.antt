@@ -58,7 +58,7 @@ pub plain_canonical : (n : Named) → IsNamed n → AllByRecursion IsPlainLine (
 plain_canonical n h =
     let links : AllByRecursion IsPlainLine (map link_words (active_links n) ++ map link_words n.idle_links) =
     subst (AllByRecursion IsPlainLine) (map-append link_words (active_links n) n.idle_links)
-        (each_line (IsNamedLink n.version) link_words (link_line n.version) (all_links n) h.links) in (
+    (each_line (IsNamedLink n.version) link_words (link_line n.version) (all_links n) h.links) in (
       head_line n.version h.version,
       (
         subst (λ v. IsPlainLine (codes "source" ∷ name_at n.node_names v ∷ [])) (sym h.numbered.source) (source_line (name_at n.node_names 0) (s_is_name n h)),

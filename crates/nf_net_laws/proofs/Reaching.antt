@@ -116,7 +116,7 @@ module _ (hops : List Hop) (u : ℕ) where
     | inl e ↦ record { set = S; sound = h; closed = e }
     | inr e ↦ search_closed fuel (grown S) (sound_grown S h)
         (let k : suc (heads_in S hops) ≤ heads_in (grown S) hops = grows S (grown S) (λ v f. or_left (S v) (list_any (leads S v) hops) f) hops
-            (into_grown S hops (λ e h is. (e, is))) e in omega arith)
+        (into_grown S hops (λ e h is. (e, is))) e in omega arith)
   ]
 
   source_alone : IsSound (λ v. u == v)

@@ -62,7 +62,7 @@ all_allowed words h = of_joined (λ b. is_allowed b ≡ true) allowed refl words
 nothing_cut : (bytes : List ℕ) → AllByRecursion (λ b. (b == 35) ≡ false) bytes → without_comment bytes ≡ bytes
 nothing_cut bytes h = let none : All (λ b. (b == 35) ≡ false) bytes = All-from_recursion (λ b. (b == 35) ≡ false) bytes h in
     let place : position_or_len (λ b. b == 35) bytes ≡ length bytes = position_or_len_is (λ b. b == 35) bytes (length bytes) 0 (omega arith)
-        (λ k l. none k 0 l) (λ l. absurd (omega (arith, l))) in
+    (λ k l. none k 0 l) (λ l. absurd (omega (arith, l))) in
     take_all (position_or_len (λ b. b == 35) bytes) bytes (omega (arith, place))
 
 word_kept : (word : List ℕ) (parts : List (List ℕ)) → 0 < length word → parts_with_bytes (word ∷ parts) ≡ word ∷ parts_with_bytes parts

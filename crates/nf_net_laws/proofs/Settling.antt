@@ -100,7 +100,7 @@ module _ (hops : List Hop) (positive : (e : ℕ) (hop : Hop) → IsHop hops e ho
         let p : transit_sum hops (front ++ e ∷ []) ≡ transit_sum hops front +ℚ h.transit = sum_push front e h is in
         let k : cost c.hop ≤ℚ (transit_sum hops (front ++ e ∷ []) +ℚ transit_sum hops walk) = later f in
         linear_le (cost c.hop ∷ transit_sum hops (front ++ e ∷ []) ∷ transit_sum hops front ∷ transit_sum hops walk ∷ transit_of hops e ∷ h.transit ∷ [])
-            (eq t ∷ eq p ∷ le k ∷ []) (search reading_of) tt
+        (eq t ∷ eq p ∷ le k ∷ []) (search reading_of) tt
     leaving c front walk a b e h w here is from rest false f later =
         let t : transit_of hops e ≡ h.transit = transit_of-hop hops e h is in
         let tail : s.set h.tail ≡ true = ap s.set from ∙ here in
@@ -108,7 +108,7 @@ module _ (hops : List Hop) (positive : (e : ℕ) (hop : Hop) → IsHop hops e ho
         let j : s.label h.tail ≤ℚ transit_sum hops front = (s.least h.tail tail).bound front (subst (IsWalk hops front u) (sym from) w) in
         let n : 0ℚ ≤ℚ transit_sum hops walk = transit_sum_nn hops positive walk h.head b rest in
         linear_le (cost c.hop ∷ s.label h.tail ∷ transit_sum hops front ∷ transit_sum hops walk ∷ transit_of hops e ∷ h.transit ∷ [])
-            (eq t ∷ le k ∷ le j ∷ le n ∷ []) (search reading_of) tt
+        (eq t ∷ le k ∷ le j ∷ le n ∷ []) (search reading_of) tt
 
     leads_out : (c : Cheapest hops) (front walk : List ℕ) (a b : ℕ) → IsWalk hops front u a → s.set a ≡ true → IsWalk hops walk a b → s.set b ≡ false
         → cost c.hop ≤ℚ (transit_sum hops front +ℚ transit_sum hops walk)

@@ -37,7 +37,7 @@ length_printed q h =
     let den : length (digits_of q.den) ≤ 39 = length_number q.den (within q h).1 in
     printed_either (λ ds. length ds ≤ 80) q.num q.den (omega arith)
     (let long : length (signed_digits_of q.num ++ slash ∷ digits_of q.den) ≡ length (signed_digits_of q.num) + suc (length (digits_of q.den)) =
-        length-append (signed_digits_of q.num) (slash ∷ digits_of q.den) in omega arith)
+    length-append (signed_digits_of q.num) (slash ∷ digits_of q.den) in omega arith)
 
 -- ---- bytes of words
 byte_test : (b : ℕ) → 33 ≤ b → b ≤ 126 → b ≢ 35 → is_word_byte b ≡ true

@@ -109,7 +109,7 @@ module _ (draft : Draft) (g : IsGoodDraft draft) where
     | inl e ↦ inl (
         let r : FoundEntry sum_test (draft_hops draft) = found sum_test (draft_hops draft) e in
         let p = and_parts (settled.settled.set r.entry.tail) (not (is_wide greatest (settled.settled.label r.entry.tail)) && passes_Q Sum
-            (settled.settled.label r.entry.tail) r.entry.transit) r.passes in
+        (settled.settled.label r.entry.tail) r.entry.transit) r.passes in
         let q = and_parts (not (is_wide greatest (settled.settled.label r.entry.tail))) (passes_Q Sum (settled.settled.label r.entry.tail) r.entry.transit) p.1 in
         record {
           link = r.place;
@@ -122,7 +122,7 @@ module _ (draft : Draft) (g : IsGoodDraft draft) where
         })
     | inr e ↦ inr (λ p.
         let inside : settled.settled.set p.hop.tail ≡ true = stays_closed (draft_hops draft) settled.settled.set settled.closed p.is_least.taken.0
-            (source_place draft) p.hop.tail settled.settled.start p.is_least.taken.1 in
+        (source_place draft) p.hop.tail settled.settled.start p.is_least.taken.1 in
         let same : p.least ≡ settled.settled.label p.hop.tail = least_once p.hop.tail p.least (settled.settled.label p.hop.tail) p.is_least (settled.settled.least p.hop.tail inside) in
         let there : list_any sum_test (draft_hops draft) ≡ true = any_passes_from_place sum_test (draft_hops draft) p.link p.hop p.is_hop
         (three (settled.settled.set p.hop.tail) (is_wide greatest (settled.settled.label p.hop.tail)) (passes_Q Sum (settled.settled.label p.hop.tail) p.hop.transit) inside
@@ -153,7 +153,7 @@ module _ (draft : Draft) (g : IsGoodDraft draft) where
   head_there e h is =
       let c : CameFrom (λ l. hop_of (numbered draft.nodes l)) draft.links e h = came_from (λ l. hop_of (numbered draft.nodes l)) draft.links e h is in
       subst (λ (x : Hop). x.head < length draft.nodes) c.is_image (place_below draft.nodes c.entry.head
-          (entry_all (λ l. (has_name draft.nodes l.tail ≡ true) × (has_name draft.nodes l.head ≡ true)) draft.links e c.entry
+      (entry_all (λ l. (has_name draft.nodes l.tail ≡ true) × (has_name draft.nodes l.head ≡ true)) draft.links e c.entry
       (ends_of_each (has_name draft.nodes) draft.links g.ends_there) c.is_entry).1)
 
   -- a zeroed hop that leaves a node that is there is one of zero transit
@@ -206,7 +206,7 @@ module _ (draft : Draft) (g : IsGoodDraft draft) where
         record { first = r.place; walk = w.0; node = r.entry.tail; closed = (r.entry, r.is_entry, refl, back.0); zero = (zero_is r.place r.entry r.is_entry p.0, back.1) })
     | inr e ↦ inr (λ c.
         let back : IsWalk zero_hops c.walk c.closed.0.head c.closed.0.tail =
-            subst (λ v. IsWalk zero_hops c.walk c.closed.0.head v) (sym c.closed.2) (walk_in c.walk c.closed.0.head c.node c.closed.3 c.zero.1) in
+        subst (λ v. IsWalk zero_hops c.walk c.closed.0.head v) (sym c.closed.2) (walk_in c.walk c.closed.0.head c.node c.closed.3 c.zero.1) in
         let there : list_any cycle_test (draft_hops draft) ≡ true = any_passes_from_place cycle_test (draft_hops draft) c.first c.closed.0 c.closed.1
         (λ i. zero_test c.first c.closed.0 c.closed.1 c.zero.0 i && (reaching zero_hops c.closed.0.head c.closed.0.tail).1 (c.walk, back) i) in
         absurd (cc))

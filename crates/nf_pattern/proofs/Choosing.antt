@@ -38,7 +38,7 @@ chosen_at (x ∷ base) [] states e b u s h p q r = absurd (none-some u q)
 chosen_at (x ∷ base) (v ∷ us) [] e b u s h p q r = absurd (none-some s r)
 chosen_at (x ∷ base) (v ∷ us) (t ∷ states) zero b u s h p q r =
     subst (λ (c : Option State). IsIn (choices c u) s) (same_Some x b p) (subst (λ (c : Bool). IsIn (choices x c) s) (same_Some v u q)
-        (subst (λ (c : Option State). IsIn (choices x v) c) (same_Some t s r) h.0))
+    (subst (λ (c : Option State). IsIn (choices x v) c) (same_Some t s r) h.0))
 chosen_at (x ∷ base) (v ∷ us) (t ∷ states) (suc e) b u s h p q r = chosen_at base us states e b u s h.1 p q r
 
 assigned_by : (base : Pattern) (us : List Bool) (states : Pattern) → length us ≡ length base → length states ≡ length base

@@ -109,7 +109,7 @@ module _ (hops : List Hop) (p : Pattern) where
           (ends_only n hop tight is) (from_tail n hop is) (from_head n hop is differ) apart link comes v near u k)
           (λ (o : Over n hop v u). ⊎_elim
           (λ (x : Joined n v hop.tail × Joined n hop.head u). other_side (ends_at hops p)
-              (other_end hops) Joined back through wider itself n hop.tail hop.head (ends_tail n hop tight is) (ends_head n hop tight is)
+          (other_end hops) Joined back through wider itself n hop.tail hop.head (ends_tail n hop tight is) (ends_head n hop tight is)
           (ends_only n hop tight is) (from_tail n hop is) (from_head n hop is differ) apart link comes v near u x.1)
           (λ (x : Joined n v hop.head × Joined n hop.tail u). absurd (apart (through n hop.tail v hop.head (back n v hop.tail near) x.0))) o)
           (newly v u j)
@@ -118,13 +118,13 @@ module _ (hops : List Hop) (p : Pattern) where
       from_heads v u near j = ⊎_elim
           (λ (k : Joined n v u). same_side (ends_at hops p) (other_end hops) Joined back through wider itself n hop.head hop.tail (ends_head n hop tight is) (ends_tail n hop tight is)
           (λ x no_head no_tail. ends_only n hop tight is x no_tail no_head) (from_head n hop is differ) (from_tail n hop is)
-              (λ h. apart (back n hop.head hop.tail h)) (back (suc n) hop.tail hop.head link) comes v near u k)
+          (λ h. apart (back n hop.head hop.tail h)) (back (suc n) hop.tail hop.head link) comes v near u k)
           (λ (o : Over n hop v u). ⊎_elim
           (λ (x : Joined n v hop.tail × Joined n hop.head u). absurd (apart (through n hop.tail v hop.head (back n v hop.tail x.0) near)))
           (λ (x : Joined n v hop.head × Joined n hop.tail u). other_side (ends_at hops p)
-              (other_end hops) Joined back through wider itself n hop.head hop.tail (ends_head n hop tight is) (ends_tail n hop tight is)
+          (other_end hops) Joined back through wider itself n hop.head hop.tail (ends_head n hop tight is) (ends_tail n hop tight is)
           (λ x no_head no_tail. ends_only n hop tight is x no_tail no_head) (from_head n hop is differ) (from_tail n hop is)
-              (λ h. apart (back n hop.head hop.tail h)) (back (suc n) hop.tail hop.head link) comes v near u x.1) o)
+          (λ h. apart (back n hop.head hop.tail h)) (back (suc n) hop.tail hop.head link) comes v near u x.1) o)
           (newly v u j)
 
       from_neither : (v u : ℕ) → (Joined n v hop.tail → ⊥) → (Joined n v hop.head → ⊥) → Joined (suc n) v u → Way (suc n) v v (last (suc n) v) u None
@@ -132,7 +132,7 @@ module _ (hops : List Hop) (p : Pattern) where
           (λ (k : Joined n v u). idle (ends_at hops p) (other_end hops) Joined back through wider itself n v u
           (λ x m. ends_only n hop tight is x (λ same. no_tail (subst (λ (h : ℕ). Joined n v h) same m)) (λ same. no_head (subst (λ (h : ℕ). Joined n v h) same m))) (comes v u k))
           (λ (o : Over n hop v u). ⊎_elim (λ (x : Joined n v hop.tail × Joined n hop.head u). absurd (no_tail x.0))
-              (λ (x : Joined n v hop.head × Joined n hop.tail u). absurd (no_head x.0)) o)
+          (λ (x : Joined n v hop.head × Joined n hop.tail u). absurd (no_head x.0)) o)
           (newly v u j)
 
       joins : (v u : ℕ) → Joined (suc n) v u → Way (suc n) v v (last (suc n) v) u None

@@ -153,7 +153,7 @@ module _ (hops : List Hop) (p : Pattern) where
       (λ (x : Over n h.0 v w). inl (over_joins n h.0 v w h.1 tight x))
       (λ (not_over : Over n h.0 v w → ⊥). inr (λ j. ⊎_elim none
       (λ (x : (hop : Hop) × IsHop hops n hop × HasState p n Tight × Over n hop v w). not_over
-          (subst (λ (y : Hop). Over n y v w) (IsHop-unique hops n x.0 h.0 x.1 h.1) x.3)) (joins_over n v w j)))
+      (subst (λ (y : Hop). Over n y v w) (IsHop-unique hops n x.0 h.0 x.1 h.1) x.3)) (joins_over n v w j)))
       (decide_one (Joined n v h.0.tail × Joined n h.0.head w) (Joined n v h.0.head × Joined n h.0.tail w)
       (decide_both (Joined n v h.0.tail) (Joined n h.0.head w) (each v h.0.tail) (each h.0.head w))
       (decide_both (Joined n v h.0.head) (Joined n h.0.tail w) (each v h.0.head) (each h.0.tail w)))
@@ -204,7 +204,7 @@ module _ (question : Question) (is : IsQuestion question) where
       (λ (all : (v : ℕ) → v < question.nodes → (v ≢ question.source) × (IsEntered question.hops question.sets.resetting p v → ⊥) → ⊥). inl (listed_by question is p assigned
       (is_forest question.hops p (λ e c. none e (closing_below question.hops p e c) c))
       (λ v below apart. ⊎_elim (λ (e : IsEntered question.hops question.sets.resetting p v). e)
-          (λ (n : IsEntered question.hops question.sets.resetting p v → ⊥). absurd (all v below (apart, n)))
+      (λ (n : IsEntered question.hops question.sets.resetting p v → ⊥). absurd (all v below (apart, n)))
       (decide_entered question.hops p question.sets.resetting v))))
       (nodes_below question.nodes))
       (decide_below (λ e. Closes question.hops p e) (decide_closes question.hops p) (length question.hops))
@@ -215,10 +215,10 @@ module _ (question : Question) (is : IsQuestion question) where
           (λ (w : (v : ℕ) × (v < n) × ((v ≢ question.source) × (IsEntered question.hops question.sets.resetting p v → ⊥))). inl (w.0, w.1, w.2.0, w.2.1))
           (λ (none : (v : ℕ) → v < n → (v ≢ question.source) × (IsEntered question.hops question.sets.resetting p v → ⊥) → ⊥). inr none)
           (decide_below (λ v. (v ≢ question.source) × (IsEntered question.hops question.sets.resetting p v → ⊥))
-              (λ v. decide_both (v ≢ question.source) (IsEntered question.hops question.sets.resetting p v → ⊥)
+          (λ v. decide_both (v ≢ question.source) (IsEntered question.hops question.sets.resetting p v → ⊥)
           (⊎_elim (λ (e : v ≡ question.source). inr (λ n. n e)) (λ (n : v ≡ question.source → ⊥). inl n) (decide_same v question.source))
           (⊎_elim (λ (e : IsEntered question.hops question.sets.resetting p v). inr (λ n. n e))
-              (λ (n : IsEntered question.hops question.sets.resetting p v → ⊥). inl n) (decide_entered question.hops p question.sets.resetting v))) n)
+          (λ (n : IsEntered question.hops question.sets.resetting p v → ⊥). inl n) (decide_entered question.hops p question.sets.resetting v))) n)
 
   -- ---- the listed patterns from an assignment on
   abbrev base : Pattern
@@ -294,7 +294,7 @@ module _ (question : Question) (is : IsQuestion question) where
     where
       go : (o : Option Pattern) → next_assignment (length base) base question.unbounded (unflagged base) p ≡ o
           → ((q : Pattern) → IsAssignment base question.unbounded q → left_after base q < fuel → (listing : List Pattern) × IsListingFrom q listing)
-              → (listing : List Pattern) × IsListingFrom p listing
+          → (listing : List Pattern) × IsListingFrom p listing
       go None e rec = with_first p [] (none_rest p assigned e) (decide_listed p assigned)
       go (Some q) e rec =
           let step = advances_by question is (unflagged base) spared (length base) p q assigned e in

@@ -90,7 +90,7 @@ module _ (nodes : ℕ) (hops : List Hop) (sets : Sets) where
       (λ k old. ⊎_elim (λ (on : Has sets.resetting k). inl on) (λ (w : (k < e) × Has sets.active k). let less = w.0 in inr (omega arith, w.1)) old) b
       (λ k now. ⊎_elim (λ (on : Has sets.resetting k). inl (inl on))
       (λ (w : (k < e + 1) × Has sets.active k). ⊎_elim (λ (less : k < e). inl (inr (less, w.1)))
-          (λ (same : k ≡ e). inr (same, told sets.active e k b at same w.1)) (before_or_at k e (let less = w.0 in omega arith)))
+      (λ (same : k ≡ e). inr (same, told sets.active e k b at same w.1)) (before_or_at k e (let less = w.0 in omega arith)))
       now)
       (λ on. inr (omega arith, at ∙ ap (λ (x : Bool). Some x) on))
 

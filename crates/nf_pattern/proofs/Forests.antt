@@ -56,11 +56,18 @@ module _ (hops : List Hop) where
     pub no_forest : (e : ℕ) → Closes hops pattern e → IsForest hops (λ k. HasState pattern k Tight) → ⊥
     no_forest e closes forest =
         let short = shorten hops (TightBefore pattern e) closes.1.joined.0 closes.1.hop.head closes.1.hop.tail closes.1.joined.1 in
-        forest (e, true) short.0 closes.1.hop.tail
-        (λ (c : Contains (numbers short.0) e). let t = trail_allows hops (TightBefore pattern e) short.0 closes.1.hop.head closes.1.hop.tail e short.2 c in
-            let l = t.0 in omega arith, short.1)
-        (closes.1.hop, closes.1.is_hop, closes.0, refl, trail_by hops (TightBefore pattern e)
-            (λ k. HasState pattern k Tight) short.0 closes.1.hop.head closes.1.hop.tail (λ k c t. t.1) short.2)
+        forest (e, true) short.0 closes.1.hop.tail (
+          λ (c : Contains (numbers short.0) e). let t = trail_allows hops (TightBefore pattern e) short.0 closes.1.hop.head closes.1.hop.tail e short.2 c in
+              let l = t.0 in omega arith,
+          short.1,
+        ) (
+          closes.1.hop,
+          closes.1.is_hop,
+          closes.0,
+          refl,
+          trail_by hops (TightBefore pattern e)
+              (λ k. HasState pattern k Tight) short.0 closes.1.hop.head closes.1.hop.tail (λ k c t. t.1) short.2,
+        )
 
     pub closing_below : (e : ℕ) → Closes hops pattern e → e < length hops
     closing_below e closes = slice_get_within hops e closes.1.hop closes.1.is_hop

@@ -48,7 +48,7 @@ module _ (base : Pattern) where
       let same = same_first x y xs ys order_x order_y into down in
       front_of xs ys (tail_order x xs order_x) (tail_order y ys order_y)
       (λ z here. ⊎_elim (λ (e : y ≡ z). absurd (not_itself x z (sym same ∙ e) (first_less x z xs order_x here))) (λ (there : StandsIn ys z). there)
-          (stands_cases y z ys (into z (suc here.0, here.1))))
+      (stands_cases y z ys (into z (suc here.0, here.1))))
       (λ r q there here less. ⊎_elim (λ (e : x ≡ r). absurd (not_itself y r (same ∙ e) (first_less y r ys order_y there))) (λ (other : StandsIn xs r). other)
       (stands_cases x r xs (down r q (suc there.0, there.1) (suc here.0, here.1) less)))
       i p at

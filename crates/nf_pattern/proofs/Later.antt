@@ -39,9 +39,12 @@ module _ (b : Option State) (u z : Bool) (base : Pattern) (us zs : List Bool) (a
       let same : changes base w.1 ≡ n - change b w.0 = rest.1 in
       let le : change b w.0 ≤ n = fit.0 in
       let all : changes (b ∷ base) (w.0 ∷ w.1) ≡ n = omega arith in
-      let less : IsEarlier (a ∷ p) (w.0 ∷ w.1) = inl high.0 in
-      (subst (λ (x : Pattern). IsAssignment (b ∷ base) (u ∷ us) x) (sym w.4) (good.0, rest.0), ap (changes (b ∷ base)) w.4
-          ∙ all, subst (λ (x : Pattern). IsEarlier (a ∷ p) x) (sym w.4) less)
+      let less : IsEarlier (a ∷ p) (w.0 ∷ w.1) = inl high.0 in (
+        subst (λ (x : Pattern). IsAssignment (b ∷ base) (u ∷ us) x) (sym w.4) (good.0, rest.0),
+        ap (changes (b ∷ base)) w.4
+            ∙ all,
+        subst (λ (x : Pattern). IsEarlier (a ∷ p) x) (sym w.4) less,
+      )
 
   raised_next : (q : Pattern) (t : Option State) (r : Pattern) → Raised q → IsAssignment (b ∷ base) (u ∷ us) (t ∷ r) → changes (b ∷ base) (t ∷ r) ≡ n
       → may_raise z t ≡ true → rank a < rank t → IsEarlier (t ∷ r) q → ⊥
@@ -64,7 +67,7 @@ module _ (b : Option State) (u z : Bool) (base : Pattern) (us zs : List Bool) (a
       let fit = within b u base us n t r h.1 c in
       ⊎_elim
       (λ (w : first_good (higher b z a n (free base)) (choices b u) ≡ None). good_none (higher b z a n (free base)) (choices b u) t w h.0
-          (higher_in b z a t n (free base) may less fit.0))
+      (higher_in b z a t n (free base) may less fit.0))
       (λ (w : (s : Option State) × (first_good (higher b z a n (free base)) (choices b u) ≡ Some s) × (earliest base us (n - change b s) ≡ None)).
       let good = good_some (higher b z a n (free base)) (choices b u) w.0 w.1 in
       let high = higher_out b z a w.0 n (free base) good.1 in
@@ -119,8 +122,8 @@ later_none (suc i) (b ∷ base) (u ∷ us) (z ∷ zs) (a ∷ p) (t ∷ r) v e h 
     (raised b u z base us a (changes (b ∷ base) (a ∷ p))) e).1 h c sp.0 less)
 later_none (suc i) (b ∷ base) (u ∷ us) (z ∷ zs) (a ∷ p) (t ∷ r) v e h sp c (inr k) = same_front i a t p r k.0
     (later_none i base us zs p r v.1 (before_none a (later i base us zs p)
-        (else_none (before_all a (later i base us zs p)) (raised b u z base us a (changes (b ∷ base) (a ∷ p))) e).0) h.1 sp.1
-        (same_rest b u z base us zs a p t r c k.0) k.1)
+    (else_none (before_all a (later i base us zs p)) (raised b u z base us a (changes (b ∷ base) (a ∷ p))) e).0) h.1 sp.1
+    (same_rest b u z base us zs a p t r c k.0) k.1)
 
 -- No other such assignment is between.
 pub later_next : (i : ℕ) (base : Pattern) (us zs : List Bool) (p q r : Pattern) → IsAssignment base us base → later i base us zs p ≡ Some q

@@ -116,7 +116,7 @@ module _ (q seen : Question) (same : q ≡ seen) (hops : List Hop) (resetting : 
   pub follows_given : (p : Pattern) (trail : Trail) → Follows seen.source seen.hops seen.sets.resetting p trail → Follows q.source hops resetting p trail
   follows_given p trail follows = subst (λ (x : List Bool). Follows q.source hops x p trail) (sym is_resetting)
       (subst (λ (x : List Hop). Follows q.source x q.sets.resetting p trail) (sym is_hops)
-          (subst (λ (x : Question). Follows x.source x.hops x.sets.resetting p trail) (sym same) follows))
+      (subst (λ (x : Question). Follows x.source x.hops x.sets.resetting p trail) (sym same) follows))
 
   pub fails_seen : (p : Pattern) (ends : List ℕ) (e : ℕ) → (e < length hops) × (Strands q.source hops resetting p ends e ⊎ Closes hops p e)
       → (e < length seen.hops) × (Strands seen.source seen.hops seen.sets.resetting p ends e ⊎ Closes seen.hops p e)

@@ -78,7 +78,7 @@ module _ (base states : Pattern) (quiet : Quiet) (is : IsQuiet base quiet states
       let front = length-drop i base in let all = length-drop i states in
       let parts = changes_parts (quiet.link - i) (drop i base) (drop i states) (omega arith) in
       let none : changes (drop (quiet.link - i) (drop i base)) (drop (quiet.link - i) (drop i states)) ≡ 0 =
-          (λ j. changes (behind base j) (behind states j)) ∙ is.unchanged in omega arith
+      (λ j. changes (behind base j) (behind states j)) ∙ is.unchanged in omega arith
 
   pub free_to_quiet : free (to_quiet base) + quiet.free ≡ free (drop i base)
   free_to_quiet = ap (λ (n : ℕ). free (to_quiet base) + n) (is.free_is ∙ sym (ap free (behind base))) ∙ sym (free_parts (quiet.link - i) (drop i base))
@@ -93,9 +93,9 @@ free_few (Some b ∷ base) = let w = free_few base in omega arith
 pub raised_up_to : (base : Pattern) (us zs : List Bool) (states after : Pattern) (quiet : Quiet) (same : ℕ) (found : Option Raised) → quiet.link ≤ same
     → length states ≡ length base → IsQuiet base quiet states
     → MatchOption found ((later quiet.link base us zs states ≡ None) × (after ≡ states))
-        (λ raised. (later quiet.link base us zs states ≡ Some after) × IsSameBefore quiet.link raised.link states after × IsQuiet base raised.quiet after)
+    (λ raised. (later quiet.link base us zs states ≡ Some after) × IsSameBefore quiet.link raised.link states after × IsQuiet base raised.quiet after)
     → MatchOption found ((later same base us zs states ≡ None) × (after ≡ states))
-        (λ raised. (later same base us zs states ≡ Some after) × IsSameBefore same raised.link states after × IsQuiet base raised.quiet after)
+    (λ raised. (later same base us zs states ≡ Some after) × IsSameBefore same raised.link states after × IsQuiet base raised.quiet after)
 raised_up_to base us zs states after quiet same None few count is h = (later_up_to base us zs states quiet.link same few count is.unchanged ∙ h.0, h.1)
 raised_up_to base us zs states after quiet same (Some raised) few count is h =
     (later_up_to base us zs states quiet.link same few count is.unchanged ∙ h.0, (let l = h.1.0 in omega arith, h.1.1), h.2)

@@ -213,9 +213,9 @@ module _ (base : Pattern) (us zs : List Bool) (states : Pattern) (same i j made 
         ∙ (ap (λ (x : List Bool). later (same - i) (get_or base i None ∷ drop (suc i) base) (get_or us i false ∷ drop (suc i) us) x (drop i states)) zs_from
         ∙ (ap (later (same - i) (get_or base i None ∷ drop (suc i) base) (get_or us i false ∷ drop (suc i) us) (get_or zs i false ∷ drop (suc i) zs)) states_from
         ∙ (ap (λ (m : ℕ). later m (get_or base i None ∷ drop (suc i) base) (get_or us i false ∷ drop (suc i) us) (get_or zs i false ∷ drop (suc i) zs)
-            (get_or states i None ∷ drop (suc i) states)) k
+        (get_or states i None ∷ drop (suc i) states)) k
         ∙ later_here (get_or base i None) (get_or us i false) (get_or zs i false) (drop (suc i) base) (drop (suc i) us) (drop (suc i) zs)
-            (get_or states i None) (drop (suc i) states) (same - suc i) all none_behind made_here))))
+        (get_or states i None) (drop (suc i) states) (same - suc i) all none_behind made_here))))
 
     pub raised_later : (after : Pattern) → i < same → RaisesAt base us zs states i all after → later same base us zs states ≡ Some after
     raised_later after before raised =
@@ -246,7 +246,7 @@ module _ (base : Pattern) (us zs : List Bool) (states : Pattern) (same i j made 
   last_idle none nor before = last_kept 0 made (idle_change (get_or base i None) (get_or states i None) none nor) (omega arith)
       0 more (idle_change None (get_or base i None) refl none) (omega arith)
       (idle_raised (get_or base i None) (get_or states i None) (get_or us i false) (get_or zs i false) (drop (suc i) base) (drop (suc i) us) made none nor)
-          before (omega arith) (omega arith)
+      before (omega arith) (omega arith)
 
 -- and those behind the last one that has a state
 last_passed : (base : Pattern) (us zs : List Bool) (states : Pattern) (same k i j made more : ℕ) → AreLast base us zs states same j made more → j ≡ i + k
@@ -258,7 +258,7 @@ last_passed base us zs states same (suc k) i j made more last is few count us_co
     let m : ℕ = i + k in
     let here = idle m (omega arith) (omega arith) in
     last_passed base us zs states same k i m made more (last_idle base us zs states same m j made more last
-        (omega arith) count us_count zs_count here.0 here.1 (omega arith)) refl (omega arith) count us_count zs_count
+    (omega arith) count us_count zs_count here.0 here.1 (omega arith)) refl (omega arith) count us_count zs_count
     (λ e from less. idle e from (omega arith))
 
 pub last_stated : (base : Pattern) (us zs : List Bool) (states : Pattern) (same i j made more : ℕ) → AreLast base us zs states same j made more → 0 < j

@@ -101,4 +101,4 @@ fewer_left base p q n few (inl less) =
 fewer_left base p q n few (inr k) =
     let l = place_more p q n k.1 in let r = same_room p q n in let b = place_below q in
     let same : times (free base - changes base q) (room q) ≡ times (free base - changes base p) (room p) =
-        ap (λ (c : ℕ). times (free base - c) (room q)) (sym k.0) ∙ ap (times (free base - changes base p)) (sym r) in omega arith
+    ap (λ (c : ℕ). times (free base - c) (room q)) (sym k.0) ∙ ap (times (free base - changes base p)) (sym r) in omega arith

@@ -190,7 +190,7 @@ given_up_to question p place = record { question = question; last = UpTo p; plac
 pub gives_next : (question : Question) (last : Last) (place : ℕ) (seen : Given)
     → ◌≡◌ {A = Given} (record { question = question; last = last; place = place }) seen → (p now : Pattern) (after : ℕ)
     → IsNext question last p → now ≡ p → after ≡ next_place place → (x : Pattern)
-        × (IsNext seen.question seen.last x × (given_up_to question now after ≡ given_up_to seen.question x (next_place seen.place)))
+    × (IsNext seen.question seen.last x × (given_up_to question now after ≡ given_up_to seen.question x (next_place seen.place)))
 gives_next question last place seen same p now after next is count = (
   p,
   (

@@ -223,7 +223,7 @@ pub good_choice : (b : Option State) (u : Bool) (base : Pattern) (n : ℕ) → I
 good_choice None u base n h k = (None, h, fits_in None None n (free base) (omega arith) (omega arith))
 good_choice (Some b) u base n h k = ⊎_elim
     (λ (w : (leb n (free base) ≡ true) × (n ≤ free base)). let z = no_change (Some b) in
-        (Some b, h, fits_in (Some b) (Some b) n (free base) (let l = w.1 in omega arith) (let l = w.1 in omega arith)))
+    (Some b, h, fits_in (Some b) (Some b) n (free base) (let l = w.1 in omega arith) (let l = w.1 in omega arith)))
     (λ (w : (leb n (free base) ≡ false) × (free base < n)). let o = other_choice b u in
     let one : change (Some b) o.0 ≡ 1 = o.2 in let l : free base < n = w.1 in
     (o.0, o.1, fits_in (Some b) o.0 n (free base) (omega arith) (omega arith)))

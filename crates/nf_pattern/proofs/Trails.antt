@@ -38,7 +38,7 @@ find_step n ((e, d) ∷ steps) = ⊎_elim
     (λ (w : (eqb e n ≡ false) × (e ≢ n)). ⊎_elim
     (λ (s : Splits n steps). inl ((e, d) ∷ s.0, s.1, s.2, ap (λ (x : Steps). (e, d) ∷ x) s.3))
     (λ (none : Contains (numbers steps) n → ⊥). inr (λ c. ⊎_elim (λ (same : e ≡ n). absurd (w.1 same))
-        (λ (later : Contains (numbers steps) n). absurd (none later)) (contains_cases e (numbers steps) n c)))
+    (λ (later : Contains (numbers steps) n). absurd (none later)) (contains_cases e (numbers steps) n c)))
     (find_step n steps))
     (eqb_tells e n)
 

@@ -110,8 +110,12 @@ module _ (net : Network) (good : IsNetwork net) (bounds : Bounds) where
 
   solution_of : (first : Standing) → IsStart net first → (phases : ℕ) (report : Report) → IsFinished net bounds first phases report → IsRunSolution net bounds phases report
   solution_of first start phases report f =
-      let run : IsPhaseRun passes_Q net bounds f.last f.stop = record { first = first; start = start; runs =
-          runs_begun passes_Q first f.last f.stop (closed-at_start net first good start) f.runs } in
+      let run : IsPhaseRun passes_Q net bounds f.last f.stop = record {
+        first = first;
+        start = start;
+        runs =
+            runs_begun passes_Q first f.last f.stop (closed-at_start net first good start) f.runs;
+      } in
       record {
         well_formed = f.well_formed;
         equilibrium = f.equilibrium;

@@ -80,7 +80,7 @@ module _ (passes : Passing) (net : Network) (bounds : Bounds) (first : Standing)
     pub ends_by_fault : phases < bounds.phases → (fault : StepFault) → IsCause passes net bounds.horizon bounds.patterns s fault → (after : Standing)
         → after ≡ s → (phase : ℕ) → phase ≡ suc after.made
         → {E : Type 0} (result : Result (Option (Cause ℚ)) E) → IfOk result (λ stop. stop ≡ cause_of phase fault) → IfOk result IsSome
-            → IfOk result (RunsOn passes net bounds first after)
+        → IfOk result (RunsOn passes net bounds first after)
     ends_by_fault may fault h after same phase next (Ok stop) e some =
         subst (λ (t : Standing). RunsOn passes net bounds first t stop) (sym same)
         (ended may fault h stop (e ∙ ap (λ (n : ℕ). cause_of n fault) (next ∙ ap (λ (t : Standing). suc t.made) same)) some)

@@ -136,7 +136,7 @@ module _ (passes : Passing) (net : Network) (good : IsNetwork net) (horizon : �
           -- ---- the links
           module _ (sets : Sets) (flows slopes_3 new_labels amounts : List ℚ) (curves : List LinkCurves) (same_sets : sets ≡ found.sets) (same_flows : flows ≡ found.thin.flows.items)
               (same_slopes_3 : slopes_3 ≡ thin_slopes) (same_new : new_labels ≡ end.labels) (same_amounts : amounts ≡ map amount_so_far curves)
-                  (same_curves : curves ≡ s.link_curves) where
+              (same_curves : curves ≡ s.link_curves) where
             curve_is : at_part Curve (curve_list passes net (sets_at net s.labels) found.thin.pattern end.length found.thin.flows.items thin_slopes
                 end.labels (map amount_so_far s.link_curves))
                 ≡ at_part Curve (curve_list passes net sets found.thin.pattern end.length flows slopes_3 new_labels amounts)

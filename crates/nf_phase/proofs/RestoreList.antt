@@ -42,7 +42,7 @@ module _ (passes : Passing) (flow : Flow) (last : Pattern) where
     links_pass p e =
         after_ok Curve labels_list _ label_curves by_labels
         ∙ after_err Curve (each (growing passes) flow.queues) _ p (err_before Curve (each (growing passes) flow.queues)
-            (λ (grown : List GrowingCurve). link_curves_of flow.inflows flow.outflows grown) p e)
+        (λ (grown : List GrowingCurve). link_curves_of flow.inflows flow.outflows grown) p e)
 
     pub list_made : (link_curves : List LinkCurves) → at_part Curve links_list ≡ Ok link_curves
         → at_part Curve (restore_list passes flow last) ≡ Ok (stands_with label_curves link_curves)
@@ -61,8 +61,8 @@ ends_same (g ∷ curves) = ap (λ (l : List ℚ). value_at_end g.points ∷ l) (
 pub flow_counts : (net : Network) (f : code.Flow) → Equilibrium net (flow_in f) → (length f.outflows.items ≡ length f.inflows.items) × (length f.queues.items ≡ length f.inflows.items)
 flow_counts net f is =
     let inflows : length f.inflows.items ≡ length net.links = sym (length-map (map trace_of f.inflows.items) (λ (t : Trace). t.points)
-        ∙ length-map f.inflows.items trace_of) ∙ is.shape.inflows.count in
+    ∙ length-map f.inflows.items trace_of) ∙ is.shape.inflows.count in
     let outflows : length f.outflows.items ≡ length net.links = sym (length-map (map trace_of f.outflows.items) (λ (t : Trace). t.points)
-        ∙ length-map f.outflows.items trace_of) ∙ is.shape.outflows.count in
+    ∙ length-map f.outflows.items trace_of) ∙ is.shape.outflows.count in
     let queues : length f.queues.items ≡ length net.links = sym (length-map f.queues.items (λ (g : Grown). g.points)) ∙ is.shape.queues.count in
     (outflows ∙ sym inflows, queues ∙ sym inflows)

@@ -148,7 +148,7 @@ module _ (passes : Passing) (net : Network) (good : IsNetwork net) (horizon : �
   -- ---- the run after the phase
   pub new_standing : (reached : ℚ) (label_curves : List GrowingCurve) (link_curves : List LinkCurves) (made : ℕ) (last : Pattern) → reached ≡ s.time +ℚ phase.length
       → label_curves ≡ label_curves_after reached phase.labels.items phase.thin.slopes.items s.label_curves
-          → link_curves ≡ link_curves_after phase.labels.items net.links s.link_curves phase.steps.items
+      → link_curves ≡ link_curves_after phase.labels.items net.links s.link_curves phase.steps.items
       → made ≡ suc s.made → last ≡ phase.thin.pattern
       → record { time = reached; labels = phase.labels.items; label_curves = label_curves; link_curves = link_curves; made = made; last = last } ≡ next
   new_standing reached label_curves link_curves made last e f g h k =

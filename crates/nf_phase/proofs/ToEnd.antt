@@ -27,7 +27,7 @@ pub found_none_on : (passes : Passing) (net : Network) (patterns : ℕ) (s : Sta
     → IsFaultOf (FindsNone passes net patterns s) (suc s.made) fault → IfErr result (IsCauseOn passes net patterns s)
 found_none_on passes net patterns s result fault e h =
     by_fault result fault (IsCauseOn passes net patterns s) e (stands_as (FindsNone passes net patterns s) (FailsOn passes net patterns s)
-        (suc s.made) fault (none_on passes net patterns s) h)
+    (suc s.made) fault (none_on passes net patterns s) h)
 
 -- ---- with a thin flow
 module _ (passes : Passing) (net : Network) (patterns : ℕ) (s : Standing) (found : PhaseStart) (is : IsFound passes net patterns s found)

@@ -64,13 +64,16 @@ pub trace-with : (kept : Bool) (rates new : List ℚ) (curve after : GrowingCurv
     → kept ≡ keeps_slope curve.slope rate → new ≡ rates_by kept rates curve.slope
     → after ≡ curve_with curve p rate
     → ◌≡◌ {A = Trace} (record { points = after.points; rates = new ++ option_to_list after.slope })
-        (trace_with (record { points = curve.points; rates = rates ++ option_to_list curve.slope }) p rate)
+    (trace_with (record { points = curve.points; rates = rates ++ option_to_list curve.slope }) p rate)
 trace-with kept rates new curve after rate p before e made is =
     ap (λ (c : GrowingCurve). record { points = c.points; rates = new ++ option_to_list c.slope }) is
     ∙ ap (λ (l : List ℚ). record { points = with_point (keeps_slope curve.slope rate) curve.points p; rates = l })
     (ap (λ (l : List ℚ). l ++ rate ∷ []) made ∙ rates-with kept rates curve.slope rate e ∙ ap (λ (b : Bool). with_rate b (rates ++ option_to_list curve.slope) rate) e)
-    ∙ ap (λ (o : Option ℚ). record { points = with_point (keeps_slope o rate) curve.points p; rates =
-        with_rate (keeps_slope o rate) (rates ++ option_to_list curve.slope) rate }) (sym (last_rate rates curve.slope before))
+    ∙ ap (λ (o : Option ℚ). record {
+      points = with_point (keeps_slope o rate) curve.points p;
+      rates =
+          with_rate (keeps_slope o rate) (rates ++ option_to_list curve.slope) rate;
+    }) (sym (last_rate rates curve.slope before))
 
 -- ---- the first point of a curve at a node
 pub after_zero : (points : List Point) (value origin label : ℚ) (before : Bool) → points ≡ (0ℚ, value) ∷ [] → before ≡ lt_ℚ origin label → origin ≡ 0ℚ

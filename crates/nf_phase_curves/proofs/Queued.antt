@@ -50,7 +50,7 @@ module _ (passes : Passing) (length so_far : ℚ) (link seen : LinkPhase) (flowe
       ∙ after_ok Curve (checked passes Product length link.flow) _ flowed (ap (at_part Curve) e)
       ∙ after_ok Curve (checked passes Sum so_far flowed) _ amount (ap (at_part Curve) f)
       ∙ after_err Curve (rate_over passes (is_positive link.tail_slope) link.flow link.tail_slope) _ p
-          (ap (λ (b : Bool). at_part Curve (rate_over passes b link.flow link.tail_slope)) (sym is_tail) ∙ h)
+      (ap (λ (b : Bool). at_part Curve (rate_over passes b link.flow link.tail_slope)) (sym is_tail) ∙ h)
 
   module _ (inflow : Option ℚ) (inflow_is : at_part Curve (rate_over passes tail link.flow link.tail_slope) ≡ Ok inflow) (head : Bool)
       (is_head : head ≡ is_positive link.head_slope) where
@@ -60,9 +60,9 @@ module _ (passes : Passing) (length so_far : ℚ) (link seen : LinkPhase) (flowe
         ∙ after_ok Curve (checked passes Product length link.flow) _ flowed (ap (at_part Curve) e)
         ∙ after_ok Curve (checked passes Sum so_far flowed) _ amount (ap (at_part Curve) f)
         ∙ after_ok Curve (rate_over passes (is_positive link.tail_slope) link.flow link.tail_slope) _ inflow
-            (ap (λ (b : Bool). at_part Curve (rate_over passes b link.flow link.tail_slope)) (sym is_tail) ∙ inflow_is)
+        (ap (λ (b : Bool). at_part Curve (rate_over passes b link.flow link.tail_slope)) (sym is_tail) ∙ inflow_is)
         ∙ after_err Curve (rate_over passes (is_positive link.head_slope) link.flow link.head_slope) _ p
-            (ap (λ (b : Bool). at_part Curve (rate_over passes b link.flow link.head_slope)) (sym is_head) ∙ h)
+        (ap (λ (b : Bool). at_part Curve (rate_over passes b link.flow link.head_slope)) (sym is_head) ∙ h)
 
     pub queue_passes : (outflow : Option ℚ) → at_part Curve (rate_over passes head link.flow link.head_slope) ≡ Ok outflow → (p : PassedAt ℚ)
         → at_part Curve (queue_step passes seen inflow) ≡ Err p
@@ -72,9 +72,9 @@ module _ (passes : Passing) (length so_far : ℚ) (link seen : LinkPhase) (flowe
         ∙ after_ok Curve (checked passes Product length link.flow) _ flowed (ap (at_part Curve) e)
         ∙ after_ok Curve (checked passes Sum so_far flowed) _ amount (ap (at_part Curve) f)
         ∙ after_ok Curve (rate_over passes (is_positive link.tail_slope) link.flow link.tail_slope) _ inflow
-            (ap (λ (b : Bool). at_part Curve (rate_over passes b link.flow link.tail_slope)) (sym is_tail) ∙ inflow_is)
+        (ap (λ (b : Bool). at_part Curve (rate_over passes b link.flow link.tail_slope)) (sym is_tail) ∙ inflow_is)
         ∙ after_ok Curve (rate_over passes (is_positive link.head_slope) link.flow link.head_slope) _ outflow
-            (ap (λ (b : Bool). at_part Curve (rate_over passes b link.flow link.head_slope)) (sym is_head) ∙ outflow_is)
+        (ap (λ (b : Bool). at_part Curve (rate_over passes b link.flow link.head_slope)) (sym is_head) ∙ outflow_is)
         ∙ after_err Curve (queue_step passes link inflow) _ p (ap (λ (l : LinkPhase). at_part Curve (queue_step passes l inflow)) same ∙ h)
 
     pub link_step_is : (outflow : Option ℚ) → at_part Curve (rate_over passes head link.flow link.head_slope) ≡ Ok outflow → (queue : Option QueueStep)
@@ -85,7 +85,7 @@ module _ (passes : Passing) (length so_far : ℚ) (link seen : LinkPhase) (flowe
         ∙ after_ok Curve (checked passes Product length link.flow) _ flowed (ap (at_part Curve) e)
         ∙ after_ok Curve (checked passes Sum so_far flowed) _ amount (ap (at_part Curve) f)
         ∙ after_ok Curve (rate_over passes (is_positive link.tail_slope) link.flow link.tail_slope) _ inflow
-            (ap (λ (b : Bool). at_part Curve (rate_over passes b link.flow link.tail_slope)) (sym is_tail) ∙ inflow_is)
+        (ap (λ (b : Bool). at_part Curve (rate_over passes b link.flow link.tail_slope)) (sym is_tail) ∙ inflow_is)
         ∙ after_ok Curve (rate_over passes (is_positive link.head_slope) link.flow link.head_slope) _ outflow
-            (ap (λ (b : Bool). at_part Curve (rate_over passes b link.flow link.head_slope)) (sym is_head) ∙ outflow_is)
+        (ap (λ (b : Bool). at_part Curve (rate_over passes b link.flow link.head_slope)) (sym is_head) ∙ outflow_is)
         ∙ after_ok Curve (queue_step passes link inflow) _ queue (ap (λ (l : LinkPhase). at_part Curve (queue_step passes l inflow)) same ∙ h)

@@ -65,7 +65,7 @@ module _ (net : Network) (flow : Flow) (good : IsNetwork net) (is : Equilibrium 
       ap (λ (s : ℚ). s +ℚ extra_in) (sum_in-same net.links (λ e. x e departure) b.outs v (λ e link p here. x-is e link departure p
       ∙ IsOutflow-unique link.transit link.capacity (F e) (l v departure) (F e (l link.tail departure)) (b.outs e)
       (subst (λ (k : ℕ). IsOutflow link.transit link.capacity (F e) (l k departure) (F e (l link.tail departure))) here
-          (comes_out-at net flow good is e link departure p w)) (b.outflows e link p here)))
+      (comes_out-at net flow good is e link departure p w)) (b.outflows e link p here)))
       ∙ b.sums
       ∙ ap (λ (s : ℚ). s +ℚ extra_out) (sum_out-same net.links (λ e. F e (l v departure)) (λ e. x e departure) v
       (λ e link p here. ap (λ (k : ℕ). F e (l k departure)) (sym here) ∙ sym (x-is e link departure p)))
@@ -82,7 +82,7 @@ module _ (net : Network) (flow : Flow) (good : IsNetwork net) (is : Equilibrium 
   queue-bounded e link departure rate p some w =
       let u : (exit : ℚ) × IsExit link.transit link.capacity (F e) (l link.tail departure) exit × (l link.head departure ≤ℚ exit) = not_undercut net flow good is e link departure p w in
       let sum : u.0 ≡ l link.tail departure +ℚ link.transit +ℚ u.1.queue /ℚ rate = u.1.is_sum
-          ∙ ap (λ (c : Option ℚ). l link.tail departure +ℚ link.transit +ℚ waiting c u.1.queue) some in
+      ∙ ap (λ (c : Option ℚ). l link.tail departure +ℚ link.transit +ℚ waiting c u.1.queue) some in
       let served : u.1.queue /ℚ rate *ℚ rate ≡ u.1.queue = quotient-times u.1.queue rate (positive e link p rate some) in
       subst (λ (y : ℚ). IsQueue link.capacity (F e) (l link.tail departure) y)
       (⊎_elim
@@ -127,7 +127,7 @@ module _ (net : Network) (flow : Flow) (good : IsNetwork net) (is : Equilibrium 
       (subst (λ (z : ℚ). z ≤ℚ F e time) (starts-link net flow good is e link p) (rises-link net flow good is e link p 0ℚ time (≤ℚ_refl 0ℚ) h)))
       (λ (k : link.transit ≤ℚ l link.head departure). ≤ℚ_trans _ _ _
       (outflow-entered link.transit link.capacity (F e) (positive e link p) (rises-link net flow good is e link p) (starts-link net flow good is e link p)
-          (l link.head departure) _ k (comes_out-at net flow good is e link departure p w))
+      (l link.head departure) _ k (comes_out-at net flow good is e link departure p w))
       (rises-link net flow good is e link p (l link.head departure -ℚ link.transit) time (less_nn link.transit (l link.head departure) k) i))
       (lt_or_le_ℚ (l link.head departure) link.transit))
 
@@ -166,8 +166,8 @@ module _ (net : Network) (flow : Flow) (good : IsNetwork net) (is : Equilibrium 
     unbounded = slack-unbounded;
     entered = λ v departure h other w.
         let n : (e : ℕ) × (link : Link) × IsLink net e link × (link.head ≡ v)
-            × IsExit link.transit link.capacity (F e) (l link.tail departure) (l link.head departure) =
-            (labels-at net flow good is departure w).entered v h other in
+        × IsExit link.transit link.capacity (F e) (l link.tail departure) (l link.head departure) =
+        (labels-at net flow good is departure w).entered v h other in
         (n.0, n.1, n.2, n.3, active n.0 n.1 departure n.2 n.4);
     idle = λ e link departure time p w low h i j. idle-is e link departure time p w low h i j ∙ sym (x-is e link departure p);
     idle_queue = idle_queue-is;
@@ -183,7 +183,7 @@ module _ (net : Network) (flow : Flow) (good : IsNetwork net) (is : Equilibrium 
   DescribesLinks-equilibrium = record {
     outflows = λ e link departure p w. IsOutflow-unique link.transit link.capacity (F e) (l link.head departure) _ _
         (is.outflows e link (l link.head departure) p (up_to_now net flow good is link.head departure (good.heads e link p) w))
-            (comes_out-at net flow good is e link departure p w) ∙ sym (x-is e link departure p);
+        (comes_out-at net flow good is e link departure p w) ∙ sym (x-is e link departure p);
     outflows_early = λ e link time p w. IsOutflow-unique link.transit link.capacity (F e) time _ _
         (is.outflows e link time p (w.0, ≤ℚ_trans _ _ _ w.1 (up_to_now net flow good is link.head 0ℚ (good.heads e link p) (first net flow good is)).1))
         (outflow_early net F l flow.reached good HoldsUpTo-equilibrium e link time p w.0 w.1);

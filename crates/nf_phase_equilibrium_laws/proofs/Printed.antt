@@ -79,7 +79,7 @@ module _ (net : Network) (flow : Flow) (good : IsNetwork net) (is : Equilibrium 
   not_undercut e link departure p w = ⊎_elim
       (λ (s : (eqb link.head net.source ≡ true) × (link.head ≡ net.source)).
       let x : (exit : ℚ) × IsExit link.transit link.capacity (F e) (l link.tail departure) exit =
-          exit-at e link (l link.tail departure) p (label-nn link.tail departure (good.tails e link p) w) in (
+      exit-at e link (l link.tail departure) p (label-nn link.tail departure (good.tails e link p) w) in (
         x.0,
         x.1,
         subst (λ (k : ℕ). l k departure ≤ℚ x.0) (sym s.1) (subst (λ (z : ℚ). z ≤ℚ x.0) (sym (source-at departure w))
@@ -179,7 +179,7 @@ module _ (net : Network) (flow : Flow) (good : IsNetwork net) (is : Equilibrium 
       not_before = not_before-soon;
       balances = by_node (λ v a b. Balances net F v (soon time v) a b) 0ℚ
           (subst (λ (z : ℚ). Balances net F net.source z 0ℚ 0ℚ) (sym source-soon)
-              (subst (λ (u : ℚ). Balances net F net.source 0ℚ u 0ℚ) none_supplied (is.nash.conserves.source 0ℚ first)))
+          (subst (λ (u : ℚ). Balances net F net.source 0ℚ u 0ℚ) none_supplied (is.nash.conserves.source 0ℚ first)))
           (is.nash.conserves.sink_early (soon time net.sink) (soon-nn net.sink good.sink, min_right time (l net.sink 0ℚ)))
           (λ v h a b. is.nash.conserves.inner v (soon time v) h a b (soon-in v h));
     }
@@ -238,7 +238,7 @@ module _ (net : Network) (flow : Flow) (good : IsNetwork net) (is : Equilibrium 
     prompt : (e : ℕ) (link : Link) → IsLink net e link → 0ℚ <ℚ F e (soon time link.tail) → link.transit ≤ℚ 0ℚ
     prompt e link p some = ⊎_elim
         (λ (k : 0ℚ <ℚ link.transit). absurd (not_both_ℚ _ _ some (≤ℚ_of_same _ _
-            (none-slow e link (soon time link.tail) p k (soon-nn time from_0 link.tail (good.tails e link p), min_right time (l link.tail 0ℚ))))))
+        (none-slow e link (soon time link.tail) p k (soon-nn time from_0 link.tail (good.tails e link p), min_right time (l link.tail 0ℚ))))))
         (λ (k : link.transit ≤ℚ 0ℚ). k)
         (lt_or_le_ℚ 0ℚ link.transit)
 
@@ -267,7 +267,7 @@ module _ (net : Network) (flow : Flow) (good : IsNetwork net) (is : Equilibrium 
     comes_in v h (e, link, p, at, some) = enough _ _ _ _ _ _
         (out-balances net F (soon time) (out_by (soon time)) 0ℚ good (balanced-soon time from_0) v h) (only_at-none net.source v) (only_at-none net.sink v)
         (sum_out-same net.links (into net F (soon time) (out_by (soon time)) 0ℚ good (balanced-soon time from_0)) x v
-            (λ e link p here. into-is net F (soon time) (out_by (soon time)) 0ℚ good (balanced-soon time from_0) e link p ∙ sym (x-is e link p)))
+        (λ e link p here. into-is net F (soon time) (out_by (soon time)) 0ℚ good (balanced-soon time from_0) e link p ∙ sym (x-is e link p)))
         (sum_out-each net.links x v x-nn e link p at) (subst (λ (z : ℚ). 0ℚ <ℚ z) (sym (x-is e link p)) some)
       where
         enough : (i o a b y z : ℚ) → i +ℚ a ≡ o +ℚ b → a ≡ 0ℚ → b ≡ 0ℚ → o ≡ y → z ≤ℚ y → 0ℚ <ℚ z → 0ℚ <ℚ i

@@ -32,7 +32,7 @@ module _ (f : ℚ → ℚ) (period last : ℚ) (some : 0ℚ <ℚ period) (rises 
       (λ (e : f t ≡ 0ℚ). e)
       (λ (w : (period ≤ℚ t) × (f t ≤ℚ f (t -ℚ period))). ≤ℚ_antisymm _ _
       (subst (λ (x : ℚ). f t ≤ℚ x) (none (t -ℚ period) (linear_le (t ∷ period ∷ []) (le w.0 ∷ []) (search reading_of) tt)
-          (linear_le (a ∷ t ∷ period ∷ []) (le k ∷ []) (search reading_of) tt)) w.1)
+      (linear_le (a ∷ t ∷ period ∷ []) (le k ∷ []) (search reading_of) tt)) w.1)
       (nn t (≤ℚ_trans _ _ _ h j)))
       (repeats t (≤ℚ_trans _ _ _ h j, l))
 
@@ -56,14 +56,14 @@ module _ (f : ℚ → ℚ) (period last : ℚ) (some : 0ℚ <ℚ period) (rises 
           let on : p.0 ≤ℚ p.0 +ℚ d = linear_le (p.0 ∷ d ∷ []) (lt a ∷ []) (search reading_of) tt in
           let there : f (p.0 +ℚ d) ≡ 0ℚ = soon p.0 (p.0 +ℚ d) h none (linear_le (p.0 ∷ d ∷ period ∷ []) (le b ∷ []) (search reading_of) tt) on (≤ℚ_trans _ _ _ to l) in
           let k : slope p q ≡ 0ℚ = no_slope p.1 (slope p q) d a (ap (λ (z : ℚ). p.1 +ℚ slope p q *ℚ z) (sym (part p.0 d))
-              ∙ sym (line (p.0 +ℚ d) on (≤ℚ_trans _ _ _ to j)) ∙ there) first in
+          ∙ sym (line (p.0 +ℚ d) on (≤ℚ_trans _ _ _ to j)) ∙ there) first in
           level p.1 (slope p q) (t -ℚ p.0) (f t) (line t (≤ℚ_of_lt _ _ i) j) k first
 
       by : (d : ℚ) → min_ℚ period (t -ℚ p.0) ≡ d → f t ≡ 0ℚ
       by d e = ⊎_elim
           (λ (w : (min_ℚ period (t -ℚ p.0) ≡ period) × (period ≤ℚ t -ℚ p.0)). flat period some (≤ℚ_refl period) w.1)
           (λ (w : (min_ℚ period (t -ℚ p.0) ≡ t -ℚ p.0) × (t -ℚ p.0 <ℚ period)). flat (t -ℚ p.0)
-              (linear_lt (t ∷ p.0 ∷ []) (lt i ∷ []) (search reading_of) tt) (≤ℚ_of_lt _ _ w.1) (≤ℚ_refl _))
+          (linear_lt (t ∷ p.0 ∷ []) (lt i ∷ []) (search reading_of) tt) (≤ℚ_of_lt _ _ w.1) (≤ℚ_refl _))
           (min_ℚ_cases period (t -ℚ p.0))
 
   from_point : (p : ℚ × ℚ) (rest : List (ℚ × ℚ)) → 0ℚ ≤ℚ p.0 → TimesRise (p ∷ rest) → ((s : ℚ) → p.0 ≤ℚ s → f s ≡ value (p ∷ rest) s) → NoneUpTo p.0 → NoneUpTo last

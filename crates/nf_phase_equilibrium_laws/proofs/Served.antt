@@ -62,7 +62,7 @@ module _ (transit : ℚ) (capacity : Option ℚ) (amount : ℚ → ℚ) (positiv
           (λ (k : earlier -ℚ transit <ℚ g.taken.0). at_once (amount (earlier -ℚ transit)) (amount g.taken.0) rate earlier later transit g.taken.0 x y (positive rate e) g.taken.1.1
           (rises _ _ (less_nn transit earlier l) (≤ℚ_of_lt _ _ k)) (f.bound (earlier -ℚ transit) (less_nn transit earlier l, ≤ℚ_refl _)) g.taken.2)
           (λ (k : g.taken.0 ≤ℚ earlier -ℚ transit). later_more (amount g.taken.0) rate earlier later transit g.taken.0 x y (positive rate e) h
-              (f.bound g.taken.0 (g.taken.1.0, k)) g.taken.2)
+          (f.bound g.taken.0 (g.taken.1.0, k)) g.taken.2)
           (lt_or_le_ℚ (earlier -ℚ transit) g.taken.0)
 
   -- By a time that isn't later than the exit of an entry, at most the amount that had entered by then has left.
@@ -86,14 +86,14 @@ module _ (transit : ℚ) (capacity : Option ℚ) (amount : ℚ → ℚ) (positiv
       let c : 0ℚ <ℚ rate = positive rate e in
       ⊎_elim
       (λ (k : time <ℚ transit). before_that (amount entry) (amount g.taken.0) rate g.taken.0 entry queue 0ℚ out g.taken.2 some c g.taken.1.1
-          (amount-nn g.taken.0 g.taken.1.0) (≤ℚ_of_same _ _ (p.early k)))
+      (amount-nn g.taken.0 g.taken.1.0) (≤ℚ_of_same _ _ (p.early k)))
       (λ (k : transit ≤ℚ time).
       let f : IsLeast (λ since. amount since +ℚ rate *ℚ (time -ℚ transit -ℚ since)) 0ℚ (time -ℚ transit) out = p.bounded rate k e in
       ⊎_elim
       (λ (j : time -ℚ transit <ℚ g.taken.0). before_that (amount entry) (amount g.taken.0) rate g.taken.0 entry queue (amount (time -ℚ transit)) out g.taken.2 some c g.taken.1.1
       (rises _ _ (less_nn transit time k) (≤ℚ_of_lt _ _ j)) (outflow-entered time out k p))
       (λ (j : g.taken.0 ≤ℚ time -ℚ transit). not_yet (amount entry) (amount g.taken.0) rate g.taken.0 entry queue
-          (queue /ℚ rate) time transit exit out g.taken.2 (quotient-times queue rate c) x
+      (queue /ℚ rate) time transit exit out g.taken.2 (quotient-times queue rate c) x
       (ps-times_gap rate time exit c l) (f.bound g.taken.0 (g.taken.1.0, j)))
       (lt_or_le_ℚ (time -ℚ transit) g.taken.0))
       (lt_or_le_ℚ time transit)

@@ -11,7 +11,7 @@ label_after_at time (y ∷ labels) [] curves v x r c h k j = absurd (none-some r
 label_after_at time (y ∷ labels) (q ∷ slopes) [] v x r c h k j = absurd (none-some c j)
 label_after_at time (y ∷ labels) (q ∷ slopes) (d ∷ curves) zero x r c h k j =
     ap (λ (x : ℚ). Some (curve_with d (time, x) q)) (same_Some y x h) ∙ ap (λ (r : ℚ). Some (curve_with d (time, x) r)) (same_Some q r k)
-        ∙ ap (λ (c : GrowingCurve). Some (curve_with c (time, x) r)) (same_Some d c j)
+    ∙ ap (λ (c : GrowingCurve). Some (curve_with c (time, x) r)) (same_Some d c j)
 label_after_at time (y ∷ labels) (q ∷ slopes) (d ∷ curves) (suc v) x r c h k j = label_after_at time labels slopes curves v x r c h k j
 
 pub label_after-length : (time : ℚ) (labels slopes : List ℚ) (curves : List GrowingCurve) (n : ℕ) → length labels ≡ n → length slopes ≡ n
@@ -30,8 +30,8 @@ link_after_at labels (l ∷ links) [] steps e link c t h k j = absurd (none-some
 link_after_at labels (l ∷ links) (d ∷ curves) [] e link c t h k j = absurd (none-some t j)
 link_after_at labels (l ∷ links) (d ∷ curves) (u ∷ steps) zero link c t h k j =
     ap (λ (l : Link). Some (curves_after labels l d u)) (same_Some l link h)
-        ∙ ap (λ (d : LinkCurves). Some (curves_after labels link d u)) (same_Some d c k)
-        ∙ ap (λ (u : LinkStep). Some (curves_after labels link c u)) (same_Some u t j)
+    ∙ ap (λ (d : LinkCurves). Some (curves_after labels link d u)) (same_Some d c k)
+    ∙ ap (λ (u : LinkStep). Some (curves_after labels link c u)) (same_Some u t j)
 link_after_at labels (l ∷ links) (d ∷ curves) (u ∷ steps) (suc e) link c t h k j = link_after_at labels links curves steps e link c t h k j
 
 pub link_after-length : (labels : List ℚ) (links : List Link) (curves : List LinkCurves) (steps : List LinkStep) → length curves ≡ length links → length steps ≡ length links

@@ -43,8 +43,25 @@ pub use Rattle.nf_rational_laws.proofs.Polynomial.{reading_of}
 pub use Rattle.nf_rational_laws.proofs.Tests.{le_of_test, less_of_test, lt_ℚ_cases, max0_none, max0_of, max_ℚ_cases, min_ℚ_cases, not_less_of_test, test_of_less}
 pub use Rattle.nf_thin_def.specs.CurveList.{LinkPhase, LinkStep, QueueStep, is_filled, link_phase}
 pub use Rattle.nf_thin_def.specs.PhaseRun.{Bounds, Goes, IsPhaseRun, IsRunReport, PhaseStep, Runs, Standing, at_horizon, at_phases, fails, flow_of, goes, standing_after}
-pub use Rattle.nf_thin_def.specs.ReportCurves.{GrowingCurve, LinkCurves, amount_so_far, curve_with, curves_after, first_curves, first_label_curve,
-    first_queue, first_trace, keeps_slope, label_curves_after, link_curves_after, queue_after, trace_after, trace_with, with_point, with_rate}
+pub use Rattle.nf_thin_def.specs.ReportCurves.{
+  GrowingCurve,
+  LinkCurves,
+  amount_so_far,
+  curve_with,
+  curves_after,
+  first_curves,
+  first_label_curve,
+  first_queue,
+  first_trace,
+  keeps_slope,
+  label_curves_after,
+  link_curves_after,
+  queue_after,
+  trace_after,
+  trace_with,
+  with_point,
+  with_rate,
+}
 pub use Rattle.nf_thin_laws.proofs.Ending.{PhaseParts, enumerated, from_map, number-moved, phase_parts}
 pub use Rattle.std.proofs.lemmas.Bool.{and_parts, false≢true, or_cases}
 pub use Rattle.std.proofs.lemmas.Option.{none-some, same_Some, slice_get-get_or, slice_get_cases, slice_get_within}

@@ -37,7 +37,7 @@ first_last : (l : ℚ) → 0ℚ ≤ℚ l → LastPoint (first_points l) (l, 0ℚ
 first_last l h = ⊎_elim
     (λ (w : (lt_ℚ 0ℚ l ≡ true) × (0ℚ <ℚ l)). subst (λ (b : Bool). LastPoint (points_if l b) (l, 0ℚ)) (sym w.0) (two w.1))
     (λ (w : (lt_ℚ 0ℚ l ≡ false) × (l ≤ℚ 0ℚ)). subst (λ (b : Bool). LastPoint (points_if l b) (l, 0ℚ)) (sym w.0)
-        (subst (λ (z : ℚ). LastPoint ((0ℚ, 0ℚ) ∷ []) (z, 0ℚ)) (≤ℚ_antisymm _ _ h w.1) one))
+    (subst (λ (z : ℚ). LastPoint ((0ℚ, 0ℚ) ∷ []) (z, 0ℚ)) (≤ℚ_antisymm _ _ h w.1) one))
     (lt_ℚ_cases 0ℚ l)
   where
     two : 0ℚ <ℚ l → LastPoint ((0ℚ, 0ℚ) ∷ (l, 0ℚ) ∷ []) (l, 0ℚ)
@@ -95,7 +95,7 @@ module _ (net : Network) (good : IsNetwork net) (horizon time time' : ℚ) (labe
     (grown : Grown net time labels curves)
     (go : CurvesGoOn net curves.inflows curves.labels time phase.length (number_at phase.flows) (number_at phase.slopes) curves'.inflows curves'.labels)
     (describe : DescriptionCurvesGoOn net (at curves.labels) (at curves'.labels) curves.outflows curves.queues time phase.length (number_at phase.flows)
-        (number_at phase.slopes) curves'.outflows curves'.queues) where
+    (number_at phase.slopes) curves'.outflows curves'.queues) where
   some : 0ℚ <ℚ phase.length
   some = IsPhaseLength-some net (slacks_of (hops net) labels) phase.slopes time horizon phase.length phase.before phase.is_length
 
@@ -128,21 +128,21 @@ module _ (net : Network) (good : IsNetwork net) (horizon time time' : ℚ) (labe
       DescriptionGoesOn-curves net (at curves.inflows) (at curves.labels) (at curves'.inflows) (at curves'.labels) time phase.length (number_at phase.flows)
       (number_at phase.slopes)
       curves.outflows curves.queues curves'.outflows curves'.queues good some phase.thin.no_negative_slope into grown.stands.holds holds_after goes
-          grown.describes grown.description_stands describe
+      grown.describes grown.description_stands describe
 
   pub Grown-after : Grown net time' labels' curves'
   Grown-after = record {
     stands = stands;
     curves_stand = subst (λ (z : ℚ). CurvesStand net curves'.inflows curves'.labels z) (sym phase.time)
         (CurvesStand-after net curves.inflows curves.labels time phase.length (number_at phase.flows)
-            (number_at phase.slopes) curves'.inflows curves'.labels good some phase.thin.no_negative_slope out_of grown.curves_stand go);
+        (number_at phase.slopes) curves'.inflows curves'.labels good some phase.thin.no_negative_slope out_of grown.curves_stand go);
     describes = subst (λ (z : ℚ). DescribesLinks net (at curves'.inflows) (at curves'.labels) (at curves'.outflows) (at curves'.queues) z) (sym phase.time)
         (DescribesLinks-lasts net (at curves.inflows) (at curves.labels) (at curves'.inflows) (at curves'.labels) time phase.length labels phase.flows phase.slopes
         (at curves.outflows) (at curves.queues) (at curves'.outflows) (at curves'.queues) good grown.stands.holds grown.stands.same phase.thin lasts goes grown.describes describes_on);
     description_stands = subst (λ (z : ℚ). DescriptionStands net (at curves'.labels) curves'.outflows curves'.queues z) (sym phase.time)
         (DescriptionStands-after net (at curves.inflows) (at curves.labels) (at curves'.inflows) (at curves'.labels) time phase.length (number_at phase.flows) (number_at phase.slopes)
         curves.outflows curves.queues curves'.outflows curves'.queues good some phase.thin.no_negative_slope into grown.stands.holds holds_after goes
-            grown.describes grown.description_stands describe);
+        grown.describes grown.description_stands describe);
   }
 
 pub grown_by : (net : Network) (until : ℚ) (labels : List ℚ) (curves : Curves) → IsNetwork net → GrowByPhases net until labels curves → Grown net until labels curves

@@ -66,7 +66,7 @@ GoesOnTo-slope points points' a y l x d h g = same_from_times d _ x h (by_length
 
 module _ (net : Network) (inflows labels : ℕ → List Point) (until length : ℚ) (flow slope : ℕ → ℚ) (inflows' labels' : ℕ → List Point) (good : IsNetwork net)
     (some : 0ℚ <ℚ length) (rises : (v : ℕ) → 0ℚ ≤ℚ slope v) (no_flow : (e : ℕ) (link : Link) → IsLink net e link → slope link.tail ≡ 0ℚ → flow e ≡ 0ℚ)
-        (stand : CurvesStand net inflows labels until) (go : CurvesGoOn net inflows labels until length flow slope inflows' labels') where
+    (stand : CurvesStand net inflows labels until) (go : CurvesGoOn net inflows labels until length flow slope inflows' labels') where
   -- ---- labels
   label_before : (v : ℕ) (time : ℚ) → v < net.nodes → Within 0ℚ until time → at labels' v time ≡ at labels v time
   label_before v time h w = (go.labels_go v h).before time w

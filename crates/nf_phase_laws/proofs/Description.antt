@@ -21,7 +21,7 @@ module _ (net : Network) (amount label outflow queue : ℕ → ℚ → ℚ) (unt
       let t : (s : ℚ) × Within 0ℚ until s × (label link.head s ≡ time) = holds.label_takes link.head time (good.heads e link p) l w.1 in
       subst (λ (z : ℚ). IsOutflow link.transit link.capacity (amount e) z (outflow e z)) t.2
       (subst (λ (y : ℚ). IsOutflow link.transit link.capacity (amount e) (label link.head t.0) y) (sym (describes.outflows e link t.0 p t.1))
-          (held.outflow_at net amount label until good holds e link t.0 p t.1)))
+      (held.outflow_at net amount label until good holds e link t.0 p t.1)))
       (lt_or_le_ℚ time (label link.head 0ℚ))
 
   pub IsQueue-described : (e : ℕ) (link : Link) (time : ℚ) → IsLink net e link → Within 0ℚ (label link.tail until) time → IsQueue link.capacity (amount e) time (queue e time)
@@ -117,7 +117,7 @@ module _ (net : Network) (amount label : ℕ → ℚ → ℚ) (until length rate
   out_after : (e : ℕ) (link : Link) (t : ℚ) → IsLink net e link → Within 0ℚ length t → outflow' e (label' link.head (until +ℚ t)) ≡ sent net amount' label' e (until +ℚ t)
   out_after e link t p w =
       let r : (r : ℚ) × (r *ℚ slope link.head ≡ x e) × IsAffine (outflow' e) (label link.head until)
-          (label link.head until +ℚ slope link.head *ℚ length) r = goes.outflow_after e link p in
+      (label link.head until +ℚ slope link.head *ℚ length) r = goes.outflow_after e link p in
       let n : 0ℚ ≤ℚ slope link.head = step.thin.slope_nn link.head in
       ap (outflow' e) (step.goes.label_after link.head t (step.good.heads e link p) w)
       ∙ on_rate (outflow' e (label link.head until)) (sent net amount label e until) (label link.head until) (slope link.head) t r.0 (x e) _
@@ -148,7 +148,7 @@ module _ (net : Network) (amount label : ℕ → ℚ → ℚ) (until length rate
       let whole : Within 0ℚ length length = (step.some, ≤ℚ_refl length) in
       ap (queue' e) (step.goes.label_after link.tail t (step.good.tails e link p) w)
       ∙ agree _ _ _ (queue' e (label link.tail until)) (queue_by_slack link.capacity s) (label link.tail until) (slope link.tail) t length r.0 k.0 w.0 w.1
-          (queue_at_start e link until p now)
+      (queue_at_start e link until p now)
       (r.1.line (label link.tail until +ℚ slope link.tail *ℚ t) (past _ (slope link.tail) t n w.0) (line_order _ (slope link.tail) t length n w.1))
       (r.1.line (label link.tail until +ℚ slope link.tail *ℚ length) (past _ (slope link.tail) length n step.some) (≤ℚ_refl _))
       (goes.queue_end e link p ∙ moves length whole) (moves t w)
@@ -179,7 +179,7 @@ pub DescribesLinks-start : (net : Network) (labels : List ℚ) (amount label out
 DescribesLinks-start net labels amount label outflow queue good least begun out wait = record {
   outflows = λ e link departure p w. at_first net labels amount label good least begun (λ departure. outflow e (label link.head departure) ≡ sent net amount label e departure)
       (out e link (label link.head 0ℚ) p (label_not_negative net labels amount label good least begun link.head (good.heads e link p))
-          ∙ sym (nothing_sent net labels amount label good least begun e link p)) departure w;
+      ∙ sym (nothing_sent net labels amount label good least begun e link p)) departure w;
   outflows_early = λ e link time p w. out e link time p w.0;
   queues =
       λ e link departure p w. at_first net labels amount label good least begun

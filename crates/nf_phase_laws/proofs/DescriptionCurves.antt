@@ -36,7 +36,7 @@ module _ (points points' : List Point) (a z l d : ℚ) (not_back : 0ℚ ≤ℚ l
   flow_line : (x : ℚ) → 0ℚ <ℚ d → z ≡ value points a +ℚ x *ℚ d → (l ≡ 0ℚ → x ≡ 0ℚ) → (rate : ℚ) × (rate *ℚ l ≡ x) × IsAffine (value points') a (a +ℚ l *ℚ d) rate
   flow_line x h e none = by_slope (λ ps. (rate : ℚ) × (rate *ℚ l ≡ x) × IsAffine (value ps) a (a +ℚ l *ℚ d) rate)
       (λ k. let g : GoesOnTo points points' (a, value points a) (a +ℚ l *ℚ d, value points a +ℚ x *ℚ d) =
-          subst (λ (y : ℚ). GoesOnTo points points' (a, value points a) (a +ℚ l *ℚ d, y)) e (go k) in
+      subst (λ (y : ℚ). GoesOnTo points points' (a, value points a) (a +ℚ l *ℚ d, y)) e (go k) in
       (_, GoesOnTo-slope points points' a (value points a) l x d h g, g.line))
       (λ k. (0ℚ, no_rate x (none k), point_line (value points) k))
 
@@ -55,8 +55,8 @@ module _ (points points' : List Point) (a z l d : ℚ) (not_back : 0ℚ ≤ℚ l
 
 module _ (net : Network) (amount label amount' label' : ℕ → ℚ → ℚ) (until length : ℚ) (flow slope : ℕ → ℚ) (outflows queues outflows' queues' : ℕ → List Point) (good : IsNetwork net)
     (some : 0ℚ <ℚ length) (rises : (v : ℕ) → 0ℚ ≤ℚ slope v) (no_flow : (e : ℕ) (link : Link) → IsLink net e link → slope link.head ≡ 0ℚ → flow e ≡ 0ℚ)
-        (holds : HoldsUpTo net amount label until) (holds' : HoldsUpTo net amount' label' (until +ℚ length))
-        (goes : GoesOn net amount label until length flow slope amount' label')
+    (holds : HoldsUpTo net amount label until) (holds' : HoldsUpTo net amount' label' (until +ℚ length))
+    (goes : GoesOn net amount label until length flow slope amount' label')
     (describes : DescribesLinks net amount label (at outflows) (at queues) until) (stand : DescriptionStands net label outflows queues until)
     (go : DescriptionCurvesGoOn net label label' outflows queues until length flow slope outflows' queues') where
   now : Within 0ℚ until until
@@ -80,13 +80,13 @@ module _ (net : Network) (amount label amount' label' : ℕ → ℚ → ℚ) (un
   queue_still e link p z =
       let tail_same : label' link.tail until ≡ label link.tail until = goes.label_before link.tail until (good.tails e link p) now in
       let slack_same : link_slack label' link until ≡ link_slack label link until =
-          same_slacks _ _ _ _ link.transit (goes.label_before link.head until (good.heads e link p) now) tail_same in
+      same_slacks _ _ _ _ link.transit (goes.label_before link.head until (good.heads e link p) now) tail_same in
       let at_end : label' link.tail (until +ℚ length) ≡ label link.tail until = same_end _ (slope link.tail) _ (goes.label_after link.tail length (good.tails e link p) whole) z in
       describes.queues e link until p now ∙ ap (queue_by_slack link.capacity) (sym slack_same)
       ∙ IsQueue-unique link.capacity (amount' e) (label link.tail until) _ _
       (subst (λ (t : ℚ). IsQueue link.capacity (amount' e) t (queue_by_slack link.capacity (link_slack label' link until))) tail_same (holds'.queue e link until p now'))
       (subst (λ (t : ℚ). IsQueue link.capacity (amount' e) t (queue_by_slack link.capacity (link_slack label' link (until +ℚ length)))) at_end
-          (holds'.queue e link (until +ℚ length) p last))
+      (holds'.queue e link (until +ℚ length) p last))
 
   pub DescriptionGoesOn-curves : DescriptionGoesOn net label until length flow slope label' (at outflows) (at queues) (at outflows') (at queues')
   DescriptionGoesOn-curves = record {
@@ -106,8 +106,8 @@ module _ (net : Network) (amount label amount' label' : ℕ → ℚ → ℚ) (un
   DescriptionStands-after = record {
     outflows_end = λ e link p. subst (λ (z : ℚ). LastPoint (outflows' e) (z, at outflows' e z)) (sym (goes.label_after link.head length (good.heads e link p) whole))
         (new_last (outflows e) (outflows' e) (label link.head until) _ (slope link.head) length (rises link.head) (stand.outflows_end e link p)
-            (go.outflows_go e link p) (go.outflows_stay e link p));
+        (go.outflows_go e link p) (go.outflows_stay e link p));
     queues_end = λ e link p. subst (λ (z : ℚ). LastPoint (queues' e) (z, at queues' e z)) (sym (goes.label_after link.tail length (good.tails e link p) whole))
         (new_last (queues e) (queues' e) (label link.tail until) _ (slope link.tail) length (rises link.tail) (stand.queues_end e link p)
-            (go.queues_go e link p) (go.queues_stay e link p));
+        (go.queues_go e link p) (go.queues_stay e link p));
   }

@@ -145,7 +145,7 @@ module _ (net : Network) (slacks slopes : List ℚ) (time : ℚ) where
   unfolding extend_list
   whole rise extension h =
       let links = bind_ok (fold_checked (least_after never slacks slopes) None (enumerate_from 0 net.links))
-          (λ (m : Option ℚ). until_change never m time (next_change net time)) extension h in
+      (λ (m : Option ℚ). until_change never m time (next_change net time)) extension h in
       until_limits time (Both Anything (AllKeep slacks slopes 0 net.links)) (NoneStarts time net.pieces) (next_change net time) links.0 extension
       (fold_limits slacks slopes Anything net.links 0 None links.0 (λ length l. tt) links.1) (change_limits time net.pieces rise) links.2
 

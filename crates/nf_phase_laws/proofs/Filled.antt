@@ -50,7 +50,7 @@ not_some s e = cc
 
 module _ (net : Network) (labels : List ℚ) (rate time length_of : ℚ) (pattern : Pattern) (flows slopes : List ℚ) (is_pattern : IsPattern (sets_at net labels) (unbounded net) pattern)
     (solves : Solves net (sets_at net labels) rate pattern flows slopes) (meets : Meets net pattern flows slopes)
-        (lasts : Lasts net (slacks_of (hops net) labels) slopes time length_of) where
+    (lasts : Lasts net (slacks_of (hops net) labels) slopes time length_of) where
   abbrev resets : ℕ → Bool
   resets e = unwrap_or (slice_get (sets_at net labels).resetting e) false
 
@@ -84,7 +84,7 @@ module _ (net : Network) (labels : List ℚ) (rate time length_of : ℚ) (patter
     low : (Has (sets_at net labels).resetting e → ⊥) → before e ≤ℚ 0ℚ
     low none = subst (λ (z : ℚ). z ≤ℚ 0ℚ) (sym (slack_at net labels e link p))
         (⊎_elim (λ (h : 0ℚ <ℚ slack labels (hop_of link)). absurd (none (resetting_of_slack net labels e link p h)))
-            (λ (h : slack labels (hop_of link) ≤ℚ 0ℚ). h) (lt_or_le_ℚ 0ℚ (slack labels (hop_of link))))
+        (λ (h : slack labels (hop_of link) ≤ℚ 0ℚ). h) (lt_or_le_ℚ 0ℚ (slack labels (hop_of link))))
 
     high : Has (sets_at net labels).active e → 0ℚ ≤ℚ before e
     high active = subst (λ (z : ℚ). 0ℚ ≤ℚ z) (sym (slack_at net labels e link p)) (slack_of_active net labels e link p active)
@@ -92,7 +92,7 @@ module _ (net : Network) (labels : List ℚ) (rate time length_of : ℚ) (patter
     beyond : (Has (sets_at net labels).active e → ⊥) → before e <ℚ 0ℚ
     beyond none = subst (λ (z : ℚ). z <ℚ 0ℚ) (sym (slack_at net labels e link p))
         (⊎_elim (λ (h : slack labels (hop_of link) <ℚ 0ℚ). h) (λ (h : 0ℚ ≤ℚ slack labels (hop_of link)). absurd
-            (none (active_of_slack net labels e link p h))) (lt_or_le_ℚ (slack labels (hop_of link)) 0ℚ))
+        (none (active_of_slack net labels e link p h))) (lt_or_le_ℚ (slack labels (hop_of link)) 0ℚ))
 
     needs : (state : State) → HasState pattern e state → NeedsState (sets_at net labels) e
     needs state h = (is_pattern.states e).1 (state, h)
@@ -116,7 +116,7 @@ module _ (net : Network) (labels : List ℚ) (rate time length_of : ℚ) (patter
     by_state (Some Tight) h =
         let n = needs Tight h in
         idle (resets e) (not_resetting n.1) (low n.1) (tight_low (before e) length_of (number_at slopes link.head) (number_at slopes link.tail) (low n.1)
-            (solves.links e link (Some Tight) p h))
+        (solves.links e link (Some Tight) p h))
     by_state (Some Full) h =
         let n = needs Full h in
         busy true refl (solves.links e link (Some Full) p h) (high n.0)

@@ -138,7 +138,7 @@ module _ (passes : Passing) (net : Network) (good : IsNetwork net) (horizon : �
     so_far : amount_before e ≡ sent_now
     so_far = ap (λ (o : Option ℚ). unwrap_or o 0ℚ) (slice_get-image amount_so_far s.link_curves e c here)
         ∙ end_amount c (label_now link.tail, sent_now) (subst (λ (ps : List Point). LastPoint ps (label_now link.tail, sent_now)) (inflow_points s e c here)
-            (grown.curves_stand.inflows_end e link p))
+        (grown.curves_stand.inflows_end e link p))
 
     amount_is : (y : ℚ) → y ≡ sent_now → amount_before e +ℚ step.length *ℚ number_at flows e ≡ y +ℚ number_at flows e *ℚ step.length
     amount_is y k = turn_label (amount_before e) y step.length (number_at flows e) (k ∙ sym so_far)

@@ -114,9 +114,9 @@ module _ (net : Network) (amount label : ℕ → ℚ → ℚ) (until : ℚ) (goo
       (IsOutflow-early link.transit link.capacity (amount e) (label link.head departure) (too_early _ _ k)))
       (λ (k : 0ℚ ≤ℚ label link.head departure -ℚ link.transit). subst (λ (x : ℚ). IsOutflow link.transit link.capacity (amount e) (label link.head departure) x)
       (less_none _ _ (holds.idle e link departure (label link.head departure -ℚ link.transit) p w l k (≤ℚ_refl _)
-          (in_time (label link.tail departure) (label link.head departure) link.transit l)))
+      (in_time (label link.tail departure) (label link.head departure) link.transit l)))
       (IsOutflow-from_IsQueue link.transit link.capacity (amount e) (label link.head departure -ℚ link.transit) (label link.head departure) 0ℚ
-          (back_again (label link.head departure) link.transit) k
+      (back_again (label link.head departure) link.transit) k
       (holds.idle_queue e link departure p w l k)))
       (lt_or_le_ℚ (label link.head departure -ℚ link.transit) 0ℚ)
 
@@ -150,7 +150,7 @@ module _ (net : Network) (amount label : ℕ → ℚ → ℚ) (until : ℚ) (goo
       let before : time -ℚ link.transit ≤ℚ label link.tail 0ℚ = soon (label link.tail 0ℚ) (label link.head 0ℚ) link.transit time k (slack_start e link p) in
       subst (λ (x : ℚ). IsOutflow link.transit link.capacity (amount e) time x) (less_none _ _ (none_yet e link (time -ℚ link.transit) p (less_nn _ _ l) before))
       (IsOutflow-from_IsQueue link.transit link.capacity (amount e) (time -ℚ link.transit) time 0ℚ (back_again time link.transit) (less_nn _ _ l)
-          (queue_early e link (time -ℚ link.transit) p (less_nn _ _ l) before)))
+      (queue_early e link (time -ℚ link.transit) p (less_nn _ _ l) before)))
       (lt_or_le_ℚ time link.transit)
 
   -- ---- conservation

@@ -37,7 +37,7 @@ pub IsQueue-stays_empty : (capacity : Option ℚ) (amount : ℚ → ℚ) (start 
 IsQueue-stays_empty None amount start time c h same q = IsQueue-none amount time
 IsQueue-stays_empty (Some rate) amount start time c h same q =
     IsQueue-step_empty rate amount start time 0ℚ 0ℚ (record { line = λ t i j. level _ _ start t (same t i j) }) q time h (≤ℚ_refl time)
-        (empties rate time start (≤ℚ_of_lt _ _ (c rate refl)) h)
+    (empties rate time start (≤ℚ_of_lt _ _ (c rate refl)) h)
 
 -- If nothing has entered so far, nothing waits.
 pub IsQueue-before_any : (capacity : Option ℚ) (amount : ℚ → ℚ) (time : ℚ) → IsPositive capacity → 0ℚ ≤ℚ time

@@ -68,7 +68,7 @@ same_time a b r h k = linear_eq (a ∷ b ∷ r ∷ []) (le h ∷ le k ∷ []) (s
 has_flow : (y x s t a b : ℚ) → 0ℚ ≤ℚ x → a ≡ y +ℚ x *ℚ s → b ≡ y +ℚ x *ℚ t → a <ℚ b → 0ℚ <ℚ x
 has_flow y x s t a b n e f h = ⊎_elim (λ (k : 0ℚ <ℚ x). k)
     (λ (k : x ≤ℚ 0ℚ). let d : x ≡ 0ℚ = ≤ℚ_antisymm _ _ k n in absurd (linear_false (y ∷ x ∷ s ∷ t ∷ a ∷ b ∷ [])
-        (eq e ∷ eq f ∷ lt h ∷ eq_times s d ∷ eq_times t d ∷ []) (search reading_of) tt))
+    (eq e ∷ eq f ∷ lt h ∷ eq_times s d ∷ eq_times t d ∷ []) (search reading_of) tt))
     (lt_or_le_ℚ 0ℚ x)
 
 lt_along : (a b c d : ℚ) → a ≡ b → c ≡ d → a <ℚ c → b <ℚ d
@@ -128,7 +128,7 @@ module _ (net : Network) (amount label : ℕ → ℚ → ℚ) (until length rate
       (λ t w j. le_along _ _ _ _ (step.goes.label_before v s h (i, ≤ℚ_trans _ _ _ j w.1)) (step.goes.label_before v t h w) (step.holds.label_rises v s t h i j w.1))
       (λ t w j. by_time until length (λ s. s ≤ℚ until +ℚ t → label' v s ≤ℚ label' v (until +ℚ t))
       (λ s u j. le_along _ _ _ _ (step.goes.label_before v s h u) refl (≤ℚ_trans _ _ _ (step.holds.label_rises v s until h u.0 u.1 (≤ℚ_refl until))
-          (after_start (label v until) (slope v) t _ (step.thin.slope_nn v) w.0 (step.goes.label_after v t h w))))
+      (after_start (label v until) (slope v) t _ (step.thin.slope_nn v) w.0 (step.goes.label_after v t h w))))
       (λ s u j. le_along _ _ _ _ (step.goes.label_after v s h u) (step.goes.label_after v t h w)
       (line_order (label v until) (slope v) s t (step.thin.slope_nn v) (linear_le (until ∷ s ∷ t ∷ []) (le j ∷ []) (search reading_of) tt)))
       s (i, ≤ℚ_trans _ _ _ j (linear_le (until ∷ t ∷ length ∷ []) (le w.1 ∷ []) (search reading_of) tt)) j)
@@ -139,7 +139,7 @@ module _ (net : Network) (amount label : ℕ → ℚ → ℚ) (until length rate
       (λ (l : label v until <ℚ y).
       let u : (u : ℚ) × (0ℚ ≤ℚ u) × (u ≤ℚ length) × (label v until +ℚ slope v *ℚ (u -ℚ 0ℚ) ≡ y) =
       line_takes 0ℚ length (label v until) (slope v) y (label' v (until +ℚ length)) step.some
-          (step.goes.label_after v length h (step.some, ≤ℚ_refl length) ∙ from_zero (label v until) (slope v) length) (≤ℚ_of_lt _ _ l) j in
+      (step.goes.label_after v length h (step.some, ≤ℚ_refl length) ∙ from_zero (label v until) (slope v) length) (≤ℚ_of_lt _ _ l) j in
       (until +ℚ u.0, later u.0 (u.1, u.2), step.goes.label_after v u.0 h (u.1, u.2) ∙ from_zero (label v until) (slope v) u.0 ∙ u.3))
       (λ (l : y ≤ℚ label v until).
       let u : (time : ℚ) × Within 0ℚ until time × (label v time ≡ y) = step.holds.label_takes v y h (subst (λ (z : ℚ). z ≤ℚ y) (step.goes.label_before v 0ℚ h first) i) l in
@@ -197,7 +197,7 @@ module _ (net : Network) (amount label : ℕ → ℚ → ℚ) (until length rate
   pub sent_after : (e : ℕ) (link : Link) (t : ℚ) → IsLink net e link → Within 0ℚ length t → new_sent e (until +ℚ t) ≡ old_sent e until +ℚ x e *ℚ t
   sent_after e link t p w =
       let r : (r : ℚ) × (r *ℚ slope link.tail ≡ x e) × IsAffine (amount' e) (label link.tail until) (label link.tail until +ℚ slope link.tail *ℚ length) r =
-          step.goes.amount_after e link p in
+      step.goes.amount_after e link p in
       new_is e link (until +ℚ t) p ∙ ap (amount' e) (step.goes.label_after link.tail t (tails e link p) w)
       ∙ on_the_line _ _ (label link.tail until) (slope link.tail) t r.0 (x e) (old_sent e until)
       (r.2.line (label link.tail until +ℚ slope link.tail *ℚ t) (past e link t w) (before_end e link t w)) (amount_until e link p) r.1
@@ -205,9 +205,9 @@ module _ (net : Network) (amount label : ℕ → ℚ → ℚ) (until length rate
   amount_rises : (e : ℕ) (link : Link) → IsLink net e link → NeverFalls (amount' e)
   amount_rises e link p =
       let r : (r : ℚ) × (r *ℚ slope link.tail ≡ x e) × IsAffine (amount' e) (label link.tail until) (label link.tail until +ℚ slope link.tail *ℚ length) r =
-          step.goes.amount_after e link p in
+      step.goes.amount_after e link p in
       NeverFalls-goes_on (amount e) (amount' e) (label link.tail until) (slope link.tail) length r.0 (x e) (label_nn link.tail until (tails e link p) now)
-          (step.thin.slope_nn link.tail) (step.thin.flow_nn e) step.some
+      (step.thin.slope_nn link.tail) (step.thin.flow_nn e) step.some
       (step.holds.amount_rises e (slice_get_within net.links e link p)) (λ t w. step.goes.amount_before e link t p w) r.1 r.2 (λ t h. step.goes.amount_ends e link t p h)
 
   -- ---- queues
@@ -228,16 +228,16 @@ module _ (net : Network) (amount label : ℕ → ℚ → ℚ) (until length rate
       (sym (step.goes.label_before link.tail time (tails e link p) w))
       (subst (λ (s : ℚ). IsQueue link.capacity (amount' e) (label link.tail time) (queue_by_slack link.capacity s)) (sym (slack_before e link time p w))
       (IsQueue-same link.capacity (amount e) (amount' e) (label link.tail time) _
-          (same_amount e link (label link.tail time) p (rises_on link.tail time (tails e link p) w)) (step.holds.queue e link time p w)))
+      (same_amount e link (label link.tail time) p (rises_on link.tail time (tails e link p) w)) (step.holds.queue e link time p w)))
 
   queue_after : (e : ℕ) (link : Link) (t : ℚ) → IsLink net e link → Within 0ℚ length t → QueueAt e link (until +ℚ t)
   queue_after e link t p w =
       let r : (r : ℚ) × (r *ℚ slope link.tail ≡ x e) × IsAffine (amount' e) (label link.tail until) (label link.tail until +ℚ slope link.tail *ℚ length) r =
-          step.goes.amount_after e link p in
+      step.goes.amount_after e link p in
       subst (λ (a : ℚ). IsQueue link.capacity (amount' e) a (queue_by_slack link.capacity (link_slack label' link (until +ℚ t))))
-          (sym (step.goes.label_after link.tail t (tails e link p) w))
+      (sym (step.goes.label_after link.tail t (tails e link p) w))
       (IsQueue-by_slack link.capacity (amount' e) (label link.tail until) _ r.0 _ _ (x e) (slope link.tail) (slope link.head) t
-          (link_step e link t p w) r.1 r.2 (past e link t w) (before_end e link t w) (queue_until e link p))
+      (link_step e link t p w) r.1 r.2 (past e link t w) (before_end e link t w) (queue_until e link p))
 
   queue : (e : ℕ) (link : Link) (time : ℚ) → IsLink net e link → Within 0ℚ (until +ℚ length) time → QueueAt e link time
   queue e link time p w = by_time until length (λ time. QueueAt e link time) (λ time w. queue_before e link time p w) (λ t w. queue_after e link t p w) time w
@@ -260,7 +260,7 @@ module _ (net : Network) (amount label : ℕ → ℚ → ℚ) (until length rate
 
   entered_after : (v : ℕ) (t : ℚ) → Within 0ℚ length t
       → (e : ℕ) × (link : Link) × IsLink net e link × (link.head ≡ v) × (0ℚ ≤ℚ link_slack label link until)
-          × (link_slack label link until ≤ℚ 0ℚ → slope link.tail ≤ℚ slope link.head) → EnteredAt v (until +ℚ t)
+      × (link_slack label link until ≤ℚ 0ℚ → slope link.tail ≤ℚ slope link.head) → EnteredAt v (until +ℚ t)
   entered_after v t w (e, link, p, at, s, tight) = (
     e,
     link,
@@ -287,7 +287,7 @@ module _ (net : Network) (amount label : ℕ → ℚ → ℚ) (until length rate
   idle_amount e link t z p w s f h i j = ⊎_elim
       (λ (u : label link.tail until <ℚ z).
       let r : (r : ℚ) × (r *ℚ slope link.tail ≡ x e) × IsAffine (amount' e) (label link.tail until) (label link.tail until +ℚ slope link.tail *ℚ length) r =
-          step.goes.amount_after e link p in
+      step.goes.amount_after e link p in
       flat (amount' e z) (amount' e (label link.tail until)) r.0 (label link.tail until) (slope link.tail) t z
       (r.2.line z (≤ℚ_of_lt _ _ u) (≤ℚ_trans _ _ _ j (before_end e link t w))) (r.1 ∙ f) (step.thin.slope_nn link.tail) u j
       ∙ amount_until e link p)
@@ -305,7 +305,7 @@ module _ (net : Network) (amount label : ℕ → ℚ → ℚ) (until length rate
       let k : z ≤ℚ label link.tail time = subst (λ (a : ℚ). z ≤ℚ a) (step.goes.label_before link.tail time (tails e link p) w) j in
       step.goes.amount_before e link z p (h, ≤ℚ_trans _ _ _ k (rises_on link.tail time (tails e link p) w))
       ∙ step.holds.idle e link time z p w (subst (λ (n : ℚ). n ≤ℚ 0ℚ) (slack_before e link time p w) s) h
-          (subst (λ (b : ℚ). b -ℚ link.transit ≤ℚ z) (step.goes.label_before link.head time (heads e link p) w) i) k
+      (subst (λ (b : ℚ). b -ℚ link.transit ≤ℚ z) (step.goes.label_before link.head time (heads e link p) w) i) k
       ∙ sym (sent_before e link time p w)
 
   idle_after : (e : ℕ) (link : Link) (t : ℚ) → IsLink net e link → Within 0ℚ length t → IdleAt e link (until +ℚ t)
@@ -361,7 +361,7 @@ module _ (net : Network) (amount label : ℕ → ℚ → ℚ) (until length rate
       (λ (n : 0ℚ ≤ℚ link_slack label' link (until +ℚ t)).
       subst (λ (y : ℚ). IsQueue link.capacity (amount' e) (label' link.head (until +ℚ t) -ℚ link.transit) y) (queue_by_slack-low link.capacity _ s)
       (subst (λ (a : ℚ). IsQueue link.capacity (amount' e) a (queue_by_slack link.capacity (link_slack label' link (until +ℚ t))))
-          (same_time (label' link.tail (until +ℚ t)) (label' link.head (until +ℚ t)) link.transit s n)
+      (same_time (label' link.tail (until +ℚ t)) (label' link.head (until +ℚ t)) link.transit s n)
       (queue_after e link t p w)))
       (lt_or_le_ℚ (link_slack label' link (until +ℚ t)) 0ℚ)
 
@@ -381,8 +381,10 @@ module _ (net : Network) (amount label : ℕ → ℚ → ℚ) (until length rate
       lt_along _ _ _ _ (sent_before e link time p w) (sent_before e link after p v) (grows after a (longer after v).1))))
       (λ (l : until ≤ℚ time).
       let d : until +ℚ (time -ℚ until) ≡ time = linear_eq (until ∷ time ∷ []) [] (search reading_of) tt tt in
-      let w : Within 0ℚ length (time -ℚ until) = (linear_le (until ∷ time ∷ []) (le l ∷ []) (search reading_of) tt,
-          linear_le (until ∷ time ∷ length ∷ []) (lt k ∷ []) (search reading_of) tt) in
+      let w : Within 0ℚ length (time -ℚ until) = (
+        linear_le (until ∷ time ∷ []) (le l ∷ []) (search reading_of) tt,
+        linear_le (until ∷ time ∷ length ∷ []) (lt k ∷ []) (search reading_of) tt,
+      ) in
       subst (λ (z : ℚ). 0ℚ ≤ℚ link_slack label' link z) d (with_flow e link (time -ℚ until) p w
       (has_flow (old_sent e until) (x e) (time -ℚ until) length _ _ (step.thin.flow_nn e) (sent_after e link (time -ℚ until) p w) (sent_after e link length p (step.some, ≤ℚ_refl length))
       (subst (λ (z : ℚ). new_sent e z <ℚ new_sent e (until +ℚ length)) (sym d) (grows (until +ℚ length) k (≤ℚ_refl _))))))

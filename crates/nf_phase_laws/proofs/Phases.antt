@@ -24,7 +24,7 @@ Lasts-phase net slacks slopes time horizon length b (inl (x, x_is, e)) = ⊎_eli
     (λ (w : (min_ℚ (horizon -ℚ time) x ≡ horizon -ℚ time) × (horizon -ℚ time ≤ℚ x)).
     let s : length ≡ horizon -ℚ time = e ∙ w.0 in
     Lasts-shorter net slacks slopes time x length x_is.lasts (linear_le (time ∷ horizon ∷ length ∷ []) (eq s ∷ lt b ∷ []) (search reading_of) tt)
-        (linear_le (time ∷ horizon ∷ length ∷ x ∷ []) (eq s ∷ le w.1 ∷ []) (search reading_of) tt))
+    (linear_le (time ∷ horizon ∷ length ∷ x ∷ []) (eq s ∷ le w.1 ∷ []) (search reading_of) tt))
     (λ (w : (min_ℚ (horizon -ℚ time) x ≡ x) × (x <ℚ horizon -ℚ time)). subst (λ (z : ℚ). Lasts net slacks slopes time z) (sym (e ∙ w.0)) x_is.lasts)
     (min_ℚ_cases (horizon -ℚ time) x)
 Lasts-phase net slacks slopes time horizon length b (inr (u, e)) = u length (linear_le (time ∷ horizon ∷ length ∷ []) (eq e ∷ lt b ∷ []) (search reading_of) tt)
@@ -50,13 +50,13 @@ moved_label a b c s t e f = linear_eq (a ∷ b ∷ c ∷ s ∷ t ∷ []) (eq e �
 pub stands_after : (net : Network) (horizon time time' : ℚ) (labels labels' : List ℚ) (amount label amount' label' : ℕ → ℚ → ℚ)
     (phase : IsPhase net horizon (time, labels) (time', labels')) → IsNetwork net
     → Stands net time labels amount label → GoesOn net amount label time phase.length (number_at phase.flows) (number_at phase.slopes) amount' label'
-        → Stands net time' labels' amount' label'
+    → Stands net time' labels' amount' label'
 stands_after net horizon time time' labels labels' amount label amount' label' phase good stands goes = record {
   holds = subst (λ (z : ℚ). HoldsUpTo net amount' label' z) (sym phase.time)
       (HoldsUpTo-lasts net amount label amount' label' time phase.length labels phase.flows phase.slopes good stands.holds stands.same phase.thin lasts goes);
   same = λ v h. subst (λ (z : ℚ). label' v z ≡ number_at labels' v) (sym phase.time)
       (moved_label _ _ _ _ _ (goes.label_after v phase.length h (lasts.not_negative, ≤ℚ_refl _)) (stands.same v h)
-          ∙ sym (moved-at labels phase.slopes phase.length v counts) ∙ ap (λ (l : List ℚ). number_at l v) (sym phase.labels));
+      ∙ sym (moved-at labels phase.slopes phase.length v counts) ∙ ap (λ (l : List ℚ). number_at l v) (sym phase.labels));
   count = ap length phase.labels ∙ length-moved labels phase.slopes phase.length counts ∙ stands.count;
 }
   where

@@ -64,7 +64,7 @@ reached : (points : List Point) (last : Point) (r : ℚ) → LastPoint points la
 reached points last r l s =
     let same : s.last ≡ last = same_Some s.last last
     (sym (last-append None (s.front ++ s.before ∷ []) s.last) ∙ ap (last_or None) (append_assoc s.front (s.before ∷ []) (s.last ∷ []) ∙ sym s.same ∙ l.same)
-        ∙ last-append None l.front last) in
+    ∙ last-append None l.front last) in
     record {
       front = s.front;
       before = s.before;

@@ -54,7 +54,7 @@ tight_unused c s l m x t n h i j d e f w =
 queue_tight : (c s l m x t n : ℚ) → 0ℚ <ℚ c → 0ℚ ≤ℚ l → 0ℚ ≤ℚ t → 0ℚ ≤ℚ x → s ≡ 0ℚ → n ≡ s +ℚ (m -ℚ l) *ℚ t → LinkLaw (Some c) s x l m → QueueCase c l x (c *ℚ s) t n
 queue_tight c s l m x t n h i j k d e p = ⊎_elim
     (λ (g : 0ℚ <ℚ x). let u : (l ≤ℚ m) × (x ≤ℚ c *ℚ m) = p.used c refl (≤ℚ_of_same _ _ d) g in
-        tight_used c s l m x t n (≤ℚ_of_lt _ _ h) j d e u.0 u.1 (p.upper c refl (≤ℚ_of_same _ _ d)))
+    tight_used c s l m x t n (≤ℚ_of_lt _ _ h) j d e u.0 u.1 (p.upper c refl (≤ℚ_of_same _ _ d)))
     (λ (g : x ≤ℚ 0ℚ). tight_unused c s l m x t n h i j d e (≤ℚ_antisymm _ _ g k) (p.upper c refl (≤ℚ_of_same _ _ d)))
     (lt_or_le_ℚ 0ℚ x)
 

@@ -20,10 +20,16 @@ module _ (net : Network) (good : IsNetwork net) (s : Standing) (well : WellRun n
   pub HasShape-well : HasShape net (flow_of s)
   HasShape-well = record {
     labels = record { count = length-map s.label_curves (λ (c : GrowingCurve). c.points) ∙ well.label_count; each = λ v h. (grown.curves_stand.labels_end v h).curve };
-    inflows = record { count = length-map (flow_of s).inflows (λ (t : Trace). t.points)
-        ∙ many (λ c. c.inflow); each = λ e h. (let l = link_within net e h in (grown.curves_stand.inflows_end e l.0 l.1).curve) };
-    outflows = record { count = length-map (flow_of s).outflows (λ (t : Trace). t.points)
-        ∙ many (λ c. c.outflow); each = λ e h. (let l = link_within net e h in (grown.description_stands.outflows_end e l.0 l.1).curve) };
+    inflows = record {
+      count = length-map (flow_of s).inflows (λ (t : Trace). t.points)
+          ∙ many (λ c. c.inflow);
+      each = λ e h. (let l = link_within net e h in (grown.curves_stand.inflows_end e l.0 l.1).curve);
+    };
+    outflows = record {
+      count = length-map (flow_of s).outflows (λ (t : Trace). t.points)
+          ∙ many (λ c. c.outflow);
+      each = λ e h. (let l = link_within net e h in (grown.description_stands.outflows_end e l.0 l.1).curve);
+    };
     queues = record { count = many (λ c. c.queue.points); each = λ e h. (let l = link_within net e h in (grown.description_stands.queues_end e l.0 l.1).curve) };
   }
 

@@ -30,7 +30,7 @@ pub closed-at_start : (net : Network) (s : Standing) → IsNetwork net → IsSta
 closed-at_start net s good start (made, opened) =
     let labels : AreTransitLabels net (number_at s.labels) = AreTransitLabels-least net (number_at s.labels) good start.labels.each in
     let w : (e : ℕ) × (link : Link) × IsLink net e link × (link.head ≡ net.sink)
-        × (number_at s.labels net.sink ≡ number_at s.labels link.tail +ℚ link.transit) = labels.entered net.sink good.sink (λ e. good.apart (sym e)) in
+    × (number_at s.labels net.sink ≡ number_at s.labels link.tail +ℚ link.transit) = labels.entered net.sink good.sink (λ e. good.apart (sym e)) in
     opened.apart w.0 w.1 w.2 (ap (λ (l : Pattern). slice_get l w.0) start.last ∙ entry-replicate (length net.links) w.0 None (slice_get_within net.links w.0 w.1 w.2))
     (just_then _ _ w.1.transit (ap (number_at s.labels) w.3 ∙ w.4))
   where

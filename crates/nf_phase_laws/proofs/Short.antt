@@ -21,7 +21,7 @@ last_slope-at (p ∷ q ∷ s ∷ front) before last = last_slope-at (q ∷ s ∷
 ended_by : (points : List Point) (r : ℚ) (front : List Point) (before last : Point) → EndsWithSlope points r → points ≡ front ++ before ∷ last ∷ [] → slope before last ≡ r
 ended_by points r front before last ends same =
     same_Some (slope before last) r (sym (last_slope-at front before last) ∙ ap last_slope (sym same ∙ ends.same)
-        ∙ last_slope-at ends.front ends.before ends.last ∙ ap (λ (x : ℚ). Some x) ends.slope_is)
+    ∙ last_slope-at ends.front ends.before ends.last ∙ ap (λ (x : ℚ). Some x) ends.slope_is)
 
 -- ---- a point after the last, and one that replaces it
 IsShort-appended : (front : List Point) (before last new : Point) → IsShort (front ++ before ∷ last ∷ []) → (slope before last ≡ slope last new → ⊥)
@@ -55,7 +55,7 @@ module _ (points : List Point) (new : Point) (b r : ℚ) (s : EndsWithSlope poin
   short_by : (same : Bool) → is_same b r ≡ same → EndsWithSlope (with_point same points new) r → IsShort (with_point same points new)
   short_by true e ends =
       let f : take (length points - 1) points ++ new ∷ [] ≡ s.front ++ s.before ∷ new ∷ [] =
-          ap (λ (ps : List Point). take (length ps - 1) ps ++ new ∷ []) s.same ∙ taken s.front s.before s.last new in
+      ap (λ (ps : List Point). take (length ps - 1) ps ++ new ∷ []) s.same ∙ taken s.front s.before s.last new in
       subst IsShort (sym f) (IsShort-replaced s.front s.before s.last new here (s.slope_is ∙ same_of_test b r e ∙ sym (ended_by _ r s.front s.before new ends f)))
   short_by false e ends =
       let f : points ++ new ∷ [] ≡ s.front ++ s.before ∷ s.last ∷ new ∷ [] = ap (λ (ps : List Point). ps ++ new ∷ []) s.same ∙ append_assoc s.front (s.before ∷ s.last ∷ []) (new ∷ []) in

@@ -31,7 +31,7 @@ module _ (net : Network) (good : IsNetwork net) (s : Standing) (well : WellRun n
   pub unbounded_slack_at : (e : ℕ) (link : Link) → IsLink net e link → link.capacity ≡ None → slack s.labels (hop_of link) ≤ℚ 0ℚ
   unbounded_slack_at e link p none = subst (λ (x : ℚ). x ≤ℚ 0ℚ)
       (sym (slack-is net (at curves.inflows) (at curves.labels) s.time s.labels good grown_at.stands.holds grown_at.stands.same e link p))
-          (grown_at.stands.holds.unbounded e link s.time p none now)
+      (grown_at.stands.holds.unbounded e link s.time p none now)
 
   pub ends_at : EndsAtLabels net s
   ends_at = record {

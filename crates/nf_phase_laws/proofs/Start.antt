@@ -44,10 +44,10 @@ module _ (net : Network) (labels : List ℚ) (amount label : ℕ → ℚ → ℚ
   slack_none e link p = ⊎_elim
       (λ (s : (eqb link.head net.source ≡ true) × (link.head ≡ net.source)).
       into_source (label link.tail 0ℚ) (label link.head 0ℚ) link.transit (ap (λ (v : ℕ). label v 0ℚ) s.1 ∙ source_first)
-          (label_not_negative link.tail (good.tails e link p)) (good.transits e link p))
+      (label_not_negative link.tail (good.tails e link p)) (good.transits e link p))
       (λ (s : (eqb link.head net.source ≡ false) × (link.head ≢ net.source)).
       into_other (label link.tail 0ℚ) (label link.head 0ℚ) _ _ link.transit (start.labels_are link.tail (good.tails e link p))
-          (start.labels_are link.head (good.heads e link p)) (transit_labels.none_shorter e link p s.1))
+      (start.labels_are link.head (good.heads e link p)) (transit_labels.none_shorter e link p s.1))
       (eqb_tells link.head net.source)
 
   -- ---- each node but the source has an active link into it
@@ -56,9 +56,14 @@ module _ (net : Network) (labels : List ℚ) (amount label : ℕ → ℚ → ℚ
 
   entered_first : (v : ℕ) → v < net.nodes → v ≢ net.source → (e : ℕ) × (link : Link) × IsLink net e link × (link.head ≡ v) × (0ℚ ≤ℚ link_slack label link 0ℚ)
   entered_first v h other =
-      let n : (e : ℕ) × (link : Link) × IsLink net e link × (link.head ≡ v) × (number_at labels v ≡ number_at labels link.tail +ℚ link.transit) = transit_labels.entered v h other in
-      (n.0, n.1, n.2, n.3, just_there (label n.1.tail 0ℚ) (label n.1.head 0ℚ) _ _ _ n.1.transit (start.labels_are n.1.tail (good.tails n.0 n.1 n.2))
-          (start.labels_are n.1.head (good.heads n.0 n.1 n.2)) (ap (number_at labels) n.3) n.4)
+      let n : (e : ℕ) × (link : Link) × IsLink net e link × (link.head ≡ v) × (number_at labels v ≡ number_at labels link.tail +ℚ link.transit) = transit_labels.entered v h other in (
+        n.0,
+        n.1,
+        n.2,
+        n.3,
+        just_there (label n.1.tail 0ℚ) (label n.1.head 0ℚ) _ _ _ n.1.transit (start.labels_are n.1.tail (good.tails n.0 n.1 n.2))
+            (start.labels_are n.1.head (good.heads n.0 n.1 n.2)) (ap (number_at labels) n.3) n.4,
+      )
 
   -- ---- nothing is sent, and nothing waits
   nothing_at : (e : ℕ) (link : Link) (time : ℚ) → IsLink net e link → 0ℚ ≤ℚ time → amount e time ≡ 0ℚ

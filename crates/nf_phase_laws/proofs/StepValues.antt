@@ -21,8 +21,11 @@ rate_value true flow slope = Some (flow /ℚ slope)
 abbrev pub queue_value : LinkPhase → Option ℚ → Option QueueStep
 queue_value link None = None
 queue_value link (Some rate) =
-    Some (record { size = queue_by_slack link.capacity (link.head_label -ℚ (link.tail_label +ℚ link.transit)); slope =
-    filled_slope link.filled link.capacity rate })
+    Some (record {
+      size = queue_by_slack link.capacity (link.head_label -ℚ (link.tail_label +ℚ link.transit));
+      slope =
+          filled_slope link.filled link.capacity rate;
+    })
 
 abbrev pub step_value : ℚ → ℚ → LinkPhase → LinkStep
 step_value length so_far link = record {
@@ -85,7 +88,7 @@ step_exact length so_far link =
     (λ outflow_rate. queue_step never link into >>= λ queue. Ok (record { amount = amount; inflow_rate = into; outflow_rate = outflow_rate; queue = queue }))
     (rate_exact (is_positive link.head_slope) link.flow link.head_slope)
     ∙ bind_at (queue_step never link into) (queue_value link into) (λ queue. Ok
-        (record { amount = amount; inflow_rate = into; outflow_rate = out; queue = queue })) (queue_exact link into)
+    (record { amount = amount; inflow_rate = into; outflow_rate = out; queue = queue })) (queue_exact link into)
 
 -- ---- each entry has its value
 pub steps-length : (passes : Passing) (net : Network) (sets : Sets) (pattern : Pattern) (while : ℚ) (flows slopes labels amounts : List ℚ) (steps : List LinkStep)
@@ -93,7 +96,7 @@ pub steps-length : (passes : Passing) (net : Network) (sets : Sets) (pattern : P
 unfolding curve_list
 steps-length passes net sets pattern while flows slopes labels amounts steps h =
     each_length (λ (numbered : ℕ × Link). link_step passes while (number_at amounts numbered.0) (link_phase sets pattern flows slopes labels numbered))
-        (enumerate_from 0 net.links) steps h
+    (enumerate_from 0 net.links) steps h
     ∙ length-enumerated 0 net.links
 
 pub step_value_at : (passes : Passing) (net : Network) (sets : Sets) (pattern : Pattern) (length : ℚ) (flows slopes labels amounts : List ℚ) (steps : List LinkStep)
@@ -102,7 +105,7 @@ pub step_value_at : (passes : Passing) (net : Network) (sets : Sets) (pattern : 
 unfolding curve_list
 step_value_at passes net sets pattern length flows slopes labels amounts steps h e link p =
     let found = each_at (λ (numbered : ℕ × Link). link_step never length (number_at amounts numbered.0)
-        (link_phase sets pattern flows slopes labels numbered)) (enumerate_from 0 net.links) steps
+    (link_phase sets pattern flows slopes labels numbered)) (enumerate_from 0 net.links) steps
     e (0 + e, link) (curve_list_as passes net sets pattern length flows slopes labels amounts steps h) (enumerated 0 net.links e link p) in
     found.1 ∙ ap (λ (s : LinkStep). Some s) (same found.0 (step_value length (number_at amounts (0 + e)) (link_phase sets pattern flows slopes labels (0 + e, link)))
     (sym found.2 ∙ step_exact length (number_at amounts (0 + e)) (link_phase sets pattern flows slopes labels (0 + e, link))))

@@ -62,7 +62,7 @@ module _ (net : Network) (labels : List ℚ) (rate : ℚ) (flows slopes : List �
   comes_in v h (still, (e, link, p, at, f)) = ⊎_elim
       (λ (s : (eqb v net.sink ≡ true) × (v ≡ net.sink)). subst (λ (k : ℕ). 0ℚ <ℚ sum_in net.links (number_at flows) k) (sym s.1)
       (sink_some _ _ _ rate (IsThinFlow-sink net good (sets_at net labels) rate flows slopes thin) not_negative
-          (subst (λ (k : ℕ). number_at flows e ≤ℚ sum_out net.links (number_at flows) k) s.1 most) f))
+      (subst (λ (k : ℕ). number_at flows e ≤ℚ sum_out net.links (number_at flows) k) s.1 most) f))
       (λ (s : (eqb v net.sink ≡ false) × (v ≢ net.sink)). inner_some _ _ _ (thin.inner v h (moves_on v still) s.1) most f)
       (eqb_tells v net.sink)
     where

@@ -85,7 +85,7 @@ Arrives-after : (net : Network) (amount : ℕ → ℚ → ℚ) → IsNetwork net
 Arrives-after net amount good [] time arrival a = plus_zero_le time arrival a
 Arrives-after net amount good (e ∷ walk) time arrival (link, p, exit, is_exit, rest) =
     more time exit arrival link.transit _ _ (transit_of-is net e link p) (IsExit-after link.transit link.capacity (amount e) time exit
-        (IsPositive-link net e link good p) is_exit) (Arrives-after net amount good walk exit arrival rest)
+    (IsPositive-link net e link good p) is_exit) (Arrives-after net amount good walk exit arrival rest)
   where
     more : (t x a r q l : ℚ) → q ≡ r → t +ℚ r ≤ℚ x → x +ℚ l ≤ℚ a → t +ℚ (q +ℚ l) ≤ℚ a
     more t x a r q l e h k = linear_le (t ∷ x ∷ a ∷ r ∷ q ∷ l ∷ []) (eq e ∷ le h ∷ le k ∷ []) (search reading_of) tt
@@ -154,7 +154,7 @@ module _ (net : Network) (amount label : ℕ → ℚ → ℚ) (until : ℚ) (lab
       subst (λ (s : ℚ). 0ℚ ≤ℚ s) (slack-is e link n.is_link) (slack_of_active net labels e link n.is_link n.active),
       λ h. subst (λ (k : ℕ). number_at slopes link.tail ≤ℚ number_at slopes k) (sym n.head)
           (subst (λ (y : ℚ). number_at slopes link.tail ≤ℚ y) (ap (λ (b : Bool). exit_slope b link.capacity (number_at flows e)
-              (number_at slopes link.tail)) (sym (not_above e link n.is_link h)) ∙ r)
+          (number_at slopes link.tail)) (sym (not_above e link n.is_link h)) ∙ r)
           (exit_slope-tail link.capacity (number_at flows e) (number_at slopes link.tail))),
     )
 

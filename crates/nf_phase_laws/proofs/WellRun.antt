@@ -48,8 +48,16 @@ pub record WellRun (net : Network) (s : Standing) : Type 0 where
 -- The number of phases and the last pattern do not matter.
 pub WellRun-counted : (net : Network) (s : Standing) (made : ℕ) (last : Pattern) → WellRun net s → WellRun net (record s { made = made; last = last })
 WellRun-counted net s made last w =
-    record { grow = w.grow; label_count = w.label_count; link_count = w.link_count; label_slopes = w.label_slopes; inflow_rates =
-    w.inflow_rates; outflow_rates = w.outflow_rates; queue_slopes = w.queue_slopes }
+    record {
+      grow = w.grow;
+      label_count = w.label_count;
+      link_count = w.link_count;
+      label_slopes = w.label_slopes;
+      inflow_rates =
+          w.inflow_rates;
+      outflow_rates = w.outflow_rates;
+      queue_slopes = w.queue_slopes;
+    }
 
 -- ---- the start
 flat : (l : ℚ) → 0ℚ *ℚ (l -ℚ 0ℚ) ≡ 0ℚ -ℚ 0ℚ

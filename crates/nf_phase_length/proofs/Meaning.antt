@@ -33,4 +33,4 @@ unfolding extend_list
 whole_list passes net slacks slopes time least change result links same h =
     h ∙ ap (λ (c : Option ℚ). at_part Extend (until_change passes least time c)) same
     ∙ ap (λ (r : Checked (Option ℚ)). at_part Extend (r >>= λ l. until_change passes l time (next_change net time)))
-        (sym (part_ok Extend (after_all passes net slacks slopes) least links))
+    (sym (part_ok Extend (after_all passes net slacks slopes) least links))

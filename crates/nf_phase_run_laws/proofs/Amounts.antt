@@ -37,7 +37,7 @@ module _ (passes : Passing) (net : Network) (good : IsNetwork net) (s : Standing
 
     by_rate : (b : Bool) → is_positive (number_at slopes link.tail) ≡ b
         → amount_of (trace_after c.inflow (number_at step.labels link.tail) (before e +ℚ step.length *ℚ number_at flows e)
-            (rate_value b (number_at flows e) (number_at slopes link.tail)))
+        (rate_value b (number_at flows e) (number_at slopes link.tail)))
         ≡ before e +ℚ step.length *ℚ number_at flows e
     by_rate true t = with-amount _ c.inflow.points (number_at step.labels link.tail, before e +ℚ step.length *ℚ number_at flows e)
     by_rate false t =

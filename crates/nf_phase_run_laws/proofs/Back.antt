@@ -122,7 +122,7 @@ module _ (passes : Passing) (net : Network) (good : IsNetwork net) (s : Standing
   labels-same : (cuts : List (List Point)) → each (cut_short passes s.time) (flow_of s).labels ≡ Ok cuts → cuts ≡ (flow_of s).labels
   labels-same cuts e = each_same (cut_short passes s.time) (flow_of s).labels cuts (λ v points cut at f.
       let h : v < net.nodes = (let w = slice_get_within (flow_of s).labels v points at in let n = well.label_count in
-          let m = length-map s.label_curves (λ (c : GrowingCurve). c.points) in omega arith) in
+      let m = length-map s.label_curves (λ (c : GrowingCurve). c.points) in omega arith) in
       let c : (c : GrowingCurve) × (slice_get s.label_curves v ≡ Some c) = label_curve v h in
       let is : points ≡ c.0.points = same_Some points c.0.points (sym at ∙ slice_get-image (λ (c : GrowingCurve). c.points) s.label_curves v c.0 c.1) in
       cut_short-same passes points cut (s.time, label_now v) (subst (λ (l : List Point). LastPoint l (s.time, label_now v)) (sym is) (label_ends v c.0 h c.1))
@@ -151,13 +151,13 @@ module _ (passes : Passing) (net : Network) (good : IsNetwork net) (s : Standing
       let tail : value_at_end (points_at (flow_of s).labels link.tail) ≡ label_now link.tail = end-is link.tail (good.tails e link p) in
       let head : value_at_end (points_at (flow_of s).labels link.head) ≡ label_now link.head = end-is link.head (good.heads e link p) in
       let inflow : i.between ≡ c.inflow = cut_trace-same passes c.inflow i.between (label_now link.tail, sent_now e link) (inflow_ends e link c p at)
-          (short.links e c at).inflow (well.inflow_rates e c at)
+      (short.links e c at).inflow (well.inflow_rates e c at)
       (ap (λ (t : ℚ). cut_trace passes t c.inflow.points) (sym tail) ∙ i.first) in
       let outflow : o.between ≡ c.outflow = cut_trace-same passes c.outflow o.between (label_now link.head, come_now e link) (outflow_ends e link c p at)
-          (short.links e c at).outflow (well.outflow_rates e c at)
+      (short.links e c at).outflow (well.outflow_rates e c at)
       (ap (λ (t : ℚ). cut_trace passes t c.outflow.points) (sym head) ∙ o.first) in
       let queue : q.between ≡ c.queue.points = cut_short-same passes c.queue.points q.between (label_now link.tail, waits_now e link)
-          (queue_ends e link c p at) (short.links e c at).queue.short
+      (queue_ends e link c p at) (short.links e c at).queue.short
       (ap (λ (t : ℚ). cut_short passes t c.queue.points) (sym tail) ∙ q.first) in
       sym (same_Ok _ _ q.next) ∙ (λ j. record { inflow = inflow j; outflow = outflow j; queue = queue j })
 
@@ -214,7 +214,7 @@ module _ (passes : Passing) (net : Network) (good : IsNetwork net) (s : Standing
       each_are (growing passes) (flow_of s).queues curves (map queue_of s.link_curves) (many (λ c. c.queue.points) ∙ sym (many queue_of))
       (λ n points found q at there f.
       let c : (c : LinkCurves) × (slice_get s.link_curves n ≡ Some c) = entry s.link_curves n
-          (let w = slice_get_within (map queue_of s.link_curves) n q there in let m = many queue_of in let k = well.link_count in omega arith) in
+      (let w = slice_get_within (map queue_of s.link_curves) n q there in let m = many queue_of in let k = well.link_count in omega arith) in
       let queue : q ≡ c.0.queue = same_Some q c.0.queue (sym there ∙ slice_get-image queue_of s.link_curves n c.0 c.1) in
       let is : points ≡ c.0.queue.points = same_Some points c.0.queue.points (sym at ∙ slice_get-image (λ (c : LinkCurves). c.queue.points) s.link_curves n c.0 c.1) in
       growing-back passes c.0.queue found (well.queue_slopes n c.0 c.1) (short.links n c.0 c.1).queue.one (ap (growing passes) (sym is) ∙ f) ∙ sym queue) e

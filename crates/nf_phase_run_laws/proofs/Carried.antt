@@ -100,7 +100,7 @@ module _ (net : Network) (flow : Flow) (given : CanBeChecked net flow) (all : Al
   comes_after e link departure exit time out p w x l o =
       let inside : e < length net.links = slice_get_within net.links e link p in
       IsOutflow-rises link.transit (inflow flow e) (inflows_rise e inside) (all (Inflow e) inside (λ s. cc)).0 link.capacity time exit out
-          (inflow flow e (label flow link.tail departure))
+      (inflow flow e (label flow link.tail departure))
       (IsPositive-link net e link good p) l o
       (IsOutflow-at_exit link.transit link.capacity (inflow flow e) (label flow link.tail departure) exit (IsPositive-link net e link good p) (inflows_rise e inside)
       (label_nn link.tail departure (good.tails e link p) w) x)
@@ -127,7 +127,7 @@ module _ (net : Network) (flow : Flow) (given : CanBeChecked net flow) (all : Al
         let x = exit_of e link departure p w in
         subst (λ (z : ℚ). z ≤ℚ sent e) (sym (came_is e link p)) (subst (λ (z : ℚ). outflow flow e (label flow link.head departure) ≤ℚ z) (sym (sent_is e link p))
         (comes_after e link departure x.0 (label flow link.head departure) (outflow flow e (label flow link.head departure)) p w x.1
-            (leaves_late e link departure x.0 p w x.1) (outflow_right e link departure p w)))
+        (leaves_late e link departure x.0 p w x.1) (outflow_right e link departure p w)))
 
     -- at a node, by its label
     balanced : (v : ℕ) (more less : ℚ) → Balances net (inflow flow) v (label flow v departure) more less → sum_in net.links came v +ℚ more ≡ sum_out net.links sent v +ℚ less
@@ -135,7 +135,7 @@ module _ (net : Network) (flow : Flow) (given : CanBeChecked net flow) (all : Al
         ap (λ (s : ℚ). s +ℚ more) (sum_in-same net.links came b.outs v (λ e link p at. came_is e link p
         ∙ IsOutflow-unique link.transit link.capacity (inflow flow e) (label flow v departure) _ _
         (subst (λ (u : ℕ). IsOutflow link.transit link.capacity (inflow flow e) (label flow u departure) (outflow flow e (label flow link.head departure)))
-            at (outflow_right e link departure p w))
+        at (outflow_right e link departure p w))
         (b.outflows e link p at)))
         ∙ b.sums
         ∙ ap (λ (s : ℚ). s +ℚ less) (sym (sum_out-same net.links sent (λ e. inflow flow e (label flow v departure)) v

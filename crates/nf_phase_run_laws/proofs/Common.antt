@@ -50,10 +50,47 @@ pub use Rattle.nf_resume_def.specs.Meanings.{IsResumed, IsResumedReport, NonePas
 pub use Rattle.nf_resume_def.specs.Resuming.{Stands, cut_short, cut_trace, resume_list}
 pub use Rattle.nf_resume_laws.proofs.Stepping.{list-stands}
 pub use Rattle.nf_thin_def.specs.CurveList.{LinkStep, QueueStep, curve_list, is_filled, link_phase}
-pub use Rattle.nf_thin_def.specs.PhaseRun.{Bounds, Fails, Goes, IsPhaseRun, IsRunReport, IsStart, PhaseStep, Runs, Seeks, Standing, at_horizon, at_lists,
-    at_phases, at_search, at_slack, cause_of_search, fails, flow_of, goes, phase_lists, report_of, standing_after}
-pub use Rattle.nf_thin_def.specs.ReportCurves.{GrowingCurve, LinkCurves, amount_so_far, curves_after, first_curves, first_label_curve, first_queue,
-    first_trace, keeps_slope, label_curves_after, link_curves_after, queue_after, trace_after, with_point, with_rate}
+pub use Rattle.nf_thin_def.specs.PhaseRun.{
+  Bounds,
+  Fails,
+  Goes,
+  IsPhaseRun,
+  IsRunReport,
+  IsStart,
+  PhaseStep,
+  Runs,
+  Seeks,
+  Standing,
+  at_horizon,
+  at_lists,
+  at_phases,
+  at_search,
+  at_slack,
+  cause_of_search,
+  fails,
+  flow_of,
+  goes,
+  phase_lists,
+  report_of,
+  standing_after,
+}
+pub use Rattle.nf_thin_def.specs.ReportCurves.{
+  GrowingCurve,
+  LinkCurves,
+  amount_so_far,
+  curves_after,
+  first_curves,
+  first_label_curve,
+  first_queue,
+  first_trace,
+  keeps_slope,
+  label_curves_after,
+  link_curves_after,
+  queue_after,
+  trace_after,
+  with_point,
+  with_rate,
+}
 pub use Rattle.nf_thin_laws.proofs.Ending.{PhaseParts, from_map}
 pub use Rattle.nf_thin_laws.proofs.OneRun.{StepsTo, goes_knows, goes_or_fails, horizon_met, length-sets, none_made, one_made, one_phase, one_start, phases_made, same_end, start_knows}
 pub use Rattle.std.proofs.lemmas.Option.{none-some, same_Some, slice_get_within}

@@ -31,9 +31,9 @@ from_fits : (p : Point) (rest : List Point) (time : ℚ) → IsFractionPoint p �
 from_fits p [] time h k l = ok_fits AreOperands IsFraction p.1 h.1
 from_fits p (q ∷ rest) time h k l =
     either (Fits AreOperands IsFraction) (is_same time p.0) (Ok p.1) (if lt_ℚ time q.0 then checked_line passes_Q p q time else value_from passes_Q q rest
-        time) (ok_fits AreOperands IsFraction p.1 h.1)
+    time) (ok_fits AreOperands IsFraction p.1 h.1)
     (either (Fits AreOperands IsFraction) (lt_ℚ time q.0) (checked_line passes_Q p q time) (value_from passes_Q q rest time) (line_fits p q time h k.0 l)
-        (from_fits q rest time k.0 k.1 l))
+    (from_fits q rest time k.0 k.1 l))
 
 value_fits : (points : List Point) (time : ℚ) → AreFractionPoints points → IsFraction time → Fits AreOperands IsFraction (checked_value passes_Q points time)
 unfolding checked_value
@@ -63,7 +63,7 @@ turning_fractions (q ∷ rest) [] h = h
 turning_fractions (q ∷ rest) (before ∷ []) h = h
 turning_fractions (q ∷ rest) (before ∷ after ∷ slopes) h =
     either AreFractionPoints (is_same before after) (turning rest (after ∷ slopes)) (q ∷ turning rest (after ∷ slopes))
-        (turning_fractions rest (after ∷ slopes) h.1) (h.0, turning_fractions rest (after ∷ slopes) h.1)
+    (turning_fractions rest (after ∷ slopes) h.1) (h.0, turning_fractions rest (after ∷ slopes) h.1)
 
 short_fractions : (points : List Point) (slopes : List ℚ) → AreFractionPoints points → AreFractionPoints (short_points points slopes)
 short_fractions [] slopes h = tt
@@ -111,9 +111,9 @@ link_fits labels l h k =
     let head : IsFraction (value_at_end (points_at labels l.link.head)) = end_fraction labels l.link.head h in
     then_fits (cut_trace passes_Q (value_at_end (points_at labels l.link.tail)) l.inflow) _ (cut_trace_fits (value_at_end (points_at labels l.link.tail)) l.inflow tail k.inflow)
     (λ inflow m. then_fits (cut_trace passes_Q (value_at_end (points_at labels l.link.head)) l.outflow) _
-        (cut_trace_fits (value_at_end (points_at labels l.link.head)) l.outflow head k.outflow)
+    (cut_trace_fits (value_at_end (points_at labels l.link.head)) l.outflow head k.outflow)
     (λ outflow n. then_fits (cut_short passes_Q (value_at_end (points_at labels l.link.tail)) l.queue) _
-        (cut_short_fits (value_at_end (points_at labels l.link.tail)) l.queue tail k.queue)
+    (cut_short_fits (value_at_end (points_at labels l.link.tail)) l.queue tail k.queue)
     (λ queue o. ok_fits AreOperands IsFractionCut (record { inflow = inflow; outflow = outflow; queue = queue }) (record { inflow = m; outflow = n; queue = o }))))
 
 -- ---- a flow
@@ -132,7 +132,7 @@ flow_fits net flow h =
     (each_fits AreOperands AreFractionPoints AreFractionPoints (cut_short passes_Q flow.reached) (λ points k. cut_short_fits flow.reached points h.reached k) flow.labels h.labels)
     (λ labels k. then_fits (each (cut_link passes_Q labels) of_links) _
     (each_fits AreOperands IsFractionOfLink IsFractionCut (cut_link passes_Q labels) (λ l m. link_fits labels l k m) of_links
-        (with_fractions net.links flow.inflows flow.outflows flow.queues h.inflows h.outflows h.queues))
+    (with_fractions net.links flow.inflows flow.outflows flow.queues h.inflows h.outflows h.queues))
     (λ cuts l. ok_fits AreOperands IsFractionFlow (cut_flow_of passes_Q flow.reached labels cuts) (record {
       reached = h.reached;
       labels = k;

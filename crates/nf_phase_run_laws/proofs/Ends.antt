@@ -76,7 +76,7 @@ module _ (passes : Passing) (net : Network) where
         closed
     together s end t last o v n well knows e closed (goes {new = u} may g rest) x (steps {new = w} may' (begins c k) rest') y =
         let alone : Goes passes net r.horizon r.patterns s (with_made (suc s.made) w) =
-            unmade r.horizon r.patterns n s w (subst (λ (z : Standing). Goes passes net r.horizon r.patterns z w) e k) in
+        unmade r.horizon r.patterns n s w (subst (λ (z : Standing). Goes passes net r.horizon r.patterns z w) e k) in
         let same : u ≡ with_made (suc s.made) w = same_phase passes net good b r s u (with_made (suc s.made) w) well knows g alone (sym to) in
         together u end w last o v w.made (WellRun-goes passes net good b s u g well) (goes_knows passes net b.horizon b.patterns s u g) (ap (with_made w.made) (sym same))
         (inl (λ d. none_left t.made (sym (ap (λ (z : Standing). z.made) k.new_is) ∙ d.0))) rest x rest' y
@@ -92,7 +92,7 @@ module _ (passes : Passing) (net : Network) where
       not_there : standing.time ≡ r.horizon → ⊥
       not_there e = not_both_ℚ _ _ (<_≤_trans _ _ _ (sooner c.before.time c.goes.step.length c.whole.step.length c.short)
           (IsPhaseLength-within net (slacks_of (hops net) c.before.labels) c.goes.slopes c.before.time b.horizon c.whole.step.length
-              (other_length passes net good a b c.before last c.after c.well c.knows c.goes c.whole)))
+          (other_length passes net good a b c.before last c.after c.well c.knows c.goes c.whole)))
           (≤ℚ_of_same _ _ (sym (e ∙ to)))
 
       within : (final : Standing) (v : Option (Cause ℚ)) → RunsOn passes net r standing final v → v ≡ None → NonePassesNext passes net r standing → final ≡ with_made final.made end
@@ -102,7 +102,7 @@ module _ (passes : Passing) (net : Network) where
       within final v (steps may (begins d k) rest) y none = absurd (d (refl, opened passes net good a b c.before last c.after c.well c.knows c.goes c.whole c.short))
       within final v (steps may (continues {t = w} d k) rest) y none =
           together c.after end (with_last standing.last w) final None v 1 (WellRun-goes passes net good b c.before c.after c.whole c.well)
-              (goes_knows passes net b.horizon b.patterns c.before c.after c.whole)
+          (goes_knows passes net b.horizon b.patterns c.before c.after c.whole)
           (rest-whole passes net good a b c.before last c.after c.well c.knows c.goes c.whole c.short r w k (none w k) to)
           (inl (λ f. none_left 0 (sym (ap (λ (z : Standing). z.made) k.new_is) ∙ f.0))) c.runs refl rest y
 
@@ -114,7 +114,7 @@ module _ (passes : Passing) (net : Network) (good : IsNetwork net) where
   unfolding restart_list
   run-restored bounds last first stop run e =
       let w : WellRun net last × ShortRun last = stands_at passes net good bounds run.first last stop (WellRun-start net good run.first run.start)
-          (ShortRun-start net run.first run.start) run.runs in
+      (ShortRun-start net run.first run.start) run.runs in
       let k = then_ok (cut_flow passes net (flow_of last)) _ first e in
       let flow : k.between ≡ flow_of last = flow-back passes net good last w.0 w.1 k.between k.first in
       standing-back passes net good last w.0 w.1 first (ap (λ (f : Flow). restore_list passes f last.last) (sym flow) ∙ k.next)
@@ -133,7 +133,7 @@ module _ (passes : Passing) (net : Network) (good : IsNetwork net) where
     same_end old_last end first final stop o v run whole x is runs y fits =
         let start : run.first ≡ whole.first = one_start net run.first whole.first run.start whole.start in
         let inside : old_last.time ≤ℚ later.horizon = subst (λ (h : ℚ). old_last.time ≤ℚ h) to
-            (subst (λ (z : Standing). z.time ≤ℚ resumed.horizon) is (reaches resumed first final v runs y)) in
+        (subst (λ (z : Standing). z.time ≤ℚ resumed.horizon) is (reaches resumed first final v runs y)) in
         ⊎_elim
         (λ (c : Comes passes net good later old_last end).
         together passes net good later resumed to old_last end first final None v 0 c.well c.knows is
@@ -158,7 +158,7 @@ module _ (passes : Passing) (net : Network) (good : IsNetwork net) where
       let is : again.run.first ≡ with_made 0 run.last = run-restored bounds run.last again.run.first run.stop run.run (ap (restart_list passes net) (sym run.report_is) ∙ list) in
       let here : RestFits passes net resumed again.run.first = subst (λ (z : Standing). RestFits passes net resumed z) (sym is) (fits_again passes net resumed 0 run.last fits) in
       let end : again.last ≡ with_made again.last.made whole.last = same_end bounds later resumed to run.last whole.last again.run.first again.last run.stop
-          whole.stop again.stop run.run whole.run o is again.run.runs v here in
+      whole.stop again.stop run.run whole.run o is again.run.runs v here in
       again.report_is
       ∙ ap (λ (s : Standing). report_of resumed.horizon s again.stop) end
       ∙ ap (λ (h : ℚ). report_of h whole.last again.stop) to

@@ -42,7 +42,7 @@ module _ (passes : Passing) where
       ap (λ (b : Bool). if b then Ok p.1 else (if lt_ℚ (last_from q rest).0 q.0 then checked_line passes p q (last_from q rest).0 else value_from passes q rest (last_from q rest).0))
       (not_same (last_from q rest).0 p.0 (below-last p q rest r))
       ∙ ap (λ (b : Bool). if b then checked_line passes p q (last_from q rest).0 else value_from passes q rest (last_from q rest).0)
-          (test_of_not_less (last_from q rest).0 q.0 (rises-last q rest r.1))
+      (test_of_not_less (last_from q rest).0 q.0 (rises-last q rest r.1))
       ∙ value-last q rest r.1
 
   before-last : (p : Point) (rest : List Point) → TimesRise (p ∷ rest) → points_before (last_from p rest).0 (p ∷ rest) ++ last_from p rest ∷ [] ≡ p ∷ rest

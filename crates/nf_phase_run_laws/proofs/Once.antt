@@ -44,7 +44,7 @@ module _ (passes : Passing) (net : Network) (s : Standing) (knows : length s.las
       (subst (λ (base : Pattern). IsSearch passes net (sets_at net s.labels) (rate_at net s.time) base (patterns + patterns') (Found place pattern flows slopes)) bases
       (more_patterns passes net (sets_at net s.labels) (rate_at net s.time) h.search.base patterns (patterns + patterns') place pattern flows slopes (omega arith) h.search.is_search))
       (more_patterns passes net (sets_at net s.labels) (rate_at net s.time) k.search.base patterns' (patterns + patterns') place' pattern' flows' slopes'
-          (omega arith) k.search.is_search))
+      (omega arith) k.search.is_search))
 
 -- The result of a phase is determined by its length.
 same_step : (x y : PhaseStep) → x.length ≡ y.length → x.labels ≡ y.labels → x.links ≡ y.links → x ≡ y
@@ -92,7 +92,7 @@ module _ (passes : Passing) (net : Network) (good : IsNetwork net) (a b : Bounds
   pub same_end : g.step.length ≡ h.step.length → t ≡ u
   same_end e = g.new_is
       ∙ after_alike net s g.pattern h.pattern g.slopes h.slopes g.step h.step alike.pattern_is alike.slopes_are
-          (one_step passes net s g.pattern g.flows g.slopes g.step h.step first_parts other_parts e)
+      (one_step passes net s g.pattern g.flows g.slopes g.step h.step first_parts other_parts e)
       ∙ sym h.new_is
 
   pub other_length : IsPhaseLength net (slacks_of (hops net) s.labels) g.slopes s.time b.horizon h.step.length

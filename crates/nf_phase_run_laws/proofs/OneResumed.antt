@@ -67,7 +67,7 @@ one_resumed passes net bounds old phases others report other knows h k =
     let states : length k.run.first.last ≡ length net.links =
     ap length (restored_last passes net old k.run.first (list-stands passes net old k.run.first k.run.stands)) ∙ knows in
     let end = one_end passes net bounds k.run.first h.last k.last h.stop k.stop states
-        (subst (λ (s : Standing). RunsOn passes net bounds s h.last h.stop) first h.run.runs) k.run.runs in (
+    (subst (λ (s : Standing). RunsOn passes net bounds s h.last h.stop) first h.run.runs) k.run.runs in (
       sym h.made ∙ ap (λ (s : Standing). s.made) end.0 ∙ k.made,
       h.report_is ∙ ap (λ (s : Standing). report_of bounds.horizon s h.stop) end.0 ∙ ap (report_of bounds.horizon k.last) end.1 ∙ sym k.report_is,
     )

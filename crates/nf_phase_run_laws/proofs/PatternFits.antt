@@ -67,7 +67,7 @@ module _ (net : Network) (has : HasFractions net) (sets : Sets) (rate : ℚ) (is
         (flat_map (link_rows net sets pattern) (enumerate_from 0 net.links))
         (all_map AreFractions (node_row net sets rate) node_row_fractions (filter (λ v. not (v == net.sink)) (range_with_len 0 net.nodes)))
         (all_flat AreFractions (λ (numbered : ℕ × Link). IsFractionLink numbered.1) (link_rows net sets pattern) link_row_fractions
-            (enumerate_from 0 net.links) (all_numbered IsFractionLink 0 net.links has.links)),
+        (enumerate_from 0 net.links) (all_numbered IsFractionLink 0 net.links has.links)),
   )
 
   -- ---- the verdict list
@@ -108,8 +108,12 @@ module _ (net : Network) (has : HasFractions net) (sets : Sets) (rate : ℚ) (is
   after_fits (Some values) h =
       let slopes : List ℚ = slopes_in net.nodes values in
       then_fits (at_part Verdict (verdict_list passes_Q net pattern slopes)) _ (part_fits Verdict (verdict_list passes_Q net pattern slopes) (verdict_fits slopes (slopes_fit values h)))
-      (λ bounds k. ok_fits AreOperandsAt (OrNone AreSolved) (Some (record { flows = flows_in net.nodes sets.active values; slopes = slopes; bounds =
-          bounds })) (flows_fit values h, slopes_fit values h))
+      (λ bounds k. ok_fits AreOperandsAt (OrNone AreSolved) (Some (record {
+        flows = flows_in net.nodes sets.active values;
+        slopes = slopes;
+        bounds =
+            bounds;
+      })) (flows_fit values h, slopes_fit values h))
 
   pub pattern_fits : Fits AreOperandsAt (OrNone AreSolved) (pattern_lists passes_Q net sets rate pattern)
   unfolding pattern_lists

@@ -39,21 +39,21 @@ to_zero_fits : (goes : Bool) (least : Option ℚ) (slack change : ℚ) → IsFra
 to_zero_fits false least slack change h k l = ok_fits AreOperands IsFractionOrNone least h
 to_zero_fits true least slack change h k l = then_fits (checked passes_Q Difference 0ℚ slack) _ (one Difference 0ℚ slack zero_fraction k)
     (λ m n. then_fits (checked passes_Q Quotient m change) _ (one Quotient m change n l)
-        (λ length o. ok_fits AreOperands IsFractionOrNone (lesser least length) (lesser_fraction least length h o)))
+    (λ length o. ok_fits AreOperands IsFractionOrNone (lesser least length) (lesser_fraction least length h o)))
 
 after_link_fits : (zero : Bool) (least : Option ℚ) (slack tail_slope head_slope : ℚ) → IsFractionOrNone least → IsFraction slack → IsFraction tail_slope → IsFraction head_slope
     → Fits AreOperands IsFractionOrNone (after_link passes_Q zero least slack tail_slope head_slope)
 after_link_fits true least slack tail_slope head_slope h k l m = ok_fits AreOperands IsFractionOrNone least h
 after_link_fits false least slack tail_slope head_slope h k l m =
     then_fits (checked passes_Q Difference head_slope tail_slope) _ (one Difference head_slope tail_slope m l)
-        (λ change n. to_zero_fits (are_opposite slack change) least slack change h k n)
+    (λ change n. to_zero_fits (are_opposite slack change) least slack change h k n)
 
 until_fits : (least : Option ℚ) (time : ℚ) (change : Option ℚ) → IsFractionOrNone least → IsFraction time → IsFractionOrNone change
     → Fits AreOperands IsFractionOrNone (until_change passes_Q least time change)
 until_fits least time None h k l = ok_fits AreOperands IsFractionOrNone least h
 until_fits least time (Some change) h k l =
     then_fits (checked passes_Q Difference change time) _ (one Difference change time l k)
-        (λ length m. ok_fits AreOperands IsFractionOrNone (lesser least length) (lesser_fraction least length h m))
+    (λ length m. ok_fits AreOperands IsFractionOrNone (lesser least length) (lesser_fraction least length h m))
 
 module _ (net : Network) (has : HasFractions net) where
   extend_fits : (slacks slopes : List ℚ) (time : ℚ) → AreFractions slacks → AreFractions slopes → IsFraction time
@@ -62,7 +62,7 @@ module _ (net : Network) (has : HasFractions net) where
   extend_fits slacks slopes time h k l = then_fits _ _
       (fold_fits AreOperands (λ (numbered : ℕ × Link). IsFractionLink numbered.1) IsFractionOrNone (least_after passes_Q slacks slopes)
       (λ least numbered m n. after_link_fits (is_zero (number_at slacks numbered.0)) least (number_at slacks numbered.0) (number_at slopes numbered.1.tail)
-          (number_at slopes numbered.1.head) m
+      (number_at slopes numbered.1.head) m
       (number_fraction slacks numbered.0 h) (number_fraction slopes numbered.1.tail k) (number_fraction slopes numbered.1.head k))
       None (enumerate_from 0 net.links) tt (all_numbered IsFractionLink 0 net.links has.links))
       (λ least m. until_fits least time (next_change net time) m l (change_fraction net has time))
@@ -143,9 +143,9 @@ step_fits : (length so_far : ℚ) (link : LinkPhase) → IsFraction length → I
 step_fits length so_far link h k l = then_fits (checked passes_Q Product length link.flow) _ (one Product length link.flow h l.flow)
     (λ p m. then_fits (checked passes_Q Sum so_far p) _ (one Sum so_far p k m)
     (λ amount n. then_fits (rate_over passes_Q (is_positive link.tail_slope) link.flow link.tail_slope) _
-        (rate_fits (is_positive link.tail_slope) link.flow link.tail_slope l.flow l.tail_slope)
+    (rate_fits (is_positive link.tail_slope) link.flow link.tail_slope l.flow l.tail_slope)
     (λ inflow_rate o. then_fits (rate_over passes_Q (is_positive link.head_slope) link.flow link.head_slope) _
-        (rate_fits (is_positive link.head_slope) link.flow link.head_slope l.flow l.head_slope)
+    (rate_fits (is_positive link.head_slope) link.flow link.head_slope l.flow l.head_slope)
     (λ outflow_rate q. then_fits (queue_step passes_Q link inflow_rate) _ (queue_fits link inflow_rate l o)
     (λ queue r. ok_fits AreOperands IsFractionStep (record { amount = amount; inflow_rate = inflow_rate; outflow_rate = outflow_rate; queue = queue })
     (record { amount = n; inflow_rate = o; outflow_rate = q; queue = r }))))))
@@ -187,7 +187,7 @@ module _ (net : Network) (has : HasFractions net) where
   phase_fits horizon s pattern flows slopes h t l k a f p =
       let slacks : List ℚ = slacks_of (hops net) s.labels in
       then_fits (at_part Extend (extend_list passes_Q net slacks slopes s.time)) _
-          (part_fits Extend (extend_list passes_Q net slacks slopes s.time) (extend_fits net has slacks slopes s.time k p t))
+      (part_fits Extend (extend_list passes_Q net slacks slopes s.time) (extend_fits net has slacks slopes s.time k p t))
       (λ extension m. then_fits (at_part Advance (advance_list passes_Q horizon s.time extension s.labels slopes)) _
       (part_fits Advance (advance_list passes_Q horizon s.time extension s.labels slopes) (advance_fits net has horizon s.time extension s.labels slopes h t m l p))
       (λ advanced n. (let amounts : List ℚ = map amount_so_far s.link_curves in

@@ -92,7 +92,7 @@ module _ (net : Network) (horizon time time' : ℚ) (labels labels' : List ℚ) 
     labels_go = λ v h. GoesOnTo-appended (c.label_curves v) (time, label_at v) _ (c.curves_stand.labels_end v h) (later_by time phase.length some);
     inflows_go = λ e link p s. subst (λ (o : Option Link). GoesOnTo (c.inflows e) (new_inflow e o) (label_at link.tail, at c.inflows e (label_at link.tail)) (end_of e link)) (sym p)
         (subst (λ (b : Bool). GoesOnTo (c.inflows e) (with_end b e link) (label_at link.tail, at c.inflows e (label_at link.tail)) (end_of e link))
-            (sym (test_of_less 0ℚ (slope link.tail) s))
+        (sym (test_of_less 0ℚ (slope link.tail) s))
         (GoesOnTo-appended (c.inflows e) _ (end_of e link) (c.curves_stand.inflows_end e link p) (later_by (label_at link.tail) _ (ps_times _ _ s some))));
     inflows_stay = λ e link p z. subst (λ (o : Option Link). new_inflow e o ≡ c.inflows e) (sym p) (ap (λ (b : Bool). with_end b e link) (not_above (slope link.tail) z));
   }

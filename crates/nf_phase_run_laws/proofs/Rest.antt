@@ -198,7 +198,7 @@ module _ (passes : Passing) (net : Network) (good : IsNetwork net) (a b : Bounds
     lengths = ⊎_elim
         (λ (v : (x : ℚ) × IsExtension net slacks slopes s.time x × (h.step.length ≡ min_ℚ (b.horizon -ℚ s.time) x)).
         ap (λ (z : ℚ). done +ℚ z) (IsPhaseLength-unique net (slacks_of (hops net) restored.labels) slopes restored.time b.horizon k.step.length
-            (min_ℚ (b.horizon -ℚ restored.time) (v.0 -ℚ done)) left
+        (min_ℚ (b.horizon -ℚ restored.time) (v.0 -ℚ done)) left
         (inl (
           v.0 -ℚ done,
           IsExtension-left net good s.labels slopes s.time done pattern listed.states count not_negative restored first.labels refl refl v.0 opened
@@ -208,8 +208,11 @@ module _ (passes : Passing) (net : Network) (good : IsNetwork net) (a b : Bounds
         ∙ min-left b.horizon s.time done v.0 ∙ sym v.2)
         (λ (v : IsUnending net slacks slopes s.time × (h.step.length ≡ b.horizon -ℚ s.time)).
         ap (λ (z : ℚ). done +ℚ z) (IsPhaseLength-unique net (slacks_of (hops net) restored.labels) slopes restored.time b.horizon k.step.length (b.horizon -ℚ restored.time) left
-        (inr ((λ more nn. Lasts-left net good s.labels slopes s.time done pattern listed.states count not_negative restored first.labels refl refl more nn
-            (v.0 (done +ℚ more) (nn_plus done more not_negative nn))), refl)))
+        (inr (
+          (λ more nn. Lasts-left net good s.labels slopes s.time done pattern listed.states count not_negative restored first.labels refl refl more nn
+              (v.0 (done +ℚ more) (nn_plus done more not_negative nn))),
+          refl,
+        )))
         ∙ all_left done b.horizon s.time ∙ sym v.1)
         long
       where
@@ -249,7 +252,7 @@ module _ (passes : Passing) (net : Network) (good : IsNetwork net) (a b : Bounds
         ap (λ (x : Option (Option State)). is_filled (unwrap_or x None) (resets (sets_at net s.labels) e)) o.1
         ∙ filled-same (resets (sets_at net s.labels) e) (resets (sets_at net restored.labels) e) o.0 v.0
         (goes-on net good s.labels restored.labels slopes flows (rate_at net s.time) done pattern base some moves below above listed solution base_count
-            same_count based e link p o.0 v.0 o.1 v.1)
+        same_count based e link p o.0 v.0 o.1 v.1)
         ∙ sym (ap (λ (x : Option (Option State)). is_filled (unwrap_or x None) (resets (sets_at net restored.labels) e)) v.1)
 
     still : (e : ℕ) (link : Link) → IsLink net e link → number_at slopes link.tail ≡ 0ℚ → number_at flows e ≡ 0ℚ

@@ -20,11 +20,17 @@ module _ (passes : Passing) (net : Network) (good : IsNetwork net) (old : Report
   unfolding resume_list
   equilibrium =
       let a = then_ok (check_list passes net old.flow) _ (Stands s) stands in
-      let given : CanBeChecked net old.flow = record { network = good; shape = formed.shape; inflow_rates = formed.inflow_rates; outflow_rates =
-          formed.outflow_rates; reached = formed.reached } in
+      let given : CanBeChecked net old.flow = record {
+        network = good;
+        shape = formed.shape;
+        inflow_rates = formed.inflow_rates;
+        outflow_rates =
+            formed.outflow_rates;
+        reached = formed.reached;
+      } in
       Equilibrium-holding net old.flow given
       (check_list-checks passes net old.flow given Yes (subst (λ (answer : Answer ℕ ℕ ℚ). check_list passes net old.flow ≡ Ok answer)
-          (answer_was passes net old a.between s a.next) a.first))
+      (answer_was passes net old a.between s a.next) a.first))
 
   pub restarts : restart_list passes net old ≡ Ok s
   restarts = list-stands passes net old s stands

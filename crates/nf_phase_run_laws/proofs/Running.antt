@@ -173,8 +173,13 @@ module _ (n : Named) (named : IsNamed n) (bounds : Bounds) (within : AreReadable
     found place pattern flows slopes seeks =
         let search = seeks.search.is_search in
         let listed : IsListedIn net (sets_at net s.labels) pattern = search.is_listing.listed place pattern search.answers.has_place in
-        let is_in : IsPatternIn net (sets_at net s.labels) pattern = record { network = named.network; sets_are = AreSets-sets_at net s.labels; bounded =
-            bounded; pattern_is = listed.states } in
+        let is_in : IsPatternIn net (sets_at net s.labels) pattern = record {
+          network = named.network;
+          sets_are = AreSets-sets_at net s.labels;
+          bounded =
+              bounded;
+          pattern_is = listed.states;
+        } in
         solution_fractions net has (sets_at net s.labels) (rate_at net s.time) rate pattern flows slopes is_in search.answers.solution search.answers.accepted.none_passes
 
     lists_fit : (place : ℕ) (pattern : Pattern) (flows slopes : List ℚ) → Seeks passes_Q net bounds.horizon bounds.patterns s (Found place pattern flows slopes)

@@ -92,7 +92,7 @@ module _ (net : Network) (good : IsNetwork net) where
     next_phase time labels c before =
         let thin : HasThinFlow net time labels = thin_there net time labels good c in
         let long : (length : ℚ) × IsPhaseLength net (slacks_of (hops net) labels) thin.1 time horizon length =
-            some_length net (slacks_of (hops net) labels) thin.1 time horizon good.pieces in (
+        some_length net (slacks_of (hops net) labels) thin.1 time horizon good.pieces in (
           (time +ℚ long.0, moved labels thin.1 long.0),
           record { before = before; flows = thin.0; slopes = thin.1; thin = thin.2; length = long.0; is_length = long.1; time = refl; labels = refl },
           within time long.0 (slacks_of (hops net) labels) thin.1 long.1,
@@ -110,6 +110,9 @@ module _ (net : Network) (good : IsNetwork net) where
 pub sequences_go_on : PhaseSequencesGoOn
 sequences_go_on net horizon many good h =
     let labels : List ℚ = start_labels net good in
-    let g : GoesFrom net good horizon many (0ℚ, labels) = goes_on net good horizon many 0ℚ labels (HasCome-start net labels good (are_start net good)) h in
-    ((0ℚ, labels) ∷ g.0, (refl, are_start net good, g.1), ⊎_elim (λ (e : length g.0 ≡ many). inl (ap suc e))
-        (λ (w : (suc (length g.0) ≤ many) × ComesTo horizon ((0ℚ, labels) ∷ g.0)). inr w) g.2)
+    let g : GoesFrom net good horizon many (0ℚ, labels) = goes_on net good horizon many 0ℚ labels (HasCome-start net labels good (are_start net good)) h in (
+      (0ℚ, labels) ∷ g.0,
+      (refl, are_start net good, g.1),
+      ⊎_elim (λ (e : length g.0 ≡ many). inl (ap suc e))
+          (λ (w : (suc (length g.0) ≤ many) × ComesTo horizon ((0ℚ, labels) ∷ g.0)). inr w) g.2,
+    )

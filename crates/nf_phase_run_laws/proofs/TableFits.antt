@@ -40,7 +40,7 @@ cleared_fits column pivot_row row h k = then_fits (checked passes_Q Quotient (nu
     (λ f l. then_fits (entries_less passes_Q f (drop (suc column) pivot_row) (drop (suc column) row)) _
     (entries_fit f (drop (suc column) pivot_row) (drop (suc column) row) l (all_drop IsFraction (suc column) pivot_row h) (all_drop IsFraction (suc column) row k))
     (λ later m. ok_fits AreOperands AreFractions (take column row ++ 0ℚ ∷ later)
-        (every_append IsFraction (take column row) (0ℚ ∷ later) (all_take IsFraction column row k) (zero_fraction, m))))
+    (every_append IsFraction (take column row) (0ℚ ∷ later) (all_take IsFraction column row k) (zero_fraction, m))))
 
 unless_fits : (stays : Bool) (column : ℕ) (pivot_row row : Row) → AreFractions pivot_row → AreFractions row
     → Fits AreOperands AreFractions (clear_unless passes_Q stays column pivot_row row)
@@ -82,11 +82,11 @@ solution_fits rows column (pivot ∷ pivots) h =
     (one Quotient (number_at (row_at rows pivot) (length rows)) (number_at (row_at rows pivot) column)
     (number_fraction (row_at rows pivot) (length rows) pivot_row) (number_fraction (row_at rows pivot) column pivot_row))
     (λ x first. then_fits (solution_from passes_Q rows (suc column) pivots) _ (solution_fits rows (suc column) pivots h)
-        (λ xs others. ok_fits AreOperands AreFractions (x ∷ xs) (first, others)))
+    (λ xs others. ok_fits AreOperands AreFractions (x ∷ xs) (first, others)))
 
 pub table_fits : (rows : List Row) → AreFractionRows rows → Fits AreOperands (OrNone AreFractions) (table_list passes_Q rows)
 unfolding table_list
 table_fits rows h = then_fits (eliminate_from passes_Q (length rows) 0 (record { rows = rows; pivots = [] })) _ (columns_fit (length rows) 0 (record { rows = rows; pivots = [] }) h)
     (λ done k. if_some_fits HasRows AreFractions (solution_of passes_Q)
     (λ done l. then_fits (solution_from passes_Q done.rows 0 done.pivots) _ (solution_fits done.rows 0 done.pivots l)
-        (λ xs m. ok_fits AreOperands (OrNone AreFractions) (Some xs) m)) done k)
+    (λ xs m. ok_fits AreOperands (OrNone AreFractions) (Some xs) m)) done k)

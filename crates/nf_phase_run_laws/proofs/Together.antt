@@ -95,7 +95,7 @@ module _ (passes : Passing) (net : Network) (good : IsNetwork net) where
       shorter : g.step.length <ℚ h.step.length → Meets
       shorter k =
           let at : t.time ≡ a.horizon = time_is ∙ ends_there s.time a.horizon g.step.length
-              (cut-ends net slacks g.slopes s.time a.horizon b.horizon g.step.length h.step.length g.is_length long k) in
+          (cut-ends net slacks g.slopes s.time a.horizon b.horizon g.step.length h.step.length g.is_length long k) in
           let same : t ≡ last = ended a t last stop rest at in
           inr (by_last last same)
         where
@@ -105,9 +105,9 @@ module _ (passes : Passing) (net : Network) (good : IsNetwork net) where
       not_longer : h.step.length <ℚ g.step.length → ⊥
       not_longer k =
           let at : s.time +ℚ h.step.length ≡ b.horizon = ends_there s.time b.horizon h.step.length
-              (cut-ends net slacks g.slopes s.time b.horizon a.horizon h.step.length g.step.length long g.is_length k) in
+          (cut-ends net slacks g.slopes s.time b.horizon a.horizon h.step.length g.step.length long g.is_length k) in
           let beyond : b.horizon <ℚ t.time = subst (λ (x : ℚ). x <ℚ t.time) at
-              (subst (λ (x : ℚ). s.time +ℚ h.step.length <ℚ x) (sym time_is) (longer_ends s.time h.step.length g.step.length k)) in
+          (subst (λ (x : ℚ). s.time +ℚ h.step.length <ℚ x) (sym time_is) (longer_ends s.time h.step.length g.step.length k)) in
           not_both_ℚ _ _ beyond (≤ℚ_trans _ _ _ (rises-runs a t last stop rest (WellRun-goes passes net good a s t g well)) within)
 
       closed_after : g.step.length ≡ h.step.length → Closed b t
@@ -151,7 +151,7 @@ module _ (passes : Passing) (net : Network) (good : IsNetwork net) where
       (λ (l : g.step.length ≤ℚ h.step.length).
       let e : g.step.length ≡ h.step.length = ≤ℚ_antisymm _ _ l k in
       meets a b t last end stop o within (WellRun-goes passes net good a s t g well) (goes_knows passes net a.horizon a.patterns s t g)
-          (closed_after a b last end within s t u stop well knows g h rest others e) rest
+      (closed_after a b last end within s t u stop well knows g h rest others e) rest
       (subst (λ (x : Standing). Runs passes net b x end o) (sym (same_end passes net good a b s t u well knows g h e)) rest') f)
       (lt_or_le_ℚ h.step.length g.step.length))
       (lt_or_le_ℚ g.step.length h.step.length)

@@ -24,8 +24,13 @@ two_links = record {
   source = 0;
   sink = 1;
   links =
-      record { tail = 0; head = 1; transit = whole (pos 1); capacity = Some (whole (pos 1)) } ∷ record { tail = 0; head = 1; transit =
-      whole (pos 3); capacity = Some (whole (pos 1)) } ∷ [];
+      record { tail = 0; head = 1; transit = whole (pos 1); capacity = Some (whole (pos 1)) } ∷ record {
+        tail = 0;
+        head = 1;
+        transit =
+            whole (pos 3);
+        capacity = Some (whole (pos 1));
+      } ∷ [];
   pieces = [];
 }
 
@@ -49,8 +54,11 @@ unfolding seen parts never two_links quickest_list finish_list push_list time_li
 six = refl
 
 -- With the first walk alone the time would be 7, and the next walk has length 3.
-too_few : quickest_list never two_links (whole (pos 6)) 1 ≡ Ok (Budget (record { walk =
-    record { steps = record { link = 0; forward = true } ∷ []; length = whole (pos 1); room = whole (pos 1) }; amount = whole (pos 1) } ∷ []))
+too_few : quickest_list never two_links (whole (pos 6)) 1 ≡ Ok (Budget (record {
+  walk =
+      record { steps = record { link = 0; forward = true } ∷ []; length = whole (pos 1); room = whole (pos 1) };
+  amount = whole (pos 1);
+} ∷ []))
 unfolding never two_links quickest_list finish_list push_list time_list node_times_list value_list distances_list shortest_list reaches_list round_list
     checked whole ratio gcd neg_ℚ inv_ℚ ◌+ℚ◌ ◌-ℚ◌ ◌*ℚ◌ ◌/ℚ◌ le_ℚ lt_ℚ min_ℚ
 too_few = refl

@@ -152,7 +152,7 @@ module _ (net : Network) (flows : List ℚ) (from to : ℕ) (all : List Step) (c
       (λ (e : a.step.forward ≡ step.forward → ⊥).
       let turn : (s.0 ≡ w) × (s.2.0 ≡ v) = Leads-turn net flows flows a.step step s.0 s.2.0 v w s.2.1 l a.link e in
       no_return front (step ∷ (a.before ++ a.step ∷ [])) a.after v (omega arith)
-          (whole a ∙ ap (λ (k : List Step). front ++ step ∷ k) (sym (append_assoc a.before (a.step ∷ []) a.after))) p
+      (whole a ∙ ap (λ (k : List Step). front ++ step ∷ k) (sym (append_assoc a.before (a.step ∷ []) a.after))) p
       (w, l, subst (λ (k : ℕ). IsResidualWalk net flows (a.before ++ a.step ∷ []) w k) turn.1 (front_on a.before a.step w s.0 s.2.0 s.1 s.2.1))
       (subst (λ (k : ℕ). IsResidualWalk net flows a.after k to) turn.1 s.2.2))
       (same_ways a.step.forward step.forward)

@@ -9,7 +9,7 @@ use Rattle.nf_quick_laws.proofs.Amounts.{link_bound}
 -- link by link
 pub across-le : (links : List Link) (f g : ℕ → ℕ → ℚ) (cut : List ℚ)
     → ((e : ℕ) (link : Link) → slice_get links e ≡ Some link → f e link.head -ℚ g e link.tail ≤ℚ let_through link.capacity link.transit
-        (number_at cut link.tail) (number_at cut link.head))
+    (number_at cut link.tail) (number_at cut link.head))
     → across links f g ≤ℚ cut_sum links cut
 across-le [] f g cut h = ≤ℚ_refl 0ℚ
 across-le (link ∷ links) f g cut h = sum_le _ _ _ _ (h 0 link refl) (across-le links (λ e. f (suc e)) (λ e. g (suc e)) cut (λ e l p. h (suc e) l p))
@@ -33,9 +33,9 @@ module _ (net : Network) (entered left : ℕ → ℚ → ℚ) (time : ℚ) (cut 
       let begins : number_at cut net.source ≤ℚ 0ℚ = ≤ℚ_of_same _ _ is_cut.source in
       both_none _ _
       (sum_in-same net.links (λ e. out_at e net.source) (λ _. 0ℚ) net.source
-          (λ e link p _. (feasible.amounts_left e (within e link p)).before (number_at cut net.source) begins) ∙ sum_in-none net.links net.source)
+      (λ e link p _. (feasible.amounts_left e (within e link p)).before (number_at cut net.source) begins) ∙ sum_in-none net.links net.source)
       (sum_out-same net.links (λ e. in_at e net.source) (λ _. 0ℚ) net.source
-          (λ e link p _. (feasible.amounts_entered e (within e link p)).before (number_at cut net.source) begins) ∙ sum_out-none net.links net.source)
+      (λ e link p _. (feasible.amounts_entered e (within e link p)).before (number_at cut net.source) begins) ∙ sum_out-none net.links net.source)
 
   at_node : (v : ℕ) → v < net.nodes → 0ℚ ≤ℚ in_less_out net.links out_at in_at v
   at_node v h = ⊎_elim

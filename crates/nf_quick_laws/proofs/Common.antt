@@ -9,10 +9,36 @@ pub use Rattle.nf_model.specs.Quickest.{Delivers, Fed, IsAmount, IsCut, IsFeasib
 pub use Rattle.nf_model.specs.Walk.{Hop, IsWalk, transit_of, transit_sum}
 pub use Rattle.nf_model_laws.proofs.Affine.{IsAffine-plus, le_from_times, nn-quotient, quotient-times}
 pub use Rattle.nf_model_laws.proofs.Networks.{hop_at, link_at, transit_of-is}
-pub use Rattle.nf_model_laws.proofs.Potential.{EndsBelow, carried, carried-is, only_at, only_at-else, only_at-here, out_less_in, sum_to, sum_to-nn,
-    sum_to-only, sum_to-plus, sum_to-same, sum_to-zero}
-pub use Rattle.nf_model_laws.proofs.Sums.{HasIn, HasOut, sum_in-each, sum_in-line, sum_in-none, sum_in-same, sum_in-some, sum_out-each, sum_out-line,
-    sum_out-nn, sum_out-none, sum_out-same, sum_out-some}
+pub use Rattle.nf_model_laws.proofs.Potential.{
+  EndsBelow,
+  carried,
+  carried-is,
+  only_at,
+  only_at-else,
+  only_at-here,
+  out_less_in,
+  sum_to,
+  sum_to-nn,
+  sum_to-only,
+  sum_to-plus,
+  sum_to-same,
+  sum_to-zero,
+}
+pub use Rattle.nf_model_laws.proofs.Sums.{
+  HasIn,
+  HasOut,
+  sum_in-each,
+  sum_in-line,
+  sum_in-none,
+  sum_in-same,
+  sum_in-some,
+  sum_out-each,
+  sum_out-line,
+  sum_out-nn,
+  sum_out-none,
+  sum_out-same,
+  sum_out-some,
+}
 pub use Rattle.nf_model_laws.proofs.Ways.{distinct_more, distinct_none, few_below, way_back}
 pub use Rattle.nf_quick_def.specs.Answers.{AreLeastLengths, IsFedWithin, IsQuickFlow, IsRoom, IsShortest, IsShortestWalk}
 pub use Rattle.nf_quick_def.specs.Cuts.{node_times_list, value_list}
@@ -32,9 +58,31 @@ pub use Rattle.nf_rational.specs.Order.{le_ℚ, lt_ℚ, max_ℚ, min_ℚ, ◌<�
 pub use Rattle.nf_rational.specs.Rational.{ℚ}
 pub use Rattle.nf_rational_laws.proofs.Chains.{<_≤_trans, <ℚ_trans, ≤ℚ_refl, ≤ℚ_trans}
 pub use Rattle.nf_rational_laws.proofs.Extremes.{max_keeps, max_left, max_right, min_is_left, min_is_right, min_keeps, min_left, min_right}
-pub use Rattle.nf_rational_laws.proofs.Facts.{both_are_zero, first_and_zero, gap_np, less_le, moved_by_zero, plus_zero, plus_zero_le, plus_zero_times,
-    same_differences, same_sums, same_terms, second_is_zero, sum_le, sum_of_sum, term_and_zero, term_of_zero, times_le, times_second_zero, without_zero,
-    zero_not_above, zero_of_times_zero, zero_of_zero_times, zero_plus}
+pub use Rattle.nf_rational_laws.proofs.Facts.{
+  both_are_zero,
+  first_and_zero,
+  gap_np,
+  less_le,
+  moved_by_zero,
+  plus_zero,
+  plus_zero_le,
+  plus_zero_times,
+  same_differences,
+  same_sums,
+  same_terms,
+  second_is_zero,
+  sum_le,
+  sum_of_sum,
+  term_and_zero,
+  term_of_zero,
+  times_le,
+  times_second_zero,
+  without_zero,
+  zero_not_above,
+  zero_of_times_zero,
+  zero_of_zero_times,
+  zero_plus,
+}
 pub use Rattle.nf_rational_laws.proofs.Linear.{eq, eq_times, le, le_times, linear_eq, linear_false, linear_le, linear_lt, lt}
 pub use Rattle.nf_rational_laws.proofs.Order.{less_nn, less_ps, lt_or_le_ℚ, nn_plus, nn_times, nn_whole, not_both_ℚ, ps_times, ps_whole, ≤ℚ_antisymm, ≤ℚ_of_lt, ≤ℚ_of_same}
 pub use Rattle.nf_rational_laws.proofs.Polynomial.{reading_of}

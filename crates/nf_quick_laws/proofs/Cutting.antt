@@ -131,7 +131,7 @@ module _ (net : Network) (flows : List ℚ) (u w : ℕ) (good : IsNetwork net) w
     no_longer : (walk : List Step) (c : HasClosed net flows u w walk) → walk_length net (c.front ++ c.rest) ≤ℚ walk_length net walk
     no_longer walk c = without_less (walk_length net c.front) (walk_length net c.mid) (walk_length net c.rest) _ _ (closed c.mid c.at c.round)
         (ap (λ (k : List Step). walk_length net k) c.split ∙ walk_length-append net c.front (c.mid ++ c.rest)
-            ∙ ap (λ (x : ℚ). walk_length net c.front +ℚ x) (walk_length-append net c.mid c.rest))
+        ∙ ap (λ (x : ℚ). walk_length net c.front +ℚ x) (walk_length-append net c.mid c.rest))
         (walk_length-append net c.front c.rest)
 
     as_it_is : (walk : List Step) → IsResidualWalk net flows walk u w → length walk < net.nodes → (short : List Step) × IsCutTo walk short

@@ -87,7 +87,7 @@ module _ (net : Network) (flows : List ℚ) (good : IsNetwork net) where
         kept = all.kept;
         offers = λ step v w b l p. subst (λ (r : Reach). AtMostAt next w r) (extended-is net b step l.link l.is_link)
             (subst (λ (k : ℕ). AtMostAt next k (extended b step l.link)) l.ends
-                (all.offers step l.link b (in_links step l.link l.is_link) l.goes (ap (λ (k : ℕ). known_at before k) l.begins ∙ p)));
+            (all.offers step l.link b (in_links step l.link l.is_link) l.goes (ap (λ (k : ℕ). known_at before k) l.begins ∙ p)));
         from = λ u q p. ⊎_elim
             (λ (old : known_at before u ≡ Some q). inl old)
             (λ (new : (step : Step) × (link : Link) × (b : Reach) × IsIn (step, link) (steps_from 0 net.links) × (can_go step.forward link.capacity (number_at flows step.link) ≡ true)
@@ -166,7 +166,7 @@ module _ (net : Network) (flows : List ℚ) (from : ℕ) (good : IsNetwork net) 
         (λ (old : known_at before v ≡ Some q). b.valid v q old)
         (λ (new : (step : Step) × (u : ℕ) × (a : Reach) × Leads net flows step u v × (known_at before u ≡ Some a) × (q ≡ longer net a step)).
         subst (λ (x : Reach). IsResidualWalk net flows x.steps from v × (x.distance ≡ walk_length net x.steps)) (sym new.5)
-            (longer_valid new.0 new.1 v new.2 new.3 (b.valid new.1 new.2 new.4)))
+        (longer_valid new.0 new.1 v new.2 new.3 (b.valid new.1 new.2 new.4)))
         (r.from v q p);
     best = λ walk v p h. by_last walk v p h (last_step walk);
   }

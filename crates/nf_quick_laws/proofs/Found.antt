@@ -41,7 +41,7 @@ module _ (net : Network) (flows : List ℚ) (from : ℕ) (good : IsNetwork net) 
   unfolding reaches_list
   IsFoundAt-list passes known e v =
       let b : HasBest net flows from (net.nodes - 1 + 0) known = HasBest-rounds net flows from good inside passes (net.nodes - 1) 0
-          (first_known net.nodes from) known (HasBest-first net flows from good inside) e in
+      (first_known net.nodes from) known (HasBest-first net flows from good inside) e in
       found_at (net.nodes - 1 + 0) known b (omega arith) v (known_at known v) refl
 
   pub reaches-count : (passes : Passing) (known : Known) → reaches_list passes net flows from ≡ Ok known → length known ≡ net.nodes
@@ -55,9 +55,11 @@ abbrev pub Succeeds : {A : Type 0} → Checked A → Type 0
 Succeeds {A} w = (a : A) × (w ≡ Ok a)
 
 along-given : (goes : Bool) (before : Option Reach) (step : Step) (transit : ℚ) (end : ℕ) (so_far : Known) → Succeeds (along never goes before step transit end so_far)
-along-given true (Some b) step transit end so_far =
-    (_, ap (λ (w : Checked ℚ). ◌>>=◌ w (λ z. Ok (offered so_far end (record { distance = z; steps = b.steps ++ step ∷ [] }))))
-    (checked-never (op_of step.forward) b.distance transit))
+along-given true (Some b) step transit end so_far = (
+  _,
+  ap (λ (w : Checked ℚ). ◌>>=◌ w (λ z. Ok (offered so_far end (record { distance = z; steps = b.steps ++ step ∷ [] }))))
+      (checked-never (op_of step.forward) b.distance transit),
+)
 along-given true None step transit end so_far = (so_far, refl)
 along-given false before step transit end so_far = (so_far, refl)
 

@@ -56,7 +56,7 @@ module _ (passes : Passing) (net : Network) (flows : List ℚ) (good : IsNetwork
   unfolding distances_list
   AreLeastLengths-list from inside distances e =
       let w : (known : Known) × (reaches_list passes net flows from ≡ Ok known)
-          × (◌≡◌ {A = Checked (List (Option ℚ))} (Ok (map (option_map (λ (r : Reach). r.distance)) known)) (Ok distances)) =
+      × (◌≡◌ {A = Checked (List (Option ℚ))} (Ok (map (option_map (λ (r : Reach). r.distance)) known)) (Ok distances)) =
       bind-ok (reaches_list passes net flows from) (λ known. Ok (map (option_map (λ (r : Reach). r.distance)) known)) distances e in
       let found : (v : ℕ) → IsFoundAt net flows from v (known_at w.0 v) = IsFoundAt-list net flows from good inside closed passes w.0 w.1 in
       subst (λ (x : List (Option ℚ)). AreLeastLengths net flows from x) (same_Ok _ distances w.2) (record {

@@ -108,7 +108,7 @@ module _ (net : Network) (flows new : List ℚ) (walk : List Step) (amount : ℚ
   at_least e = ⊎_elim
       (λ (z : crossed walk e ≡ 0ℚ). same_nn _ _ (sound.flow.at_least e) (moved_by_zero _ _ _ amount z (pushed.flow e)))
       (λ (t : Taken e). new_nn t.step.forward t.holds.0.leads.link.capacity (number_at flows e) (number_at new e) (crossed walk e) amount
-          (sound.flow.at_least e) some t.once (pushed.flow e) (taken_room e t))
+      (sound.flow.at_least e) some t.once (pushed.flow e) (taken_room e t))
       (taken_or_not e)
 
   at_most : (e : ℕ) (link : Link) (capacity : ℚ) → IsLink net e link → link.capacity ≡ Some capacity → number_at new e ≤ℚ capacity
@@ -116,7 +116,7 @@ module _ (net : Network) (flows new : List ℚ) (walk : List Step) (amount : ℚ
       (λ (z : crossed walk e ≡ 0ℚ). same_within _ _ capacity (sound.flow.at_most e link capacity p c) (moved_by_zero _ _ _ amount z (pushed.flow e)))
       (λ (t : Taken e). new_within t.step.forward t.holds.0.leads.link.capacity (number_at flows e) (number_at new e) (crossed walk e) amount capacity
       (ap (λ (l : Link). l.capacity) (same_link e t.holds.0.leads.link link (taken_link e t) p) ∙ c) (sound.flow.at_most e link capacity p c) some t.once
-          (pushed.flow e) (taken_room e t))
+      (pushed.flow e) (taken_room e t))
       (taken_or_not e)
 
   -- ---- sums at the nodes
@@ -251,12 +251,12 @@ module _ (net : Network) (flows new : List ℚ) (walk : List Step) (amount : ℚ
   into_source : (e : ℕ) (link : Link) → IsLink net e link → link.head ≡ net.source → number_at new e ≡ 0ℚ
   into_source e link p h = let z = sound.into_source e link p h in not_taken e z (λ t. t.holds.0.end_other
       (sym t.holds.0.leads.ends ∙ ap (λ (d : Bool). end_of d t.holds.0.leads.link) (only_along e t z)
-          ∙ ap (λ (l : Link). l.head) (same_link e t.holds.0.leads.link link (taken_link e t) p) ∙ h))
+      ∙ ap (λ (l : Link). l.head) (same_link e t.holds.0.leads.link link (taken_link e t) p) ∙ h))
 
   out_of_sink : (e : ℕ) (link : Link) → IsLink net e link → link.tail ≡ net.sink → number_at new e ≡ 0ℚ
   out_of_sink e link p h = let z = sound.out_of_sink e link p h in not_taken e z (λ t. t.holds.0.begin_other
       (sym t.holds.0.leads.begins ∙ ap (λ (d : Bool). begin_of d t.holds.0.leads.link) (only_along e t z)
-          ∙ ap (λ (l : Link). l.tail) (same_link e t.holds.0.leads.link link (taken_link e t) p) ∙ h))
+      ∙ ap (λ (l : Link). l.tail) (same_link e t.holds.0.leads.link link (taken_link e t) p) ∙ h))
 
   pub IsSound-pushed : IsSound net new
   IsSound-pushed = record {

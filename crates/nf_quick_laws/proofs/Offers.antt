@@ -118,10 +118,10 @@ module _ (passes : Passing) (flows : List ℚ) (before : Known) where
       → can_go step.forward link.capacity (number_at flows step.link) ≡ true
       → known_at before (begin_of step.forward link) ≡ Some b → checked passes (op_of step.forward) b.distance link.transit ≡ Ok z
       → ◌≡◌ {A = Checked Known} (Ok (offered so_far (end_of step.forward link) (record { distance = z; steps = b.steps ++ step ∷ [] }))) (Ok next)
-          → StepDone flows before step link so_far next
+      → StepDone flows before step link so_far next
   done step link so_far next b z h g p c e = subst (λ (k : Known). StepDone flows before step link so_far k)
       (ap (λ (r : Reach). offered so_far (end_of step.forward link) r) (same_reach _ _ _
-          (sym (checked-is passes (op_of step.forward) b.distance link.transit z c))) ∙ same_Ok _ next e) (record {
+      (sym (checked-is passes (op_of step.forward) b.distance link.transit z c))) ∙ same_Ok _ next e) (record {
         count = length-set so_far (end_of step.forward link) _;
         kept = λ u s a. offered-kept so_far (end_of step.forward link) (extended b step link) u s h a;
         offers = λ other _ q. subst (λ (r : Reach). AtMostAt (offered so_far (end_of step.forward link) (extended b step link)) (end_of step.forward link) (extended r step link))
@@ -134,13 +134,13 @@ module _ (passes : Passing) (flows : List ℚ) (before : Known) where
 
   by_step : (goes : Bool) (known : Option Reach) (step : Step) (link : Link) (so_far next : Known) → can_go step.forward link.capacity (number_at flows step.link) ≡ goes
       → known_at before (begin_of step.forward link) ≡ known → end_of step.forward link < length so_far
-          → along passes goes known step link.transit (end_of step.forward link) so_far ≡ Ok next
+      → along passes goes known step link.transit (end_of step.forward link) so_far ≡ Ok next
       → StepDone flows before step link so_far next
   by_step true (Some b) step link so_far next g p h e =
       let w : (z : ℚ) × (checked passes (op_of step.forward) b.distance link.transit ≡ Ok z)
       × (◌≡◌ {A = Checked Known} (Ok (offered so_far (end_of step.forward link) (record { distance = z; steps = b.steps ++ step ∷ [] }))) (Ok next)) =
       bind-ok (checked passes (op_of step.forward) b.distance link.transit)
-          (λ z. Ok (offered so_far (end_of step.forward link) (record { distance = z; steps = b.steps ++ step ∷ [] }))) next e in
+      (λ z. Ok (offered so_far (end_of step.forward link) (record { distance = z; steps = b.steps ++ step ∷ [] }))) next e in
       done step link so_far next b w.0 h g p w.1 w.2
   by_step true None step link so_far next g p h e = idle step link so_far next e (λ b _ q. none-some b (sym p ∙ q))
   by_step false known step link so_far next g p h e = idle step link so_far next e (λ b t _. false_true (sym g ∙ t))
@@ -162,7 +162,7 @@ module _ (passes : Passing) (flows : List ℚ) (before : Known) where
         → known_at before (begin_of step.forward link) ≡ Some b → AtMostAt next (end_of step.forward link) (extended b step link)
     pub from : (u : ℕ) (q : Reach) → known_at next u ≡ Some q → (known_at so_far u ≡ Some q) ⊎ ((step : Step) × (link : Link) × (b : Reach) × IsIn (step, link) items
         × (can_go step.forward link.capacity (number_at flows step.link) ≡ true) × (known_at before (begin_of step.forward link) ≡ Some b)
-            × (u ≡ end_of step.forward link) × (q ≡ extended b step link))
+        × (u ≡ end_of step.forward link) × (q ≡ extended b step link))
 
   pub fold-done : (items : List (Step × Link)) (n : ℕ) (so_far next : Known) → length so_far ≡ n → ((step : Step) (link : Link) → IsIn (step, link) items → end_of step.forward link < n)
       → fold_checked (along_step passes flows before) so_far items ≡ Ok next → AllDone items so_far next
@@ -176,7 +176,7 @@ module _ (passes : Passing) (flows : List ℚ) (before : Known) where
       let w : (mid : Known) × (along_step passes flows before so_far (step, link) ≡ Ok mid) × (fold_checked (along_step passes flows before) mid items ≡ Ok next) =
       bind-ok (along_step passes flows before so_far (step, link)) (λ mid. fold_checked (along_step passes flows before) mid items) next e in
       let one : StepDone flows before step link so_far w.0 = along_step-done step link so_far w.0
-          (subst (λ (k : ℕ). end_of step.forward link < k) (sym l) (ends step link (inl refl))) w.1 in
+      (subst (λ (k : ℕ). end_of step.forward link < k) (sym l) (ends step link (inl refl))) w.1 in
       let more : AllDone items w.0 next = fold-done items n w.0 next (one.count ∙ l) (λ s k i. ends s k (inr i)) w.2 in
       record {
         count = more.count ∙ one.count;
@@ -191,11 +191,11 @@ module _ (passes : Passing) (flows : List ℚ) (before : Known) where
             (λ (at_mid : known_at w.0 u ≡ Some q). ⊎_elim
             (λ (old : known_at so_far u ≡ Some q). inl old)
             (λ (new : (b : Reach) × (can_go step.forward link.capacity (number_at flows step.link) ≡ true)
-                × (known_at before (begin_of step.forward link) ≡ Some b) × (u ≡ end_of step.forward link) × (q ≡ extended b step link)).
+            × (known_at before (begin_of step.forward link) ≡ Some b) × (u ≡ end_of step.forward link) × (q ≡ extended b step link)).
             inr (step, link, new.0, inl refl, new.1, new.2, new.3, new.4))
             (one.from u q at_mid))
             (λ (new : (s : Step) × (k : Link) × (b : Reach) × IsIn (s, k) items × (can_go s.forward k.capacity (number_at flows s.link) ≡ true)
-                × (known_at before (begin_of s.forward k) ≡ Some b) × (u ≡ end_of s.forward k) × (q ≡ extended b s k)).
+            × (known_at before (begin_of s.forward k) ≡ Some b) × (u ≡ end_of s.forward k) × (q ≡ extended b s k)).
             inr (new.0, new.1, new.2, inr new.3, new.4, new.5, new.6, new.7))
             (more.from u q p);
       }

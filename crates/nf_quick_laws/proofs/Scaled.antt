@@ -91,7 +91,7 @@ module _ (net : Network) (amount time : ℚ) (cut : List ℚ) (good : IsNetwork 
       not_enough c other time amount positive times k some
       (≤ℚ_trans _ _ _ d.enough
       (≤ℚ_trans _ _ _ (delivered-le net entered left other (scaled c cut) good d.feasible
-          (subst (λ (t : ℚ). IsCut net t (scaled c cut)) times (IsCut-scaled net time c cut good n m is_cut)))
+      (subst (λ (t : ℚ). IsCut net t (scaled c cut)) times (IsCut-scaled net time c cut good n m is_cut)))
       (subst (λ (v : ℚ). cut_value net (scaled c cut) ≤ℚ c *ℚ v) full (cut_value-scaled net c cut good n m))))
 
   pub IsQuickest-full : (entered left : ℕ → ℚ → ℚ) → 0ℚ ≤ℚ time → Delivers net entered left amount time → IsQuickest net amount time

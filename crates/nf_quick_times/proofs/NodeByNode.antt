@@ -24,8 +24,10 @@ module _ (passes : Passing) (time : ℚ) (from_source from_sink : List (Option �
   pub times_first : (cut : List ℚ) → cut ≡ [] → TimesOn passes time from_source from_sink cut 0
   unfolding node_times_list
   times_first cut none =
-      record { same = ap (λ (l : List ℚ). with_front l (each (node_time_at passes time from_sink) (enumerate_from 0 from_source))) none
-      ∙ first (each (node_time_at passes time from_sink) (enumerate_from 0 from_source)) }
+      record {
+        same = ap (λ (l : List ℚ). with_front l (each (node_time_at passes time from_sink) (enumerate_from 0 from_source))) none
+            ∙ first (each (node_time_at passes time from_sink) (enumerate_from 0 from_source));
+      }
     where
       first : (r : Checked (List ℚ)) → with_front [] r ≡ r
       first (Ok ys) = refl

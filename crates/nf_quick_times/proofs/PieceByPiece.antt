@@ -168,7 +168,7 @@ pub departure_found : (passes : Passing) (net : Network) (amount : ℚ) (r : Res
 unfolding departure_list
 departure_found passes net amount r good some f e =
     if_ok Part.Quick r (departs passes (checked_supply passes net) amount 0ℚ net.pieces) (IsDeparture net amount) e
-        (λ found g. departure_least passes net amount good some found (listed found g))
+    (λ found g. departure_least passes net amount good some found (listed found g))
   where
     listed : (found : Option ℚ) → departs passes (checked_supply passes net) amount 0ℚ net.pieces ≡ Ok found
         → at_part Part.Quick (departure_list passes (checked_supply passes net) amount net.pieces) ≡ Ok found

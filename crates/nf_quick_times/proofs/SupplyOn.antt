@@ -52,15 +52,15 @@ module _ (passes : Passing) where
   supply_goes_on (p ∷ []) k piece next so_far s e f = absurd (cc)
   supply_goes_on (p ∷ q ∷ later) zero piece next so_far s e f =
       subst (λ (n : Piece). supplied_after passes so_far (p ∷ q ∷ later) n.start
-          ≡ (supplied_after passes so_far (p ∷ q ∷ later) piece.start >>= λ known. with_piece passes known piece n.start)) (same_Some q next f)
+      ≡ (supplied_after passes so_far (p ∷ q ∷ later) piece.start >>= λ known. with_piece passes known piece n.start)) (same_Some q next f)
       (subst (λ (a : Piece). supplied_after passes so_far (p ∷ q ∷ later) q.start
-          ≡ (supplied_after passes so_far (p ∷ q ∷ later) a.start >>= λ known. with_piece passes known a q.start)) (same_Some p piece e) first)
+      ≡ (supplied_after passes so_far (p ∷ q ∷ later) a.start >>= λ known. with_piece passes known a q.start)) (same_Some p piece e) first)
     where
       first : supplied_after passes so_far (p ∷ q ∷ later) q.start ≡ (supplied_after passes so_far (p ∷ q ∷ later) p.start >>= λ known. with_piece passes known p q.start)
       first =
           whole_piece p q later q.start so_far s.0 (≤ℚ_refl q.start)
           ∙ bind_same (with_piece passes so_far p q.start) (λ sum. supplied_after passes sum (q ∷ later) q.start) (λ sum. Ok sum)
-              (λ sum. none_yet q later q.start sum s.1 (≤ℚ_refl q.start))
+          (λ sum. none_yet q later q.start sum s.1 (≤ℚ_refl q.start))
           ∙ bind_end (with_piece passes so_far p q.start)
           ∙ ap (λ (r : Checked ℚ). r >>= λ known. with_piece passes known p q.start) (sym (none_yet p (q ∷ later) p.start so_far s (≤ℚ_refl p.start)))
   supply_goes_on (p ∷ q ∷ later) (suc k) piece next so_far s e f =
@@ -70,7 +70,7 @@ module _ (passes : Passing) where
       ∙ bind_more (with_piece passes so_far p q.start) (λ sum. supplied_after passes sum (q ∷ later) piece.start) (λ known. with_piece passes known piece next.start)
       (λ sum. supplied_after passes sum (q ∷ later) next.start) (λ sum. supply_goes_on (q ∷ later) k piece next sum s.1 e f)
       ∙ ap (λ (r : Checked ℚ). r >>= λ known. with_piece passes known piece next.start)
-          (sym (whole_piece p q later piece.start so_far (before p.start q.start piece.start s.0 to_piece) to_piece))
+      (sym (whole_piece p q later piece.start so_far (before p.start q.start piece.start s.0 to_piece) to_piece))
     where
       before : (x y z : ℚ) → x <ℚ y → y ≤ℚ z → x <ℚ z
       before x y z h k = linear_lt (x ∷ y ∷ z ∷ []) (lt h ∷ le k ∷ []) (search reading_of depth 12) tt

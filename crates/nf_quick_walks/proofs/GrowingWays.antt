@@ -116,8 +116,11 @@ module _ (net : Network) (good : IsNetwork net) where
       pub ways_more : AreWays net (set ways at (Some longer))
       ways_more = subst (λ (i : ℕ). AreWays net (set ways i (Some longer))) (sym at_head) (record {
         count = length-set ways link.head (Some longer) ∙ are.count;
-        source = (are.source.0, at_other ways link.head net.source (Some longer)
-            (λ (h : link.head ≡ net.source). no_some _ are.source.0 (ap (λ (v : ℕ). way_at ways v) (sym h) ∙ leading.head) are.source.1) ∙ are.source.1);
+        source = (
+          are.source.0,
+          at_other ways link.head net.source (Some longer)
+              (λ (h : link.head ≡ net.source). no_some _ are.source.0 (ap (λ (v : ℕ). way_at ways v) (sym h) ∙ leading.head) are.source.1) ∙ are.source.1,
+        );
         walks = λ v way f. ⊎_elim
             (λ (w : (eqb link.head v ≡ true) × (link.head ≡ v)). new v way w.1 f)
             (λ (w : (eqb link.head v ≡ false) × (link.head ≢ v)). are.walks v way (sym (at_other ways link.head v (Some longer) w.1) ∙ f))
@@ -127,7 +130,7 @@ module _ (net : Network) (good : IsNetwork net) where
           new : (v : ℕ) (way : List ℕ) → link.head ≡ v → way_at (set ways link.head (Some longer)) v ≡ Some way → IsUnboundedWalk net way net.source v
           new v way same f =
               let one : ◌≡◌ {A = Option (List ℕ)} (Some longer) (Some way) = sym (at_same ways link.head (Some longer) head_below)
-                  ∙ ap (λ (u : ℕ). way_at (set ways link.head (Some longer)) u) same ∙ f in
+              ∙ ap (λ (u : ℕ). way_at (set ways link.head (Some longer)) u) same ∙ f in
               let w : longer ≡ way = cc in
               subst (λ (l : List ℕ). IsUnboundedWalk net l net.source v) w (subst (λ (u : ℕ). IsUnboundedWalk net longer net.source u) same is_longer)
 

@@ -29,7 +29,7 @@ module _ (passes : Passing) (net : Network) (amount : ℚ) (s : QuickStanding) (
   pub next_listed : at_part Part.Quick (shortest_list passes net flows) ≡ Ok found → at_part Part.Quick (next_list passes net amount s) ≡ Ok next
   next_listed e = ap (at_part Part.Quick)
       (goes_on (shortest_list passes net s.flows) (λ o. Ok (next_of passes net amount s o)) found
-          (ap (λ (l : List ℚ). at_part Part.Quick (shortest_list passes net l)) (sym flows_are) ∙ e)) ∙ ap Ok (sym is)
+      (ap (λ (l : List ℚ). at_part Part.Quick (shortest_list passes net l)) (sym flows_are) ∙ e)) ∙ ap Ok (sym is)
 
   if_early : (b : Bool) (walk : Walk) → IsShortestWalk net flows walk → IfSome (if b then Some walk else None) (IsShortestWalk net flows)
   if_early true walk h = h

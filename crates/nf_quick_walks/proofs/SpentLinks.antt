@@ -36,8 +36,10 @@ looks_from links v flows (suc n) h =
     one_more on (inr w) =
         let past : length links ≤ n = w.0 in
         let further : length links ≤ suc n = omega arith in
-        record { same = ap (λ (l : List Link). first_out (suc n) l v flows) (drop_all (suc n) links further)
-            ∙ sym (ap (λ (l : List Link). first_out n l v flows) (drop_all n links past)) ∙ on.same }
+        record {
+          same = ap (λ (l : List Link). first_out (suc n) l v flows) (drop_all (suc n) links further)
+              ∙ sym (ap (λ (l : List Link). first_out n l v flows) (drop_all n links past)) ∙ on.same;
+        }
 
 -- ---- the links before the first one with flow are spent
 abbrev head_or : Bool → ℕ → List Link → ℕ → List ℚ → Option ℕ
@@ -56,7 +58,7 @@ spent_before e (x ∷ links) v flows o f k link is h = by_test (is_out x v (numb
 
     by_test : (t : Bool) → is_out x v (number_at flows e) ≡ t → (k : ℕ) → slice_get (x ∷ links) k ≡ Some link → e + k < unwrap_or o (e + length (x ∷ links))
         → ((j : ℕ) → slice_get links j ≡ Some link → suc e + j < unwrap_or o (suc e + length links) → first_out (suc e) links v flows ≡ o
-            → is_out link v (number_at flows (suc e + j)) ≡ false)
+        → is_out link v (number_at flows (suc e + j)) ≡ false)
         → is_out link v (number_at flows (e + k)) ≡ false
     by_test true t k is h rest = absurd (here_only e k (unwrap_or o (e + length (x ∷ links))) h
         (ap (λ (p : Option ℕ). unwrap_or p (e + length (x ∷ links))) (sym f ∙ ap (λ (b : Bool). head_or b e links v flows) t)))
@@ -68,7 +70,7 @@ spent_before e (x ∷ links) v flows o f k link is h = by_test (is_out x v (numb
         let long : e + length (x ∷ links) ≡ suc e + length links = omega arith in
         ap (λ (i : ℕ). is_out link v (number_at flows i)) at
         ∙ rest k is (subst (λ (m : ℕ). suc e + k < unwrap_or o m) long (subst (λ (i : ℕ). i < unwrap_or o (e + length (x ∷ links))) at h))
-            (sym (ap (λ (b : Bool). head_or b e links v flows) t) ∙ f)
+        (sym (ap (λ (b : Bool). head_or b e links v flows) t) ∙ f)
 
 pub spent_up_to : (links : List Link) (v : ℕ) (flows : List ℚ) (o : Option ℕ) (n : ℕ) → o ≡ first_out 0 links v flows → n ≡ unwrap_or o (length links) → IsSpent links flows v n
 spent_up_to links v flows o n f e k link h is =
@@ -76,7 +78,7 @@ spent_up_to links v flows o n f e k link h is =
     let at : 0 + k ≡ k = omega arith in
     ap (λ (i : ℕ). is_out link v (number_at flows i)) (sym at)
     ∙ spent_before 0 links v flows o (sym f) k link is (subst (λ (i : ℕ). i < unwrap_or o (0 + length links)) (sym at)
-        (subst (λ (m : ℕ). k < unwrap_or o m) (sym all) (subst (λ (m : ℕ). k < m) e h)))
+    (subst (λ (m : ℕ). k < unwrap_or o m) (sym all) (subst (λ (m : ℕ). k < m) e h)))
 
 -- The first link found has flow.
 pub out_has_flow : (e : ℕ) (links : List Link) (v : ℕ) (flows : List ℚ) (n : ℕ) → first_out e links v flows ≡ Some n → lt_ℚ 0ℚ (number_at flows n) ≡ true

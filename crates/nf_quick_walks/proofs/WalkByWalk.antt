@@ -108,7 +108,7 @@ module _ (passes : Passing) (net : Network) (all : List ℚ) where
   takes_first walks flows none same count = subst (λ (w : List Fed). TakesOn passes net all w flows 0) (sym none) (record {
     same = first (walks_off passes (length net.links - 0) net flows)
         ∙ let left : length net.links - 0 ≡ length net.links = omega arith in
-            ap (λ (i : ℕ). walks_off passes i net flows) left ∙ ap (λ (l : List ℚ). walks_off passes (length net.links) net l) same;
+        ap (λ (i : ℕ). walks_off passes i net flows) left ∙ ap (λ (l : List ℚ). walks_off passes (length net.links) net l) same;
     count = count;
   })
     where

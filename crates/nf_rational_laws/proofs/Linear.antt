@@ -94,7 +94,7 @@ total_ps ρ (row k p ∷ rs) (m ∷ ms) h t u =
     (⊎_elim
     (λ (v : T (sharp k m)). ps_plus _ _ (along_ps _ _ (sym (scaled ρ m p)) (one_ps ρ k m p h.0 v)) (total_nn ρ rs ms h.1 (and_right (allowed k m) (valid rs ms) t)))
     (λ (v : T (strict rs ms)). nn_plus_ps _ _ (along_nn _ _ (sym (scaled ρ m p)) (one_nn ρ k m p h.0 (and_left (allowed k m) (valid rs ms) t)))
-        (total_ps ρ rs ms h.1 (and_right (allowed k m) (valid rs ms) t) v))
+    (total_ps ρ rs ms h.1 (and_right (allowed k m) (valid rs ms) t) v))
     (or_cases (sharp k m) (strict rs ms) u))
 
 minus_plus : (x : ℚ) → whole (negsuc 0) *ℚ x +ℚ x ≡ 0ℚ
@@ -323,7 +323,7 @@ pub linear_le : (ρ : List ℚ) (fs : List Fact) {x y : ℚ} (w : (Reads rationa
     → T (refuted (row k_lt (gap w.0.1 w.0.0) ∷ rows_of ρ fs w.1)) → x ≤ℚ y
 linear_le ρ fs {x} {y} w t = ⊎_elim
     (λ (h : y <ℚ x). absurd (refute ρ (row k_lt (gap w.0.1 w.0.0) ∷ rows_of ρ fs w.1) (multipliers (row k_lt (gap w.0.1 w.0.0) ∷ rows_of ρ fs w.1))
-        (along_ps _ _ (gap-is w.0.1 w.0.0) (less_ps y x h), rows_hold ρ fs w.1) t))
+    (along_ps _ _ (gap-is w.0.1 w.0.0) (less_ps y x h), rows_hold ρ fs w.1) t))
     (λ (h : x ≤ℚ y). h) (lt_or_le_ℚ y x)
 
 pub linear_lt : (ρ : List ℚ) (fs : List Fact) {x y : ℚ} (w : (Reads rationals ρ x × Reads rationals ρ y) × ReadFacts ρ fs)
@@ -331,7 +331,7 @@ pub linear_lt : (ρ : List ℚ) (fs : List Fact) {x y : ℚ} (w : (Reads rationa
 linear_lt ρ fs {x} {y} w t = ⊎_elim
     (λ (h : x <ℚ y). h)
     (λ (h : y ≤ℚ x). absurd (refute ρ (row k_le (gap w.0.1 w.0.0) ∷ rows_of ρ fs w.1) (multipliers (row k_le (gap w.0.1 w.0.0) ∷ rows_of ρ fs w.1))
-        (along_nn _ _ (gap-is w.0.1 w.0.0) (less_nn y x h), rows_hold ρ fs w.1) t))
+    (along_nn _ _ (gap-is w.0.1 w.0.0) (less_nn y x h), rows_hold ρ fs w.1) t))
     (lt_or_le_ℚ x y)
 
 pub linear_eq : (ρ : List ℚ) (fs : List Fact) {x y : ℚ} (w : (Reads rationals ρ x × Reads rationals ρ y) × ReadFacts ρ fs)

@@ -22,7 +22,7 @@ pub plus_over_lcm : (x y : ℚ) → ratio (x.num *ℤ pos (y.den / gcd x.den y.d
 plus_over_lcm x y =
     Is-same _ _ _ _
     (Is-ratio (x.num *ℤ pos (y.den / gcd x.den y.den) +ℤ y.num *ℤ pos (x.den / gcd x.den y.den)) (x.den * (y.den / gcd x.den y.den))
-        (mul-pos x.positive (part_pos x.den y.den y.positive)))
+    (mul-pos x.positive (part_pos x.den y.den y.positive)))
     (Is-plus _ _ _ _ (Is-self x) (Is-self y))
     (sym (lcm_by x.num (pos x.den) y.num (pos y.den) (pos (gcd x.den y.den)) (pos (y.den / gcd x.den y.den)) (pos (x.den / gcd x.den y.den))
     (ap pos (div-mul_cancel (gcd x.den y.den) (IsGcd-gcd x.den y.den).0))

@@ -26,9 +26,12 @@ split_dvd a b zero h d = dvd-zero a
 split_dvd a b (suc c) h d = dvd_of_dvd-mul a b (suc c) (omega arith) h d
 
 pub apart_product : (a b c : ℕ) → IsGcd a c 1 → IsGcd b c 1 → IsGcd (a * b) c 1
-apart_product a b c h k =
-    (one-dvd (a * b), one-dvd c, λ e u v. k.2 e (split_dvd e a b (IsGcd-swap a e 1 (apart_parts a c a e h (self a) v))
-    (subst (λ (m : ℕ). e ∣ m) (mul_comm a b) u)) v)
+apart_product a b c h k = (
+  one-dvd (a * b),
+  one-dvd c,
+  λ e u v. k.2 e (split_dvd e a b (IsGcd-swap a e 1 (apart_parts a c a e h (self a) v))
+      (subst (λ (m : ℕ). e ∣ m) (mul_comm a b) u)) v,
+)
   where
     self : (a : ℕ) → a ∣ a
     self a = subst (λ (m : ℕ). a ∣ m) (one_times a) (dvd-mul_right a 1)
@@ -72,7 +75,7 @@ crossed_lowest x y =
     let h = gcd (nat_abs y.num) x.den in
     let e : nat_abs (crossed_num x y) ≡ nat_abs x.num / g * (nat_abs y.num / h) =
     abs-product (quot_z x.num (pos g)) (quot_z y.num (pos h)) ∙ ap (λ (m : ℕ). m * nat_abs (quot_z y.num (pos h))) (abs_quot x.num g)
-        ∙ ap (λ (m : ℕ). nat_abs x.num / g * m) (abs_quot y.num h) in
+    ∙ ap (λ (m : ℕ). nat_abs x.num / g * m) (abs_quot y.num h) in
     let apart : IsGcd (nat_abs x.num / g * (nat_abs y.num / h)) (x.den / h * (y.den / g)) 1 =
     apart_products (nat_abs x.num / g) (nat_abs y.num / h) (x.den / h) (y.den / g)
     (apart_parts (nat_abs x.num) x.den _ _ (lowest_parts x) (divides g (nat_abs x.num) (IsGcd-gcd (nat_abs x.num) y.den).0) (divides h x.den (IsGcd-gcd (nat_abs y.num) x.den).1))

@@ -69,7 +69,7 @@ no_less-is ρ (term c [] p) t =
     nn_plus _ _ (along_nn _ _ (sym (times_one (whole c))) (not_negative-is c (and_left (not_negative c) (no_less p) t))) (no_less-is ρ p (and_right (not_negative c) (no_less p) t))
 no_less-is ρ (term c (i ∷ m) p) t =
     along_nn _ _ (sym (nil_plus_along _ (value rationals ρ p) (is_nil-is c (mon rationals ρ (i ∷ m)) (and_left (is_nil c) (no_less p) t))))
-        (no_less-is ρ p (and_right (is_nil c) (no_less p) t))
+    (no_less-is ρ p (and_right (is_nil c) (no_less p) t))
 
 pub more-is : (ρ : List ℚ) (p : Poly) → T (no_less p) → T (more p) → 0ℚ <ℚ value rationals ρ p
 more-is ρ none t u = absurd u
@@ -77,11 +77,11 @@ more-is ρ (term c [] p) t u =
     ⊎_elim
     (λ (v : T (above c)). ps_plus _ _ (along_ps _ _ (sym (times_one (whole c))) (above-is c v)) (no_less-is ρ p (and_right (not_negative c) (no_less p) t)))
     (λ (v : T (more p)). nn_plus_ps _ _ (along_nn _ _ (sym (times_one (whole c))) (not_negative-is c (and_left (not_negative c) (no_less p) t)))
-        (more-is ρ p (and_right (not_negative c) (no_less p) t) v))
+    (more-is ρ p (and_right (not_negative c) (no_less p) t) v))
     (or_cases (above c) (more p) u)
 more-is ρ (term c (i ∷ m) p) t u =
     along_ps _ _ (sym (nil_plus_along _ (value rationals ρ p) (is_nil-is c (mon rationals ρ (i ∷ m)) (and_left (is_nil c) (no_less p) t))))
-        (more-is ρ p (and_right (is_nil c) (no_less p) t) u)
+    (more-is ρ p (and_right (is_nil c) (no_less p) t) u)
 
 -- ---- the sum of what is at hand
 abbrev ev : List ℚ → Expr → ℚ

@@ -259,7 +259,7 @@ body_kept n draft last [] s t h r = absurd (no (sym s ∙ ap (λ d. d.stage) r �
     no e = absurd (cc)
 body_kept n draft last (words ∷ lines) s t h r =
     finish (line_steps n draft (next_of lines None) words r.0 h (in_stage n draft (next_of lines None) words r.0 InBody s r.1)) lines refl
-        (λ stage kept. body_kept n r.0 last lines stage t kept r.2)
+    (λ stage kept. body_kept n r.0 last lines stage t kept r.2)
   where
     finish : Steps n (next_of lines None) words draft r.0 → (rest : List (List (List ℕ))) → lines ≡ rest
         → (r.0.stage ≡ InBody → IsKept n (next_of lines None) r.0 → Finished n r.0 last lines) → Finished n draft last (words ∷ lines)

@@ -84,7 +84,7 @@ module _ (n : Named) (d : ReportDraft) where
   opens done None keys kind name h = begins done keys kind name
   opens done (Some c) keys kind name h =
       ap (λ (b : Bool). if b then Ok (record { curve = c; done = done; keys = key_of kind name ∷ keys }) else begun (done ++ c ∷ []) kind name
-          (key_of kind name ∷ keys)) (other_key kind name c.key h)
+      (key_of kind name ∷ keys)) (other_key kind name c.key h)
       ∙ begins (done ++ c ∷ []) keys kind name
 
   points_read : (kind : Kind) (name : Name) → Says kind (λ _. point_line kind)
@@ -94,7 +94,7 @@ module _ (n : Named) (d : ReportDraft) where
       → opened (in_body done current keys) kind name current ≡ Ok (opened_curve kind name front rates after_done after_keys)
       → InTime (last_or None front) (p ∷ points) → AreFractionPoints (p ∷ points)
       → Reads n (in_body done current keys) (point_lines (key_word kind) name (p ∷ points)) after
-          (in_body after_done (Some (record { key = key_of kind name; points = front ++ p ∷ points; rates = rates })) after_keys)
+      (in_body after_done (Some (record { key = key_of kind name; points = front ++ p ∷ points; rates = rates })) after_keys)
   points_read kind name says done current keys front rates after_done after_keys p [] after e t h = (
     in_body after_done (Some (record { key = key_of kind name; points = front ++ p ∷ []; rates = rates })) after_keys,
     says done current keys after (name ∷ printed p.0 ∷ printed p.1 ∷ []) ∙ point_put kind (in_body done current keys) name
@@ -124,9 +124,9 @@ module _ (n : Named) (d : ReportDraft) where
       (p : Point) (points : List Point) (rates : List ℚ) (after : Option (List (List ℕ)))
       → opened (in_body done current keys) kind name current ≡ Ok (opened_curve kind name front before after_done after_keys)
       → InTime (last_or None front) (p ∷ points) → AreFractionPoints (p ∷ points) → AllByRecursion IsFraction rates → length points ≡ length rates
-          → begins_with (key_word kind) name after ≡ false
+      → begins_with (key_word kind) name after ≡ false
       → Reads n (in_body done current keys) (trace_lines (key_word kind) name (p ∷ points) rates) after
-          (in_body after_done (Some (record { key = key_of kind name; points = front ++ p ∷ points; rates = before ++ rates })) after_keys)
+      (in_body after_done (Some (record { key = key_of kind name; points = front ++ p ∷ points; rates = before ++ rates })) after_keys)
   traces_read kind name says done current keys front before after_done after_keys p [] [] after e t h r c last = (
     in_body after_done (Some (record { key = key_of kind name; points = front ++ p ∷ []; rates = before })) after_keys,
     says done current keys after (name ∷ printed p.0 ∷ printed p.1 ∷ codes "-" ∷ []) ∙ trace_put kind (in_body done current keys) after name (opened_curve kind name front before after_done after_keys) p None e h.0 tt t.0 last,
@@ -140,15 +140,15 @@ module _ (n : Named) (d : ReportDraft) where
         in_body after_done (Some curve) after_keys,
         says done current keys next (name ∷ printed p.0 ∷ printed p.1 ∷ printed rate ∷ [])
             ∙ trace_put kind (in_body done current keys) next name (opened_curve kind name front before after_done after_keys) p (Some rate) e h.0 r.0 t.0
-                (ap not (trace_goes_on (key_word kind) name q points rates after)),
+            (ap not (trace_goes_on (key_word kind) name q points rates after)),
         subst (λ (rs : List ℚ). Reads n (in_body after_done (Some curve) after_keys) (trace_lines (key_word kind) name (q ∷ points) rates) after
             (in_body after_done (Some (record { key = key_of kind name; points = front ++ p ∷ q ∷ points; rates = rs })) after_keys))
             (append_assoc before (rate ∷ []) rates)
             (subst (λ (ps : List Point). Reads n (in_body after_done (Some curve) after_keys) (trace_lines (key_word kind) name (q ∷ points) rates) after
-                (in_body after_done (Some (record { key = key_of kind name; points = ps; rates = before ++ rate ∷ [] ++ rates })) after_keys))
+            (in_body after_done (Some (record { key = key_of kind name; points = ps; rates = before ++ rate ∷ [] ++ rates })) after_keys))
             (append_assoc front (p ∷ []) (q ∷ points))
             (traces_read kind name says after_done (Some curve) after_keys (front ++ p ∷ [])
-                (before ++ rate ∷ []) after_done after_keys q points rates after (goes_on after_done after_keys kind name [] [] curve refl)
+            (before ++ rate ∷ []) after_done after_keys q points rates after (goes_on after_done after_keys kind name [] [] curve refl)
             (subst (λ (o : Option Point). InTime o (q ∷ points)) (sym (last-append None front p)) t.1) h.1 r.1 (omega arith) last)),
       )
 
@@ -279,7 +279,7 @@ curves_read n d (c ∷ curves) done current before after h v o a b =
       reads-append n (in_body n d done current (c.key ∷ keys_of curves)) (in_body n d next_done next (keys_of curves)) (in_body n d w.0 w.1 [])
           (curve_lines c) (flat_map curve_lines curves) after
           (kind_read n d kind c.key.name c.points c.rates done current (keys_of curves) (next_of (flat_map curve_lines curves) after) h.0 v.0 (o c.key a.0)
-              (goes_not_on c curves after h.1 a.1 b))
+          (goes_not_on c curves after h.1 a.1 b))
           w.3,
     )
   where

@@ -50,8 +50,13 @@ IsOpen next (Some c) = IsOpenKind c.key.kind c.key.name next c.points c.rates
 
 trace_closes : (b : Bool) (points : List Point) (rates : List ℚ) → IsOpenTrace b points rates → b ≡ false → IsReadTrace (record { points = points; rates = rates })
 trace_closes b points rates h e =
-    record { curve = h.curve; points = h.fractions; rates = h.rate_fractions; count =
-    subst (λ (b : Bool). Counts b (length points) (length rates)) e h.count }
+    record {
+      curve = h.curve;
+      points = h.fractions;
+      rates = h.rate_fractions;
+      count =
+          subst (λ (b : Bool). Counts b (length points) (length rates)) e h.count;
+    }
 
 -- it is read where the next line is of another one
 closes : (kind : Kind) (name : Name) (next : Option (List (List ℕ))) (points : List Point) (rates : List ℚ) → IsOpenKind kind name next points rates
@@ -114,8 +119,13 @@ nothing_yet OfQueue h = record { in_time = tt; fractions = tt; no_rates = refl }
 
 trace_so_far : (b : Bool) (points : List Point) (rates : List ℚ) → IsOpenTrace b points rates → b ≡ true → IsTraceFront points rates
 trace_so_far b points rates h e =
-    record { in_time = curve_in_time points h.curve; fractions = h.fractions; rate_fractions = h.rate_fractions; count =
-    subst (λ (b : Bool). Counts b (length points) (length rates)) e h.count }
+    record {
+      in_time = curve_in_time points h.curve;
+      fractions = h.fractions;
+      rate_fractions = h.rate_fractions;
+      count =
+          subst (λ (b : Bool). Counts b (length points) (length rates)) e h.count;
+    }
 
 so_far : (kind : Kind) (name : Name) (next : Option (List (List ℕ))) (points : List Point) (rates : List ℚ) → IsOpenKind kind name next points rates
     → begins_with (key_word kind) name next ≡ true → IsFront kind points rates
@@ -139,9 +149,11 @@ begun_is n kind name all [] o e = absurd (no_err P7 o e)
 begun_is n kind name all (key ∷ keys) o e =
     let w = where_true (is_key kind name key) P7 (Ok (record { curve = record { key = key; points = []; rates = [] }; done = all; keys = keys })) o e in
     let same = same_Ok (record { curve = record { key = key; points = []; rates = [] }; done = all; keys = keys }) o w.1 in
-    let k = key_same kind name key w.0 in
-    (sym (ap (λ (o : Opened). o.curve) same) ∙ (λ i. record { key = k i; points = []; rates = [] }), sym (ap (λ (o : Opened). o.done) same),
-        (λ i. k i ∷ ap (λ (o : Opened). o.keys) same i))
+    let k = key_same kind name key w.0 in (
+      sym (ap (λ (o : Opened). o.curve) same) ∙ (λ i. record { key = k i; points = []; rates = [] }),
+      sym (ap (λ (o : Opened). o.done) same),
+      (λ i. k i ∷ ap (λ (o : Opened). o.keys) same i),
+    )
 
 begins_opened : (n : Named) (kind : Kind) (name : Name) (done : List ReadCurve) (current : Option ReadCurve) (keys : List CurveKey) (o : Opened)
     → HasPoints kind → keys_of (with_current done current) ++ keys ≡ curve_keys n
@@ -194,8 +206,8 @@ opened_is n kind name rest draft (Some c) o some h e = go (is_key kind name c.ke
         })
     go false f g = begins_opened n kind name draft.done (Some c) draft.keys o some h.in_order
         (all_closed draft.done (Some c) (Some (key_word kind ∷ name ∷ rest)) h.read h.open_
-            (λ d same. subst (λ (c : ReadCurve). begins_with (key_word c.key.kind) c.key.name (Some (key_word kind ∷ name ∷ rest)) ≡ false) (some_same same)
-            (turned f))) g
+        (λ d same. subst (λ (c : ReadCurve). begins_with (key_word c.key.kind) c.key.name (Some (key_word kind ∷ name ∷ rest)) ≡ false) (some_same same)
+        (turned f))) g
       where
         some_same : {d : ReadCurve} → ◌≡◌ {A = Option ReadCurve} (Some c) (Some d) → c ≡ d
         some_same e = cc
@@ -219,7 +231,7 @@ put_on n next words draft kind name o p rates h k e =
     let c : ReadCurve = record { key = o.curve.key; points = o.curve.points ++ p ∷ []; rates = rates } in
     let here : curve_lines o.curve ++ words ∷ [] ≡ curve_lines c =
     subst (λ (key : CurveKey). lines_of_kind key.kind key.name o.curve.points o.curve.rates ++ words ∷ [] ≡ lines_of_kind key.kind key.name
-        (o.curve.points ++ p ∷ []) rates) (sym h.key) (sym e) in
+    (o.curve.points ++ p ∷ []) rates) (sym h.key) (sym e) in
     record {
       done = o.done;
       current = Some c;
@@ -233,7 +245,7 @@ put_on n next words draft kind name o p rates h k e =
       lines = ap (λ l. l ++ words ∷ []) (h.lines ∙ flat_map-append curve_lines o.done (o.curve ∷ []))
           ∙ append_assoc (flat_map curve_lines o.done) (curve_lines o.curve ++ []) (words ∷ [])
           ∙ ap (λ l. flat_map curve_lines o.done ++ (l ++ words ∷ [])) (append-nil (curve_lines o.curve))
-              ∙ ap (λ l. flat_map curve_lines o.done ++ l) (here ∙ sym (append-nil (curve_lines c)))
+          ∙ ap (λ l. flat_map curve_lines o.done ++ l) (here ∙ sym (append-nil (curve_lines c)))
           ∙ sym (flat_map-append curve_lines o.done (c ∷ []));
       more = h.more;
     }
@@ -297,7 +309,7 @@ rates_more rates (Some rate) h k = every_append IsFraction rates (rate ∷ []) h
 
 trace_kept : (n : Named) (kind : Kind) → HasPoints kind → ((points : List Point) (rates : List ℚ) → IsFront kind points rates → IsTraceFront points rates)
     → ((name : Name) (next : Option (List (List ℕ))) (points : List Point) (rates : List ℚ)
-        → IsOpenTrace (begins_with (key_word kind) name next) points rates → IsOpenKind kind name next points rates)
+    → IsOpenTrace (begins_with (key_word kind) name next) points rates → IsOpenKind kind name next points rates)
     → ((name : Name) (points : List Point) (rates : List ℚ) → lines_of_kind kind name points rates ≡ trace_lines (key_word kind) name points rates)
     → (draft : ReportDraft) (next : Option (List (List ℕ))) (words : List (List ℕ)) (left : ReportDraft) → AreKept n (Some (key_word kind ∷ words)) draft.done draft.current draft.keys
     → trace_line kind draft next words ≡ Ok left → LineKept n next (key_word kind ∷ words) draft left
@@ -315,8 +327,8 @@ trace_kept n kind has front open_ lines draft next (name ∷ time ∷ value ∷ 
     let r = u.between in
     let b = rate_is rate r u.first in
     let t = where_false (not (comes_after (last_or None o.curve.points) p.0)) P11
-        (if are_alike (is_none r) (begins_with (key_word kind) name next) then Err P12 else Ok (with_point draft o p (with_rate o.curve.rates r))) left
-        u.next in
+    (if are_alike (is_none r) (begins_with (key_word kind) name next) then Err P12 else Ok (with_point draft o p (with_rate o.curve.rates r))) left
+    u.next in
     let s = where_false (are_alike (is_none r) (begins_with (key_word kind) name next)) P12 (Ok (with_point draft o p (with_rate o.curve.rates r))) left t.1 in
     let k = opened_is n kind name (time ∷ value ∷ rate ∷ []) draft draft.current o has h w.first in
     let f = front o.curve.points o.curve.rates k.front in

@@ -31,7 +31,7 @@ module _ {Rule Draft Given : Type 0} (frame : Frame Rule Draft Given) where
     draft_kept h [] draft e = absurd (no_err (record { rule = frame.no_head; line = 1 }) draft e)
     draft_kept h (line ∷ rest) draft e =
         lines_kept frame.empty rest draft h (where_true (is_head frame.keyword line.words) (record { rule = frame.no_head; line = line.number })
-            (add_lines frame.add frame.empty rest) draft e).1
+        (add_lines frame.add frame.empty rest) draft e).1
 
   -- ---- the whole file
   bytes_fine : (o : Option LineFault) (read : Result Given (Broken Rule)) (given : Given) → by_bytes frame o read ≡ Ok given → read ≡ Ok given
@@ -41,4 +41,4 @@ module _ {Rule Draft Given : Type 0} (frame : Frame Rule Draft Given) where
   pub file_is : (text : List ℕ) (given : Given) → file_in frame text ≡ Ok given → Both (draft_of frame (content_lines (read_lines text))) frame.close given
   file_is text given e =
       both_ok (draft_of frame (content_lines (read_lines text))) frame.close given
-          (bytes_fine (first_fault text) (draft_of frame (content_lines (read_lines text)) >>= frame.close) given e)
+      (bytes_fine (first_fault text) (draft_of frame (content_lines (read_lines text)) >>= frame.close) given e)

@@ -37,7 +37,7 @@ keys_from n flow h =
     let c = link_curves n.link_names flow.inflows flow.outflows flow.queues in
     map-append (λ curve. curve.key) (a ++ b) c ∙ ap (λ l. l ++ keys_of c) (map-append (λ curve. curve.key) a b)
     ∙ (λ i. label_keys n.node_names flow.labels h.label_count i ++ never_keys n.idle_nodes i ++ the_link_keys n.link_names flow.inflows flow.outflows
-        flow.queues h.inflow_count h.outflow_count h.queue_count i)
+    flow.queues h.inflow_count h.outflow_count h.queue_count i)
 
 -- ---- neighbours
 apart : (kind : Kind) (x y : Name) → bytes_eq x y ≡ false → key_of kind x ≡ key_of kind y → ⊥
@@ -81,9 +81,11 @@ nevers_adjacent : (before : Option CurveKey) (idle names : List Name) → IsDist
     → ((name : Name) → Differ before (key_of OfInflow name))
     → Adjacent before (map (key_of OfNever) idle ++ link_keys names)
 nevers_adjacent before [] names d h k = links_adjacent before names k
-nevers_adjacent before (x ∷ idle) names d h k =
-    (h x, names_adjacent OfNever x idle (link_keys names) d (λ y. links_adjacent (Some (key_of OfNever y)) names
-        (λ name. other_kind (key_of OfNever y) (key_of OfInflow name) (λ e. absurd (omega arith)))))
+nevers_adjacent before (x ∷ idle) names d h k = (
+  h x,
+  names_adjacent OfNever x idle (link_keys names) d (λ y. links_adjacent (Some (key_of OfNever y)) names
+      (λ name. other_kind (key_of OfNever y) (key_of OfInflow name) (λ e. absurd (omega arith)))),
+)
 
 all_adjacent : (nodes idle names : List Name) → IsDistinct bytes_eq (nodes ++ idle) → Adjacent None (map (key_of OfLabel) nodes ++ (map (key_of OfNever) idle ++ link_keys names))
 all_adjacent [] idle names d = nevers_adjacent None idle names d (λ name. tt) (λ name. tt)
@@ -155,5 +157,5 @@ pub curves_allowed : (n : Named) (flow : Flow) → IsNamed n → AllByRecursion 
 curves_allowed n flow h =
     every_append (Allowed n.version) (label_curves n.node_names flow.labels ++ never_curves n.idle_nodes) (link_curves n.link_names flow.inflows flow.outflows flow.queues)
     (every_append (Allowed n.version) (label_curves n.node_names flow.labels) (never_curves n.idle_nodes)
-        (labels_allowed n.version n.node_names flow.labels) (idle_allowed n h (n.version == 1) refl))
+    (labels_allowed n.version n.node_names flow.labels) (idle_allowed n h (n.version == 1) refl))
     (links_allowed n.version n.link_names flow.inflows flow.outflows flow.queues)

@@ -123,4 +123,4 @@ rate_is word rate e = go (bytes_eq word (codes "-")) refl e
     go false k f =
         let w = both_ok (or_rule P8 (printed_number word)) some_rate rate f in
         subst (λ (r : Option ℚ). (word ≡ rate_text r) × IsFractionOrNone r) (same_Ok (Some w.between) rate w.next)
-            (number_is word w.between (or_ok P8 (printed_number word) w.between w.first))
+        (number_is word w.between (or_ok P8 (printed_number word) w.between w.first))

@@ -33,8 +33,12 @@ rise_of before (x ∷ y ∷ xs) (suc i) piece next w is then_ = rise_of (Some x)
 
 pub go_on_pieces : (xs : List Piece) → GoOn None xs → ArePieces xs
 go_on_pieces xs w =
-    record { starts = λ i p is. (starts_of None xs i p w is).0; rise = λ i p q is then_. rise_of None xs i p q w is then_; rates =
-    λ i p is. (starts_of None xs i p w is).1 }
+    record {
+      starts = λ i p is. (starts_of None xs i p w is).0;
+      rise = λ i p q is then_. rise_of None xs i p q w is then_;
+      rates =
+          λ i p is. (starts_of None xs i p w is).1;
+    }
 
 after_it : (piece : Piece) (before : Option Piece) → is_not_after piece.start before ≡ false → After before piece
 after_it piece None e = tt

@@ -53,7 +53,7 @@ head_read n horizon reached stop rest last h r c p q s t more = (
       ap (λ o. or_rule P8 o >>= λ reached. if lt_ℚ reached 0ℚ || lt_ℚ horizon reached then Err P10 else Ok
           (record (empty_report n) { stage = AtCause; horizon = horizon; reached = reached })) (number_back reached r)
           ∙ (λ i. if test_of_not_less reached 0ℚ q i || test_of_not_less horizon reached s i then Err P10 else Ok
-              (record (empty_report n) { stage = AtCause; horizon = horizon; reached = reached })),
+          (record (empty_report n) { stage = AtCause; horizon = horizon; reached = reached })),
       (
         after_head n horizon reached stop,
         ap (λ o. o >>= λ stop. if are_alike (is_none stop) (is_same reached horizon) then Ok (after_head n horizon reached stop) else Err P10) (cause_back stop c)
@@ -108,7 +108,7 @@ state_within (s ∷ pattern) (suc e) state h = let k : e < length pattern = stat
 
 allowed_state : (links : List Link) (pattern : Pattern) (e : ℕ) (state : State) → length pattern ≡ length links
     → ((e : ℕ) (link : Link) → slice_get links e ≡ Some link → link.capacity ≡ None → ¬ HasState pattern e Full) → HasState pattern e state
-        → state_of_link (capacity_at links e) state ≡ Ok state
+    → state_of_link (capacity_at links e) state ≡ Ok state
 allowed_state links pattern e state c no_full h =
     let within : e < length pattern = state_within pattern e state h in
     let w = entry links e (omega arith) in
@@ -163,31 +163,61 @@ module _ (n : Named) (report : Report) (named : IsNamed n) (h : IsFit n report) 
 
   pub record IsReadUp (last : ReportDraft) : Type 0 where
     pub k : ℕ
-    pub is : last ≡ record { stage = AtEnd; horizon = report.horizon; reached = report.flow.reached; stop = report.stop; done = curves; current =
-        None; keys = []; next_state = k; states = report.last }
+    pub is : last ≡ record {
+      stage = AtEnd;
+      horizon = report.horizon;
+      reached = report.flow.reached;
+      stop = report.stop;
+      done = curves;
+      current =
+          None;
+      keys = [];
+      next_state = k;
+      states = report.last;
+    }
     pub reads : Reads n (empty_report n) all_lines None last
 
   read_up : (last : ReportDraft) × IsReadUp last
   read_up =
       let end_line = Some (codes "end" ∷ []) in
       let c = curves_read n start curves [] None None (next_of (state_lines_of n.link_names report.last) end_line) (curves_are n report.flow h.flow)
-          (curves_allowed n report.flow named) (λ key d. tt)
+      (curves_allowed n report.flow named) (λ key d. tt)
       (subst (Adjacent None) (sym (keys_from n report.flow h.flow)) (keys_adjacent n named)) (states_behind n.link_names report.last) in
       let s = states_read n report.horizon report.flow.reached report.stop [] n.link_names [] report.last c.0 c.1 0 end_line refl
       (distinct_left n.link_names (names_of n.idle_links) named.link_names.distinct) refl same_count (omega arith)
       (λ e state has. allowed_state n.net.links report.last e state h.states h.no_full has) in
-      let last : ReportDraft = record { stage = AtEnd; horizon = report.horizon; reached = report.flow.reached; stop = report.stop; done =
-          with_current s.last_done s.last; current = None; keys = []; next_state = s.last_state; states = report.last } in
+      let last : ReportDraft = record {
+        stage = AtEnd;
+        horizon = report.horizon;
+        reached = report.flow.reached;
+        stop = report.stop;
+        done =
+            with_current s.last_done s.last;
+        current = None;
+        keys = [];
+        next_state = s.last_state;
+        states = report.last;
+      } in
       let middle = in_states n report.horizon report.flow.reached report.stop s.last_done s.last s.last_state report.last in
       let curves_lines = reads-append n start (in_body n start c.0 c.1 []) middle (flat_map curve_lines curves) (state_lines_of n.link_names report.last) end_line
       (subst (λ (keys : List CurveKey). Reads n (in_body n start [] None keys) (flat_map curve_lines curves)
-          (next_of (state_lines_of n.link_names report.last) end_line) (in_body n start c.0 c.1 [])) (keys_from n report.flow h.flow) c.3) s.reads in
+      (next_of (state_lines_of n.link_names report.last) end_line) (in_body n start c.0 c.1 [])) (keys_from n report.flow h.flow) c.3) s.reads in
       let body = reads-append n start middle last (flat_map curve_lines curves ++ state_lines_of n.link_names report.last) end_lines None curves_lines (last, refl, refl) in (
         last,
         record {
           k = s.last_state;
-          is = ap (λ (done : List ReadCurve). record { stage = AtEnd; horizon = report.horizon; reached = report.flow.reached; stop = report.stop; done =
-              done; current = None; keys = []; next_state = s.last_state; states = report.last }) (s.same ∙ c.2);
+          is = ap (λ (done : List ReadCurve). record {
+            stage = AtEnd;
+            horizon = report.horizon;
+            reached = report.flow.reached;
+            stop = report.stop;
+            done =
+                done;
+            current = None;
+            keys = [];
+            next_state = s.last_state;
+            states = report.last;
+          }) (s.same ∙ c.2);
           reads = head_read n report.horizon report.flow.reached report.stop
               (flat_map curve_lines curves ++ state_lines_of n.link_names report.last ++ end_lines) last h.horizon h.reached h.stop
               (≤ℚ_trans 0ℚ report.flow.reached report.horizon h.starts h.ends) h.starts h.ends h.stops body;
@@ -197,24 +227,45 @@ module _ (n : Named) (report : Report) (named : IsNamed n) (h : IsFit n report) 
   lines_short : AllByRecursion IsShortLine all_lines
   lines_short =
       head_short n.version report.horizon report.flow.reached report.stop (flat_map curve_lines curves ++ state_lines_of n.link_names
-          report.last ++ end_lines) version h.horizon h.reached h.stop
+      report.last ++ end_lines) version h.horizon h.reached h.stop
       (every_append IsShortLine (flat_map curve_lines curves ++ state_lines_of n.link_names report.last) end_lines
       (every_append IsShortLine (flat_map curve_lines curves) (state_lines_of n.link_names report.last)
       (curves_short curves (curves_are n report.flow h.flow) (all-of-map IsNamedKey (λ curve. curve.key) curves
-          (subst (AllByRecursion IsNamedKey) (sym (keys_from n report.flow h.flow)) (keys_named n named))))
+      (subst (AllByRecursion IsNamedKey) (sym (keys_from n report.flow h.flow)) (keys_named n named))))
       (states_short n.link_names report.last (all_left (λ name. is_name name ≡ true) n.link_names (names_of n.idle_links)
-          (names_are (n.link_names ++ names_of n.idle_links) named.link_names.each))))
+      (names_are (n.link_names ++ names_of n.idle_links) named.link_names.each))))
       end_short)
     where
       version : IsCount n.version
       version = ⊎_elim (λ (e : n.version ≡ 1). subst IsCount (sym e) (lit< tt)) (λ (e : n.version ≡ 2). subst IsCount (sym e) (lit< tt)) named.version
 
-  draft_is_report : (k : ℕ) → report_of_draft (record { stage = AtEnd; horizon = report.horizon; reached = report.flow.reached; stop = report.stop; done =
-      curves; current = None; keys = []; next_state = k; states = report.last }) ≡ report
+  draft_is_report : (k : ℕ) → report_of_draft (record {
+    stage = AtEnd;
+    horizon = report.horizon;
+    reached = report.flow.reached;
+    stop = report.stop;
+    done =
+        curves;
+    current = None;
+    keys = [];
+    next_state = k;
+    states = report.last;
+  }) ≡ report
   draft_is_report k =
       let g = gives_flow n report.flow h.flow in
-      λ i. record { horizon = report.horizon; flow = record { reached = report.flow.reached; labels = g.labels i; inflows = g.inflows i; outflows =
-          g.outflows i; queues = g.queues i }; stop = report.stop; last = report.last }
+      λ i. record {
+        horizon = report.horizon;
+        flow = record {
+          reached = report.flow.reached;
+          labels = g.labels i;
+          inflows = g.inflows i;
+          outflows =
+              g.outflows i;
+          queues = g.queues i;
+        };
+        stop = report.stop;
+        last = report.last;
+      }
 
   text_of_lines : report_in n (flat_map line_of_words all_lines) ≡ Ok report
   unfolding report_in
@@ -222,7 +273,7 @@ module _ (n : Named) (report : Report) (named : IsNamed n) (h : IsFit n report) 
       let w = read_up in
       let read = lines_read n (empty_report n) w.0 1 all_lines w.1.reads in
       ap (λ fault. report_by_bytes fault (report_draft n (read_lines (flat_map line_of_words all_lines)) >>= λ draft. if_at_end draft.stage draft))
-          (no_fault_from 1 all_lines (are_words all_lines lines_short) (are_short all_lines lines_short))
+      (no_fault_from 1 all_lines (are_words all_lines lines_short) (are_short all_lines lines_short))
       ∙ ap (λ lines. report_draft n lines >>= λ draft. if_at_end draft.stage draft) (plain_lines_from 1 all_lines (are_words all_lines lines_short))
       ∙ ap (λ r. r >>= λ draft. if_at_end draft.stage draft) read
       ∙ ap (λ draft. if_at_end draft.stage draft) w.1.is

@@ -17,9 +17,10 @@ all_points (points ∷ curves) each h = ((each 0 (omega arith), h.0), all_points
 all_traces : (traces : List Trace) → ((i : ℕ) → i < length traces → IsCurve (points_at (points_of traces) i)) → HaveRates traces
     → AllByRecursion IsFractionTrace traces → AllByRecursion IsReadTrace traces
 all_traces [] each rates h = tt
-all_traces (t ∷ traces) each rates h =
-    (record { curve = each 0 (omega arith); points = h.0.0; rates = h.0.1; count = rates 0 t refl },
-        all_traces traces (λ i low. each (suc i) (omega arith)) (λ e trace is. rates (suc e) trace is) h.1)
+all_traces (t ∷ traces) each rates h = (
+  record { curve = each 0 (omega arith); points = h.0.0; rates = h.0.1; count = rates 0 t refl },
+  all_traces traces (λ i low. each (suc i) (omega arith)) (λ e trace is. rates (suc e) trace is) h.1,
+)
 
 pub fit : (n : Named) (report : Report) → IsNamed n → IsWellFormed n.net report → IsReadable report → IsFit n report
 fit n report named h r =

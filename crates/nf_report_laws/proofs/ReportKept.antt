@@ -62,7 +62,7 @@ Accepted n text report = IsWellFormed n.net report × IsReadable report × (text
 
 module _ (n : Named) (named : IsNamed n) (text : List ℕ) (last : ReportDraft) (head : HeadIs n (words_of (lines text)) last)
     (done : Finished n (after_head n head.horizon head.reached head.stop) last head.rest) (curves : AreOfFlow n last.reached last.done)
-        (whole : flat_map line_of_words (words_of (lines text)) ≡ text) where
+    (whole : flat_map line_of_words (words_of (lines text)) ≡ text) where
   abbrev found : Report
   found = record { horizon = head.horizon; flow = curves.flow; stop = head.stop; last = last.states }
 

@@ -38,8 +38,16 @@ the_labels (name ∷ names) rest (c ∷ cs) e h =
     let f = first_is c cs (key_of OfLabel name) (map (key_of OfLabel) names ++ rest) e in
     let k = of_kind OfLabel name c f.0 h.0 in
     let w = the_labels names rest cs f.1 h.1 in
-    record { labels = c.points ∷ w.labels; others = w.others; is = (λ i. plain_is OfLabel name c f.0 k.1 i ∷ w.is i); count = ap suc w.count; read =
-        (k.0, w.read); others_read = w.others_read; keys = w.keys }
+    record {
+      labels = c.points ∷ w.labels;
+      others = w.others;
+      is = (λ i. plain_is OfLabel name c f.0 k.1 i ∷ w.is i);
+      count = ap suc w.count;
+      read =
+          (k.0, w.read);
+      others_read = w.others_read;
+      keys = w.keys;
+    }
 
 -- ---- idle nodes
 record Nevers (names : List Name) (rest : List CurveKey) (cs : List ReadCurve) : Type 0 where
@@ -76,8 +84,19 @@ no_more (c ∷ cs) e = absurd (none_there c.key (keys_of cs) (sym e))
 
 the_links : (names : List Name) (cs : List ReadCurve) → keys_of cs ≡ link_keys names → AllByRecursion IsRead cs → Links names cs
 the_links [] cs e h =
-    record { inflows = []; outflows = []; queues = []; is = no_more cs e; inflow_count = refl; outflow_count = refl; queue_count = refl; inflows_read =
-    tt; outflows_read = tt; queues_read = tt }
+    record {
+      inflows = [];
+      outflows = [];
+      queues = [];
+      is = no_more cs e;
+      inflow_count = refl;
+      outflow_count = refl;
+      queue_count = refl;
+      inflows_read =
+          tt;
+      outflows_read = tt;
+      queues_read = tt;
+    }
 the_links (name ∷ names) [] e h = absurd (none_there _ _ e)
 the_links (name ∷ names) (a ∷ []) e h = absurd (none_there _ _ (first_is a [] _ _ e).1)
 the_links (name ∷ names) (a ∷ b ∷ []) e h = absurd (none_there _ _ (first_is b [] _ _ (first_is a (b ∷ []) _ _ e).1).1)

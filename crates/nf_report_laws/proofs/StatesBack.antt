@@ -77,10 +77,10 @@ module _ (n : Named) (horizon reached : ℚ) (stop : Option (Cause ℚ)) where
       let long : length (front ++ None ∷ []) ≡ length front + 1 = length-append front (None ∷ []) in
       let names_long : length (names_front ++ name ∷ []) ≡ length names_front + 1 = length-append names_front (name ∷ []) in
       let w = states_read (names_front ++ name ∷ []) names (front ++ None ∷ []) pattern done current k after
-          (e ∙ sym (append_assoc names_front (name ∷ []) names)) d (omega arith) (omega arith) (omega arith)
+      (e ∙ sym (append_assoc names_front (name ∷ []) names)) d (omega arith) (omega arith) (omega arith)
       (subst (λ (p : Pattern). (e : ℕ) (state : State) → HasState p e state → state_of_link (capacity_at n.net.links e) state ≡ Ok state) (sym more) allowed) in
       subst (λ (p : Pattern). AfterStates done current k p (state_lines_of names pattern) after (front ++ None ∷ pattern))
-          (append_assoc front (None ∷ []) (replicate (length names) None))
+      (append_assoc front (None ∷ []) (replicate (length names) None))
       (subst (λ (p : Pattern). AfterStates done current k (front ++ None ∷ [] ++ replicate (length names) None) (state_lines_of names pattern) after p) more w)
   states_read names_front (name ∷ names) front (Some state ∷ pattern) done current k after e d c f low allowed =
       let more = append_assoc front (Some state ∷ []) pattern in
@@ -88,7 +88,7 @@ module _ (n : Named) (horizon reached : ℚ) (stop : Option (Cause ℚ)) where
       let long : length (front ++ Some state ∷ []) ≡ length front + 1 = length-append front (Some state ∷ []) in
       let names_long : length (names_front ++ name ∷ []) ≡ length names_front + 1 = length-append names_front (name ∷ []) in
       let w = states_read (names_front ++ name ∷ []) names (front ++ Some state ∷ []) pattern (with_current done current) None (suc place) after
-          (e ∙ sym (append_assoc names_front (name ∷ []) names)) d (omega arith) (omega arith) (omega arith)
+      (e ∙ sym (append_assoc names_front (name ∷ []) names)) d (omega arith) (omega arith) (omega arith)
       (subst (λ (p : Pattern). (e : ℕ) (state : State) → HasState p e state → state_of_link (capacity_at n.net.links e) state ≡ Ok state) (sym more) allowed) in
       let here = place_front names_front name names (subst (IsDistinct bytes_eq) e d) in
       let at : place_of n.link_names name ≡ place = ap (λ names. place_of names name) e ∙ here ∙ sym c in

@@ -142,12 +142,22 @@ module _ (n : Named) (draft : ReportDraft) (words : List (List ℕ)) (name word 
       ∙ goes_wrong (or_rule P9 (state_in word)) (state_of_link (capacity_at n.net.links link)) (put link) rule e
 
   pub state_out : (state : State) (b : Bool) → state_read (capacity_at n.net.links link) word ≡ Ok state → has_all draft.keys ≡ b
-      → state_line n draft (drop 1 words) ≡ (if b then Ok (record draft { done = with_current draft.done draft.current; current = None; next_state =
-          suc link; states = set draft.states link (Some state) }) else Err P13)
+      → state_line n draft (drop 1 words) ≡ (if b then Ok (record draft {
+        done = with_current draft.done draft.current;
+        current = None;
+        next_state =
+            suc link;
+        states = set draft.states link (Some state);
+      }) else Err P13)
   state_out state b e eb =
       ap (state_line n draft) is
       ∙ (λ i. by_link (named.there i) (named.is_place i) (nat_lt (named.is_place i) draft.next_state))
       ∙ ap (by_link true link) (le-ltb link draft.next_state late)
       ∙ goes_on (or_rule P9 (state_in word)) (state_of_link (capacity_at n.net.links link)) (put link) state e
-      ∙ ap (λ (b : Bool). if b then Ok (record draft { done = with_current draft.done draft.current; current = None; next_state = suc link; states =
-          set draft.states link (Some state) }) else Err P13) eb
+      ∙ ap (λ (b : Bool). if b then Ok (record draft {
+        done = with_current draft.done draft.current;
+        current = None;
+        next_state = suc link;
+        states =
+            set draft.states link (Some state);
+      }) else Err P13) eb

@@ -96,8 +96,11 @@ module _ (n : Named) (d : Draft) where
   closed_is curves current trace whole some none points rates e =
       let len : length curves ≡ length d.done.items + 1 = ap (λ (l : List (Option Trace)). length l) e ∙ length-append d.done.items (Some whole ∷ []) in
       (λ i. seen_with n d (e i) (none i))
-      ∙ (λ i. record (seen_with n d (d.done.items ++ Some whole ∷ []) None) { done = pushed n d.done.items (Some whole) i; keys =
-          drop ((sym (ap (λ (l : List (Option Trace)). length l) e) ∙ len) i) (curve_keys n) })
+      ∙ (λ i. record (seen_with n d (d.done.items ++ Some whole ∷ []) None) {
+        done = pushed n d.done.items (Some whole) i;
+        keys =
+            drop ((sym (ap (λ (l : List (Option Trace)). length l) e) ∙ len) i) (curve_keys n);
+      })
       ∙ (λ i. record (closed (seen_with n d d.done.items (Some trace))) {
         done = seen_done n 0 d.done.items ++ record { key = key_at n (length d.done.items); points = points i; rates = rates i } ∷ [];
       })
@@ -129,8 +132,11 @@ module _ (n : Named) (d : Draft) where
     never_is curves e =
         let len : length curves ≡ begun_count d + 1 = ap (λ (l : List (Option Trace)). length l) e ∙ length-append next.done.items (None ∷ []) ∙ ap (λ (k : ℕ). k + 1) many in
         (λ i. seen_with n next curves (none i))
-        ∙ (λ i. record (seen_with n next curves None) { done = (ap (λ (l : List (Option Trace)). seen_done n 0 l) e ∙ pushed n next.done.items None)
-            i; keys = drop (len i) (curve_keys n) })
+        ∙ (λ i. record (seen_with n next curves None) {
+          done = (ap (λ (l : List (Option Trace)). seen_done n 0 l) e ∙ pushed n next.done.items None)
+              i;
+          keys = drop (len i) (curve_keys n);
+        })
         ∙ ap (λ (r : ReportDraft). record r {
           done = r.done ++ seen_curve (key_at n (length next.done.items)) None ∷ [];
           current = None;

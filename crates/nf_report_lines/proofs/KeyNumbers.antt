@@ -24,7 +24,7 @@ pub length_curve_keys : (n : Named) → length (curve_keys n) ≡ length n.node_
 length_curve_keys n =
     let a : length (curve_keys n) ≡ length (before_links n) + length (link_keys n.link_names) = length-append (before_links n) (link_keys n.link_names) in
     let b : length (before_links n) ≡ length (map (key_of lines.OfLabel) n.node_names) + length (map (key_of lines.OfNever) n.idle_nodes) =
-        length-append (map (key_of lines.OfLabel) n.node_names) (map (key_of lines.OfNever) n.idle_nodes) in
+    length-append (map (key_of lines.OfLabel) n.node_names) (map (key_of lines.OfNever) n.idle_nodes) in
     let d : length (map (key_of lines.OfLabel) n.node_names) ≡ length n.node_names = length-map n.node_names (key_of lines.OfLabel) in
     let e : length (map (key_of lines.OfNever) n.idle_nodes) ≡ length n.idle_nodes = length-map n.idle_nodes (key_of lines.OfNever) in
     let f = length_link_keys n.link_names in

@@ -82,7 +82,7 @@ offer_betters so_far base v way h good w other is = by_node (good w other is) (e
         let there : known_at so_far v ≡ Some g.0 = ap (λ (u : ℕ). known_at so_far u) (sym k.1) ∙ g.1 in
         let made : known_at (offered so_far v way) w ≡ Some (better_of (Some g.0) way) =
         ap (λ (u : ℕ). known_at (offered so_far v way) u) k.1 ∙ set_here so_far v (Some (better_of (known_at so_far v) way)) h
-            ∙ ap (λ (o : Option Reach). Some (better_of o way)) there in
+        ∙ ap (λ (o : Option Reach). Some (better_of o way)) there in
         (better_of (Some g.0) way, made, IsAtMost-trans (better_of (Some g.0) way) g.0 other (better_than g.0 way) g.2)
     by_node g (inr k) = (g.0, set_elsewhere so_far v w (Some (better_of (known_at so_far v) way)) k.1 ∙ g.1, g.2)
 
@@ -173,7 +173,7 @@ module _ (passes : Passing) (before : Known) where
       let same : first ≡ leg = cc in
       subst (λ (l : Leg). goes next l ≡ Ok next) same
       (fold_keeps legs b.0 next (λ j more at. subst (λ (n : ℕ). more.end < n) (sym long) (ends (suc j) more at)) b.2 first
-          (subst (λ (n : ℕ). first.end < n) (sym long) (ends zero first refl))
+      (subst (λ (n : ℕ). first.end < n) (sym long) (ends zero first refl))
       (settled_here passes before first so_far b.0 (ends zero first refl) b.1))
   fold_settles (first ∷ legs) so_far next ends e (suc j) leg is =
       let b = bind_ok (goes so_far first) (λ mid. fold_checked goes mid legs) next e in

@@ -142,7 +142,7 @@ module _ (nodes : ℕ) (legs : List Leg) where
               subst (λ (l : Leg). IsNextOut legs l.begin (j + 1) (get_or new_next j 0)) same
               (subst (λ (i : ℕ). IsNextOut legs leg.begin (j + 1) i)
               (sym (ap (λ (l : List ℕ). get_or l j 0) n ∙ ap (λ (i : ℕ). get_or (set next k (get_or first leg.begin 0)) i 0) w.1
-                  ∙ get_or-set_same next k (get_or first leg.begin 0) 0 long))
+              ∙ get_or-set_same next k (get_or first leg.begin 0) 0 long))
               (subst (λ (i : ℕ). IsNextOut legs leg.begin (i + 1) (get_or first leg.begin 0)) (sym w.1) (later leg.begin inside)))
           by_arc j other there h (inr w) = subst (λ (i : ℕ). IsNextOut legs other.begin (j + 1) i)
               (sym (ap (λ (l : List ℕ). get_or l j 0) n ∙ get_or-set_other next k j (get_or first leg.begin 0) 0 w.1))

@@ -43,6 +43,6 @@ pub pushed_sound : (passes : Passing) (net : Network) (flows new old : List ℚ)
 pushed_sound passes net flows new old walk steps amount good sound shortest some within same along e =
     let p : IsPush net flows new walk.steps amount = IsPush-list passes net flows new walk amount good sound shortest some within
     (as_list passes amount flows walk.steps ∙ ap (λ (l : List ℚ). fold_checked (push_step passes amount) l walk.steps) (sym same)
-        ∙ ap (λ (s : List Step). fold_checked (push_step passes amount) old s) (sym along)
+    ∙ ap (λ (s : List Step). fold_checked (push_step passes amount) old s) (sym along)
     ∙ ok_of_part Part.Quick (fold_checked (push_step passes amount) old steps) new e) in
     IsSound-pushed net flows new walk.steps amount good p.sound p.each p.first p.some p.room p.pushed

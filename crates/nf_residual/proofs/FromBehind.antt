@@ -103,7 +103,7 @@ module _ (tree : List Twig) (way : ℕ) (step : Step) (other : ℕ) where
     same =
         let all : count - 0 ≡ count = omega arith in
         let lengths : length (steps_back count tree way) ≡ length (steps_back count tree (twig_at tree other).before) = steps_are count tree way
-            ∙ sym (steps_are count tree (twig_at tree other).before) in
+        ∙ sym (steps_are count tree (twig_at tree other).before) in
         before_is ((way_at tree way).steps ++ step ∷ []) (way_at tree other).steps
         ∙ ap (λ (n : ℕ). before_then (steps_back count tree way ++ step ∷ []) (steps_back n tree other) false) counts
         ∙ before_last (steps_back count tree way) (steps_back count tree (twig_at tree other).before) step (twig_at tree other).last false lengths
@@ -125,7 +125,7 @@ module _ (tree : List Twig) (way : ℕ) (step : Step) (other : ℕ) where
           on.same
           ∙ ap (λ (n : ℕ). before_then (steps_back n tree here) (steps_back n tree there) decided) one
           ∙ before_last (steps_back (count - (k + 1)) tree (twig_at tree here).before) (steps_back (count - (k + 1)) tree (twig_at tree there).before)
-              (twig_at tree here).last (twig_at tree there).last decided lengths
+          (twig_at tree here).last (twig_at tree there).last decided lengths
           ∙ ap (λ (t : Bool). before_then (steps_back (count - (k + 1)) tree (twig_at tree here).before) (steps_back (count - (k + 1)) tree (twig_at tree there).before) t) (sym is)
           ∙ ap (λ (i : ℕ). before_then (steps_back (count - (k + 1)) tree i) (steps_back (count - (k + 1)) tree (twig_at tree there).before) next) (sym e)
           ∙ ap (λ (i : ℕ). before_then (steps_back (count - (k + 1)) tree left) (steps_back (count - (k + 1)) tree i) next) (sym f);

@@ -33,15 +33,20 @@ module _ (passes : Passing) (flows : List ℚ) (before : Known) where
   -- One step, and then the others.
   abbrev leg_if : Bool → Bool → ℕ → Link → List Leg
   leg_if can forward e link =
-      if can then record { step = record { link = e; forward = forward }; begin = begin_of forward link; end = end_of forward link; transit =
-      link.transit } ∷ [] else []
+      if can then record {
+        step = record { link = e; forward = forward };
+        begin = begin_of forward link;
+        end = end_of forward link;
+        transit =
+            link.transit;
+      } ∷ [] else []
 
   one_step : (can forward : Bool) (e : ℕ) (link : Link) (so_far : Known) (legs : List Leg) (rest : Known → Checked Known) → ((next : Known) → fold_checked goes next legs ≡ rest next)
       → fold_checked goes so_far (leg_if can forward e link ++ legs) ≡ (along passes can (known_at before (begin_of forward link))
-          (record { link = e; forward = forward }) link.transit (end_of forward link) so_far >>= rest)
+      (record { link = e; forward = forward }) link.transit (end_of forward link) so_far >>= rest)
   one_step true forward e link so_far legs rest h =
       bind_same (along passes true (known_at before (begin_of forward link)) (record { link = e; forward = forward }) link.transit
-          (end_of forward link) so_far) (λ next. fold_checked goes next legs) rest h
+      (end_of forward link) so_far) (λ next. fold_checked goes next legs) rest h
   one_step false forward e link so_far legs rest h = h so_far
 
   as_steps : (e : ℕ) (links : List Link) (so_far : Known) → fold_checked goes so_far (legs_from e links flows) ≡ fold_checked steps so_far (steps_from e links)
@@ -51,7 +56,7 @@ module _ (passes : Passing) (flows : List ℚ) (before : Known) where
       ∙ one_step (can_go true link.capacity (number_at flows e)) true e link so_far (leg_of false e link (number_at flows e) ++ legs_from (suc e) links flows)
       (λ mid. fold_checked steps mid ((record { link = e; forward = false }, link) ∷ steps_from (suc e) links))
       (λ mid. one_step (can_go false link.capacity (number_at flows e)) false e link mid (legs_from (suc e) links flows)
-          (λ next. fold_checked steps next (steps_from (suc e) links)) (λ next. as_steps (suc e) links next))
+      (λ next. fold_checked steps next (steps_from (suc e) links)) (λ next. as_steps (suc e) links next))
 
   pub round_along : (links : List Link) (legs : List Leg) → legs ≡ legs_from 0 links flows → round_list passes links flows before ≡ fold_checked (along_leg passes before) before legs
   unfolding round_list
@@ -78,8 +83,13 @@ one_led nodes true forward e link t h = λ k leg f. by_place k leg f
     same : (x y : Leg) → Some x ≡ Some y → x ≡ y
     same x y e = cc
 
-    by_place : (k : ℕ) (leg : Leg) → slice_get (record { step = record { link = e; forward = forward }; begin = begin_of forward link; end =
-        end_of forward link; transit = link.transit } ∷ []) k ≡ Some leg
+    by_place : (k : ℕ) (leg : Leg) → slice_get (record {
+      step = record { link = e; forward = forward };
+      begin = begin_of forward link;
+      end =
+          end_of forward link;
+      transit = link.transit;
+    } ∷ []) k ≡ Some leg
         → (leg.begin < nodes) × (leg.end < nodes)
     by_place zero leg f = subst (λ (l : Leg). (l.begin < nodes) × (l.end < nodes)) (same _ _ f) (ends forward)
     by_place (suc k) leg f = absurd (cc)
@@ -115,10 +125,10 @@ module _ (links : List Link) (flows : List ℚ) where
     legs_more link is flow at mid next m n = record {
       same =
           let rest : drop e links ≡ link ∷ drop (e + 1) links = drop_more links e link (slice_get_within links e link is)
-              ∙ ap (λ (l : Link). l ∷ drop (e + 1) links) (get_or_from_slice_get links e link link is) in
+          ∙ ap (λ (l : Link). l ∷ drop (e + 1) links) (get_or_from_slice_get links e link link is) in
           ap (λ (i : ℕ). next ++ legs_from i (drop (e + 1) links) flows) (add-one e)
           ∙ ap (λ (l : List Leg). l ++ legs_from (suc e) (drop (e + 1) links) flows)
-              (n ∙ ap (λ (l : List Leg). l ++ leg_of false e link flow) m ∙ append_assoc legs (leg_of true e link flow) (leg_of false e link flow))
+          (n ∙ ap (λ (l : List Leg). l ++ leg_of false e link flow) m ∙ append_assoc legs (leg_of true e link flow) (leg_of false e link flow))
           ∙ append_assoc legs (leg_of true e link flow ++ leg_of false e link flow) (legs_from (suc e) (drop (e + 1) links) flows)
           ∙ ap (λ (x : ℚ). legs ++ ((leg_of true e link x ++ leg_of false e link x) ++ legs_from (suc e) (drop (e + 1) links) flows)) at
           ∙ ap (λ (l : List Link). legs ++ legs_from e l flows) (sym rest)

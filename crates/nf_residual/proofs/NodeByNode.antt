@@ -89,7 +89,7 @@ module _ (passes : Passing) (legs : List Leg) (node way : ℕ) (old : List Twig)
 
           remaining : (seen : Known) → known_at seen node ≡ Some (way_at old way)
               → fold_checked (along_leg passes seen) (known_by new next) (legs_out node (drop after legs)) ≡ fold_checked (along_leg passes seen)
-                  (known_by tree places) (legs_out node (drop arc legs))
+              (known_by tree places) (legs_out node (drop arc legs))
           remaining seen at =
               sym (ap (λ (l : List Leg). fold_checked (along_leg passes seen) (known_by tree places) l) out_is
               ∙ fold_ok (along_leg passes seen) (known_by tree places) leg (legs_out node (drop after legs)) (known_by new next) (gone seen at))

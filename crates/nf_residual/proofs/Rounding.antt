@@ -208,7 +208,7 @@ module _ (passes : Passing) (legs : List Leg) (fresh : ℕ) (old : List Twig) (b
             → along_leg passes (known_by tree before) (known_by tree places) leg ≡ along passes true (option_map (way_at tree) o) leg.step leg.transit leg.end (known_by tree places)
         after_way o at =
             ap (λ (r : Option Reach). along passes true r leg.step leg.transit leg.end (known_by tree places))
-                (known_at-by tree before leg.begin ∙ ap (λ (p : Option ℕ). option_map (way_at tree) p) at)
+            (known_at-by tree before leg.begin ∙ ap (λ (p : Option ℕ). option_map (way_at tree) p) at)
 
         module _ (way : ℕ) (at : place_at before leg.begin ≡ Some way) where
           abbrev offers : Checked Known
@@ -279,7 +279,7 @@ module _ (passes : Passing) (net : Network) (flows : List ℚ) (from : ℕ) wher
         pub rounds_still : next ≡ seen → at_part Part.Quick (reaches_list passes net flows from) ≡ Ok known
         rounds_still e =
             let fixed : round_list passes net.links flows known ≡ Ok known = ap (λ (x : Known). round_list passes net.links flows x) (sym is)
-                ∙ ok_of_part one_round next came ∙ ap Ok (e ∙ is) in
+            ∙ ok_of_part one_round next came ∙ ap Ok (e ∙ is) in
             ap (at_part Part.Quick) (sym on.same ∙ still known fixed (net.nodes - k))
 
 -- ---- with the arcs and the known paths
@@ -371,7 +371,7 @@ module _ (passes : Passing) (net : Network) (flows : List ℚ) (from : ℕ) (leg
             let same : next ≡ before = grows.same e in
             let kept : known_by new before ≡ known_by tree before = known_grown tree new before next grows on.good within_before in
             rounds_still passes net flows from (known_by tree places) k on.rounds b (known_by tree before) known_seen (known_by new next) came_whole
-                (ap (λ (p : Places). known_by new p) same ∙ kept)
+            (ap (λ (p : Places). known_by new p) same ∙ kept)
             ∙ ap Ok (sym (f ∙ ap (λ (p : Places). known_by new p) (sym seen) ∙ kept ∙ known_seen))
 
         pub within_still : ArePathsBelow (length new) places

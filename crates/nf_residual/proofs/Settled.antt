@@ -111,7 +111,7 @@ lost_there known v way h e =
 lost_by : (known : Known) (v : ℕ) (way old : Reach) → v < length known → known_at known v ≡ Some old → better_of (Some old) way ≡ old → offered known v way ≡ known
 lost_by known v way old h at e =
     ap (λ (o : Option Reach). set known v (Some (better_of o way))) at ∙ ap (λ (r : Reach). set known v (Some r)) e
-        ∙ ap (λ (o : Option Reach). set known v o) (sym at) ∙ same_set known v h
+    ∙ ap (λ (o : Option Reach). set known v o) (sym at) ∙ same_set known v h
 
 offered_again : (known : Known) (v : ℕ) (way : Reach) → v < length known → offered (offered known v way) v way ≡ offered known v way
 offered_again known v way h =
@@ -132,7 +132,7 @@ offered_then known v w way other h e =
     by_node inside old at lost (inl k) =
         let here : known_at (offered known w other) v ≡ Some (better_of (Some old) other) =
         ap (λ (u : ℕ). known_at (offered known u other) v) (sym k.1) ∙ set_here known v (Some (better_of (known_at known v) other)) h
-            ∙ ap (λ (o : Option Reach). Some (better_of o other)) at in
+        ∙ ap (λ (o : Option Reach). Some (better_of o other)) at in
         lost_by (offered known w other) v way (better_of (Some old) other) inside here (lost_still old way other lost)
     by_node inside old at lost (inr k) = lost_by (offered known w other) v way old inside (set_elsewhere known w v _ k.1 ∙ at) lost
 
@@ -147,7 +147,7 @@ module _ (passes : Passing) (before : Known) (leg : Leg) where
 
   pub gives : (o : Option Reach) (so_far next : Known) → from_known o so_far ≡ Ok next
       → ((later : Known) → from_known o later ≡ Ok later) ⊎ ((way : Reach) × (next ≡ offered so_far leg.end way)
-          × ((later : Known) → from_known o later ≡ Ok (offered later leg.end way)))
+      × ((later : Known) → from_known o later ≡ Ok (offered later leg.end way)))
   gives None so_far next e = inl (λ later. refl)
   gives (Some way) so_far next e =
       let b = bound (checked passes (op_of leg.step.forward) way.distance leg.transit) (λ d. offered so_far leg.end (extended_by way leg.step d)) next e in

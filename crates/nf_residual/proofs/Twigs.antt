@@ -50,9 +50,12 @@ pub way_added : (tree : List Twig) (way : ℕ) (step : Step) (distance : ℚ) �
     → way_at (tree ++ twig_after tree way step distance ∷ []) (length tree) ≡ extended_by (way_at tree way) step distance
 way_added tree way step distance good h =
     ap (λ (t : Twig). record { distance = t.distance; steps = steps_back t.count (tree ++ twig_after tree way step distance ∷ []) (length tree) })
-        (last_twig tree (twig_after tree way step distance))
-    ∙ ap (λ (t : Twig). record { distance = distance; steps = steps_back (twig_at tree way).count
-        (tree ++ twig_after tree way step distance ∷ []) t.before ++ t.last ∷ [] }) (last_twig tree (twig_after tree way step distance))
+    (last_twig tree (twig_after tree way step distance))
+    ∙ ap (λ (t : Twig). record {
+      distance = distance;
+      steps = steps_back (twig_at tree way).count
+          (tree ++ twig_after tree way step distance ∷ []) t.before ++ t.last ∷ [];
+    }) (last_twig tree (twig_after tree way step distance))
     ∙ ap (λ (s : List Step). record { distance = distance; steps = s ++ step ∷ [] }) (steps_kept tree (twig_after tree way step distance ∷ []) good (twig_at tree way).count way h)
 
 -- ---- the extended list is a tree
@@ -113,7 +116,7 @@ pub IsTree-pushed : (tree new : List Twig) (way n : ℕ) (step : Step) (distance
 IsTree-pushed tree new way n step distance good h e made =
     let count : n + 1 ≡ suc (twig_at tree way).count = omega arith in
     subst (λ (t : List Twig). IsPathTree t) (sym (made ∙ ap (λ (k : ℕ). tree ++ record { distance = distance; count = k; last = step; before = way } ∷ [])
-        count)) (IsTree-added tree good way step distance h)
+    count)) (IsTree-added tree good way step distance h)
 
 pub before_within : (tree : List Twig) (way : ℕ) → IsPathTree tree → way < length tree → (twig_at tree way).before < length tree
 before_within tree way good h = let earlier : (twig_at tree way).before ≤ way = good.earlier way in omega arith
@@ -151,7 +154,7 @@ module _ (tree : List Twig) (way : ℕ) where
           let one : (twig_at tree way).count - k ≡ suc ((twig_at tree way).count - (k + 1)) = omega arith in
           ap (λ (i : ℕ). steps_back ((twig_at tree way).count - (k + 1)) tree i ++ reverse next) f
           ∙ ap (λ (s : List Step). steps_back ((twig_at tree way).count - (k + 1)) tree (twig_at tree here).before ++ s)
-              (ap (λ (s : List Step). reverse s) e ∙ reverse-append steps ((twig_at tree here).last ∷ []))
+          (ap (λ (s : List Step). reverse s) e ∙ reverse-append steps ((twig_at tree here).last ∷ []))
           ∙ sym (append_assoc (steps_back ((twig_at tree way).count - (k + 1)) tree (twig_at tree here).before) ((twig_at tree here).last ∷ []) (reverse steps))
           ∙ sym (ap (λ (n : ℕ). steps_back n tree here ++ reverse steps) one)
           ∙ on.same;
@@ -184,9 +187,9 @@ known_set tree places v way = map-set (option_map (way_at tree)) places v (Some 
 pub distances_more : (known : Known) (so_far next : List (Option ℚ)) (k : ℕ) (distance : Option ℚ) → k < length known
     → so_far ≡ map (option_map (λ (reach : Reach). reach.distance)) (take k known)
     → distance ≡ option_map (λ (reach : Reach). reach.distance) (known_at known k) → next ≡ so_far ++ distance ∷ []
-        → next ≡ map (option_map (λ (reach : Reach). reach.distance)) (take (k + 1) known)
+    → next ≡ map (option_map (λ (reach : Reach). reach.distance)) (take (k + 1) known)
 distances_more known so_far next k distance h e d made =
     made ∙ ap (λ (x : Option ℚ). so_far ++ x ∷ []) (d ∙ ap (option_map (λ (reach : Reach). reach.distance)) (unwrap_or-slice_get known k None))
     ∙ ap (λ (l : List (Option ℚ)). l ++ option_map (λ (reach : Reach). reach.distance) (get_or known k None) ∷ []) e
     ∙ sym (ap (map (option_map (λ (reach : Reach). reach.distance))) (take_more known k None h)
-        ∙ map-append (option_map (λ (reach : Reach). reach.distance)) (take k known) (get_or known k None ∷ []))
+    ∙ map-append (option_map (λ (reach : Reach). reach.distance)) (take k known) (get_or known k None ∷ []))

@@ -25,7 +25,7 @@ pub labels_stop : (passes : Passing) (part : Part) (net : Network) (flow : Flow)
 unfolding cut_flow
 labels_stop passes part net flow h s =
     stops_on h (at_part part (each (cut_short passes flow.reached) flow.labels)) (at_part part (cut_flow passes net flow))
-        (λ p e. after_err part (each (cut_short passes flow.reached) flow.labels) _ p e) s
+    (λ p e. after_err part (each (cut_short passes flow.reached) flow.labels) _ p e) s
 
 module _ (passes : Passing) (part : Part) (net : Network) (flow : Flow) (labels : List (List Point))
     (by_labels : at_part part (each (cut_short passes flow.reached) flow.labels) ≡ Ok labels) where

@@ -45,7 +45,7 @@ pub link_there : (links : List Link) (inflows outflows : List Trace) (queues : L
 link_there links inflows outflows queues e link inflow outflow queue at hi i ho o hq q =
     links_with-at links (map trace_of inflows) (map trace_of outflows) (curves_of queues) e link (trace_of inflow) (trace_of outflow) queue.points at
     (slice_get-image trace_of inflows e inflow (slice_get_read inflows _ e inflow refl hi i))
-        (slice_get-image trace_of outflows e outflow (slice_get_read outflows _ e outflow refl ho o))
+    (slice_get-image trace_of outflows e outflow (slice_get_read outflows _ e outflow refl ho o))
     (curve_there queues e queue hq q)
 
 -- The same with its curves cut at the labels of its ends.

@@ -5,8 +5,23 @@ pub use Rattle.nf_model.specs.Curve.{AreSlopes, IsCurve, IsShort, NeverFalls, Po
 pub use Rattle.nf_model.specs.Entries.{Has, number_at}
 pub use Rattle.nf_model.specs.Equilibrium.{Equilibrium, Flow, HasShape, HasSlopes, Trace, inflow, label, outflow, points_at, points_of, queue}
 pub use Rattle.nf_model.specs.Network.{IsLink, IsNetwork, Link, Network, hop_of, hops, sum_in, sum_out, unbounded}
-pub use Rattle.nf_model.specs.Pattern.{Equation, HasState, Inequality, IsBase, IsBefore, IsEarlier, IsListedIn, IsPattern, IsSolution, IsTrail, NeedsState,
-    Pattern, Solves, changes, rank}
+pub use Rattle.nf_model.specs.Pattern.{
+  Equation,
+  HasState,
+  Inequality,
+  IsBase,
+  IsBefore,
+  IsEarlier,
+  IsListedIn,
+  IsPattern,
+  IsSolution,
+  IsTrail,
+  NeedsState,
+  Pattern,
+  Solves,
+  changes,
+  rank,
+}
 pub use Rattle.nf_model.specs.Phases.{IsExtension, Lasts, moved, slack_after}
 pub use Rattle.nf_model.specs.ThinFlow.{Sets, sets_at, slack, slacks_of}
 pub use Rattle.nf_phase_def.specs.Open.{IsOpen, RunsOn, Steps, at_horizon, at_phases, begins, continues, fails, steps}

@@ -149,24 +149,24 @@ module _ (passes : Passing) (net : Network) (old : Flow) (good : IsNetwork net) 
     of_trace : (e : ℕ) (link : Link) (v : ℕ) (traces : List Trace) (old_trace trace : Trace) → v < net.nodes → slice_get traces e ≡ Some old_trace
         → IsCurve (points_at (points_of traces) e)
         → cut_trace passes (value_at_end (points_at labels v)) old_trace.points ≡ Ok trace
-            → IsShortCut (points_at (points_of traces) e) (label old v old.reached) trace.points × AreSlopes trace.points trace.rates
+        → IsShortCut (points_at (points_of traces) e) (label old v old.reached) trace.points × AreSlopes trace.points trace.rates
     of_trace e link v traces old_trace trace h at c f =
         let same : points_at (points_of traces) e ≡ old_trace.points = points_of-is traces e old_trace at in
         let t : TraceCut (value_at_end (points_at labels v)) old_trace.points trace = trace_cut _ _ trace f in
         let s : IsShortCut (points_at (points_of traces) e) (label old v old.reached) trace.points =
-            cut_short-is passes (points_at (points_of traces) e) (label old v old.reached) trace.points c (ends-nn v h)
+        cut_short-is passes (points_at (points_of traces) e) (label old v old.reached) trace.points c (ends-nn v h)
         (ap (λ (l : List Point). cut_short passes (label old v old.reached) l) same ∙ ap (λ (z : ℚ). cut_short passes z old_trace.points) (sym (end-is v h)) ∙ t.short) in
         (s, rates_are trace.points trace.rates s.curve t.rates)
 
     inflow_at : (e : ℕ) (link : Link) (p : IsLink net e link)
         → IsShortCut (points_at (points_of old.inflows) e) (label old link.tail old.reached) (at_link e link p).cut.inflow.points
-            × AreSlopes (at_link e link p).cut.inflow.points (at_link e link p).cut.inflow.rates
+        × AreSlopes (at_link e link p).cut.inflow.points (at_link e link p).cut.inflow.rates
     inflow_at e link p = of_trace e link link.tail old.inflows (at_link e link p).inflow (at_link e link p).cut.inflow (good.tails e link p) (at_link e link p).is_inflow
         (is.shape.inflows.each e (slice_get_within net.links e link p)) (cuts_at e link p).inflow_is
 
     outflow_at : (e : ℕ) (link : Link) (p : IsLink net e link)
         → IsShortCut (points_at (points_of old.outflows) e) (label old link.head old.reached) (at_link e link p).cut.outflow.points
-            × AreSlopes (at_link e link p).cut.outflow.points (at_link e link p).cut.outflow.rates
+        × AreSlopes (at_link e link p).cut.outflow.points (at_link e link p).cut.outflow.rates
     outflow_at e link p = of_trace e link link.head old.outflows (at_link e link p).outflow (at_link e link p).cut.outflow (good.heads e link p) (at_link e link p).is_outflow
         (is.shape.outflows.each e (slice_get_within net.links e link p)) (cuts_at e link p).outflow_is
 
@@ -174,7 +174,7 @@ module _ (passes : Passing) (net : Network) (old : Flow) (good : IsNetwork net) 
     queue_at e link p =
         let a : At e link = at_link e link p in
         cut_short-is passes (points_at old.queues e) (label old link.tail old.reached) a.cut.queue
-            (is.shape.queues.each e (slice_get_within net.links e link p)) (ends-nn link.tail (good.tails e link p))
+        (is.shape.queues.each e (slice_get_within net.links e link p)) (ends-nn link.tail (good.tails e link p))
         (ap (λ (l : List Point). cut_short passes (label old link.tail old.reached) l) (points_is old.queues e a.queue a.is_queue)
         ∙ ap (λ (z : ℚ). cut_short passes z a.queue) (sym (end-is link.tail (good.tails e link p))) ∙ (cuts_at e link p).queue_is)
 
@@ -198,13 +198,13 @@ module _ (passes : Passing) (net : Network) (old : Flow) (good : IsNetwork net) 
       labels = at_end;
       inflows = λ e link p. subst (λ (l : List Point). IsShortCut (points_at (points_of old.inflows) e) (label old link.tail old.reached) l)
           (sym (points_of-is new.inflows e (at_link e link p).cut.inflow (slice_get-image (λ (c : CutLink). c.inflow) cuts e (at_link e link p).cut
-              (at_link e link p).is_cut))) (inflow_at e link p).0;
+          (at_link e link p).is_cut))) (inflow_at e link p).0;
       outflows = λ e link p. subst (λ (l : List Point). IsShortCut (points_at (points_of old.outflows) e) (label old link.head old.reached) l)
           (sym (points_of-is new.outflows e (at_link e link p).cut.outflow (slice_get-image (λ (c : CutLink). c.outflow) cuts e (at_link e link p).cut
-              (at_link e link p).is_cut))) (outflow_at e link p).0;
+          (at_link e link p).is_cut))) (outflow_at e link p).0;
       queues = λ e link p. subst (λ (l : List Point). IsShortCut (points_at old.queues e) (label old link.tail old.reached) l)
           (sym (points_is new.queues e (at_link e link p).cut.queue (slice_get-image (λ (c : CutLink). c.queue) cuts e (at_link e link p).cut
-              (at_link e link p).is_cut))) (queue_at e link p);
+          (at_link e link p).is_cut))) (queue_at e link p);
       inflow_rates = all_slopes (λ c. c.inflow) (λ e link p. (inflow_at e link p).1);
       outflow_rates = all_slopes (λ c. c.outflow) (λ e link p. (outflow_at e link p).1);
     }

@@ -30,8 +30,10 @@ rises_on s c d w z e f h i j = ⊎_elim
 module _ (net : Network) (labels : List ℚ) (pattern : Pattern) (is : IsPattern (sets_at net labels) (unbounded net) pattern) where
   stateless-apart : (e : ℕ) (link : Link) → IsLink net e link → slice_get pattern e ≡ Some None → slack labels (hop_of link) ≡ 0ℚ → ⊥
   stateless-apart e link p none zero_slack =
-      let needs : NeedsState (sets_at net labels) e = (active_of_slack net labels e link p (≤ℚ_of_same _ _ (sym zero_slack)),
-          λ r. not_both_ℚ _ _ (slack_of_resetting net labels e link p r) (≤ℚ_of_same _ _ zero_slack)) in
+      let needs : NeedsState (sets_at net labels) e = (
+        active_of_slack net labels e link p (≤ℚ_of_same _ _ (sym zero_slack)),
+        λ r. not_both_ℚ _ _ (slack_of_resetting net labels e link p r) (≤ℚ_of_same _ _ zero_slack),
+      ) in
       let has : (state : State) × HasState pattern e state = (is.states e).0 needs in
       no_state has.0 (sym none ∙ has.1)
     where
@@ -40,7 +42,7 @@ module _ (net : Network) (labels : List ℚ) (pattern : Pattern) (is : IsPattern
 
 module _ (net : Network) (good : IsNetwork net) (labels slopes : List ℚ) (time done : ℚ) (pattern : Pattern) (is : IsPattern (sets_at net labels) (unbounded net) pattern)
     (count : length labels ≡ length slopes) (done_nn : 0ℚ ≤ℚ done) (s : Standing) (labels_are : s.labels ≡ moved labels slopes done)
-        (time_is : s.time ≡ time +ℚ done) (last_is : s.last ≡ pattern) where
+    (time_is : s.time ≡ time +ℚ done) (last_is : s.last ≡ pattern) where
   abbrev slacks : List ℚ
   slacks = slacks_of (hops net) labels
 
@@ -110,7 +112,7 @@ module _ (net : Network) (good : IsNetwork net) (labels slopes : List ℚ) (time
     apart = λ e link p none same.
         let now : number_at slacks e +ℚ done *ℚ change link ≡ 0ℚ = sym (slack-now e link p) ∙ slack_at net s.labels e link p ∙ same in
         let first : number_at slacks e ≢ 0ℚ = λ z. stateless-apart net labels pattern is e link p (ap (λ (l : Pattern). slice_get l e) (sym last_is) ∙ none)
-            (sym (slack_at net labels e link p) ∙ z) in
+        (sym (slack_at net labels e link p) ∙ z) in
         ⊎_elim
         (λ (l : number_at slacks e <ℚ 0ℚ). not_both_ℚ _ _ (below_between (number_at slacks e) (change link) done whole l done_nn short
         (lasts.inactive e link whole p l (lasts.not_negative, ≤ℚ_refl whole))) (≤ℚ_of_same _ _ (sym now)))
@@ -137,8 +139,8 @@ module _ (net : Network) (good : IsNetwork net) (labels slopes : List ℚ) (time
         (λ (l : done ≤ℚ while).
         let here : number_at slacks' e ≤ℚ 0ℚ = subst (λ (x : ℚ). x ≤ℚ 0ℚ) (sym (slack-now e link p)) (made.inactive e link done p h (done_nn, ≤ℚ_refl done)) in
         let low : number_at slacks' e <ℚ 0ℚ = ⊎_elim (λ (m : number_at slacks' e <ℚ 0ℚ). m)
-            (λ (m : 0ℚ ≤ℚ number_at slacks' e). absurd (other e link p (λ z. not_both_ℚ _ _ h (≤ℚ_of_same _ _ (sym z))) (≤ℚ_antisymm _ _ here m)))
-            (lt_or_le_ℚ (number_at slacks' e) 0ℚ) in
+        (λ (m : 0ℚ ≤ℚ number_at slacks' e). absurd (other e link p (λ z. not_both_ℚ _ _ h (≤ℚ_of_same _ _ (sym z))) (≤ℚ_antisymm _ _ here m)))
+        (lt_or_le_ℚ (number_at slacks' e) 0ℚ) in
         subst (λ (x : ℚ). x ≤ℚ 0ℚ) (sym (later e link while p)) (lasts.inactive e link (while -ℚ done) p low (rest while l w.1)))
         (lt_or_le_ℚ while done);
     resetting = λ e link while p h w. ⊎_elim
@@ -146,15 +148,15 @@ module _ (net : Network) (good : IsNetwork net) (labels slopes : List ℚ) (time
         (λ (l : done ≤ℚ while).
         let here : 0ℚ ≤ℚ number_at slacks' e = subst (λ (x : ℚ). 0ℚ ≤ℚ x) (sym (slack-now e link p)) (made.resetting e link done p h (done_nn, ≤ℚ_refl done)) in
         let high : 0ℚ <ℚ number_at slacks' e = ⊎_elim (λ (m : 0ℚ <ℚ number_at slacks' e). m)
-            (λ (m : number_at slacks' e ≤ℚ 0ℚ). absurd (other e link p (λ z. not_both_ℚ _ _ h (≤ℚ_of_same _ _ z)) (≤ℚ_antisymm _ _ m here)))
-            (lt_or_le_ℚ 0ℚ (number_at slacks' e)) in
+        (λ (m : number_at slacks' e ≤ℚ 0ℚ). absurd (other e link p (λ z. not_both_ℚ _ _ h (≤ℚ_of_same _ _ z)) (≤ℚ_antisymm _ _ m here)))
+        (lt_or_le_ℚ 0ℚ (number_at slacks' e)) in
         subst (λ (x : ℚ). 0ℚ ≤ℚ x) (sym (later e link while p)) (lasts.resetting e link (while -ℚ done) p high (rest while l w.1)))
         (lt_or_le_ℚ while done);
     supply = λ i piece p h.
         let at_least : time +ℚ done ≤ℚ piece.start = made.supply i piece p h in
         let after : s.time <ℚ piece.start = ⊎_elim (λ (m : s.time <ℚ piece.start). m)
         (λ (m : piece.start ≤ℚ s.time). absurd (opened.no_start i piece p (≤ℚ_antisymm _ _ m (subst (λ (t : ℚ). t ≤ℚ piece.start) (sym time_is) at_least))))
-            (lt_or_le_ℚ s.time piece.start) in
+        (lt_or_le_ℚ s.time piece.start) in
         pasted time done more s.time piece.start time_is (lasts.supply i piece p after);
   }
     where

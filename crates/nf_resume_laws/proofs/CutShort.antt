@@ -77,7 +77,7 @@ module _ (passes : Passing) (points : List Point) (last : ℚ) (short : List Poi
       s.values time h.0 ∙ ap (λ (l : List Point). value l time) w.cut_is
       ∙ value-follows (value points) last w.first w.rest time w.follows (subst (λ (x : ℚ). x ≤ℚ time) (sym w.begins) h.0) h.1 in
       let on : (time : ℚ) → last ≤ℚ time → value short time ≡ z.0.1 = λ time h. EndsAt-value short z.0 time
-          (record { front = ends.0; same = ends.1; curve = s.curve }) (subst (λ (x : ℚ). x ≤ℚ time) (sym z.1) h) in
+      (record { front = ends.0; same = ends.1; curve = s.curve }) (subst (λ (x : ℚ). x ≤ℚ time) (sym z.1) h) in
       record {
         curve = s.curve;
         form = s.form;

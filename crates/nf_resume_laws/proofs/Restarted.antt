@@ -24,7 +24,7 @@ rises-cut points short last nn c rises s t h k = ⊎_elim
     (λ (m : s ≤ℚ last). subst (λ (y : ℚ). value short s ≤ℚ y) (sym (c.after t (≤ℚ_of_lt _ _ l))) (subst (λ (x : ℚ). x ≤ℚ value points last) (sym (c.values s (h, m))) (rises s last h m)))
     (lt_or_le_ℚ last s))
     (λ (l : t ≤ℚ last). subst (λ (y : ℚ). value short s ≤ℚ y) (sym (c.values t (≤ℚ_trans _ _ _ h k, l)))
-        (subst (λ (x : ℚ). x ≤ℚ value points t) (sym (c.values s (h, ≤ℚ_trans _ _ _ k l))) (rises s t h k)))
+    (subst (λ (x : ℚ). x ≤ℚ value points t) (sym (c.values s (h, ≤ℚ_trans _ _ _ k l))) (rises s t h k)))
     (lt_or_le_ℚ last t)
 
 module _ (net : Network) (old new : Flow) (good : IsNetwork net) (is : Equilibrium net old) (cut : IsCutFlow net old new) where
@@ -63,7 +63,7 @@ module _ (net : Network) (old new : Flow) (good : IsNetwork net) (is : Equilibri
   Equilibrium-cut =
       let holds : HoldsUpTo net (inflow new) (label new) new.reached = subst (λ (t : ℚ). HoldsUpTo net (inflow new) (label new) t) (sym cut.reached) HoldsUpTo-cut in
       let describes : DescribesLinks net (inflow new) (label new) (outflow new) (queue new) new.reached =
-          subst (λ (t : ℚ). DescribesLinks net (inflow new) (label new) (outflow new) (queue new) t) (sym cut.reached) DescribesLinks-cut in
+      subst (λ (t : ℚ). DescribesLinks net (inflow new) (label new) (outflow new) (queue new) t) (sym cut.reached) DescribesLinks-cut in
       record {
         reached = holds.begun;
         shape = HasShape-cut;

@@ -130,7 +130,7 @@ module _ (net : Network) (good : IsNetwork net) (labels labels' slopes flows : L
         (λ (k : slack labels' (hop_of link) ≤ℚ 0ℚ).
         subst (λ (b : Option State). GoesOn (before e) (after e) (Some state) b)
         (same_Some (Some state) b (sym (is_base.kept e state (needs-zero net labels' e link p (≤ℚ_antisymm _ _ k h)) has) ∙ at))
-            (keeps state (resets-low net labels e link p (≤ℚ_of_same _ _ first)) (resets-low net labels' e link p k)))
+        (keeps state (resets-low net labels e link p (≤ℚ_of_same _ _ first)) (resets-low net labels' e link p k)))
         (lt_or_le_ℚ 0ℚ (slack labels' (hop_of link))))
         (lt_or_le_ℚ (slack labels' (hop_of link)) 0ℚ)
       where
@@ -157,7 +157,7 @@ module _ (net : Network) (good : IsNetwork net) (labels labels' slopes flows : L
         (λ (k : 0ℚ <ℚ slack labels (hop_of link)).
         subst (λ (o : Option State). GoesOn (before e) (after e) o b) (sym (no_state_before e o has (not_needed labels (λ z. not_both_ℚ _ _ k (≤ℚ_of_same _ _ z)))))
         (without_state b at (λ z. not_both_ℚ _ _ (stays_above e link p k) (≤ℚ_of_same _ _ z))
-            (resets-high net labels e link p k ∙ sym (resets-high net labels' e link p (stays_above e link p k)))))
+        (resets-high net labels e link p k ∙ sym (resets-high net labels' e link p (stays_above e link p k)))))
         (λ (k : slack labels (hop_of link) ≤ℚ 0ℚ).
         let first : slack labels (hop_of link) ≡ 0ℚ = ≤ℚ_antisymm _ _ k h in
         let state : (state : State) × HasState pattern e state = (listed.states.states e).0 (needs-zero net labels e link p first) in

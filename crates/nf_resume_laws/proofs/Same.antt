@@ -85,7 +85,7 @@ module _ (net : Network) (amount label amount' label' : ℕ → ℚ → ℚ) (un
     queue = λ e link departure p w.
         subst (λ (s : ℚ). IsQueue link.capacity (amount' e) (label' link.tail departure) (queue_by_slack link.capacity s)) (sym (slack_same e link departure p w))
         (subst (λ (t : ℚ). IsQueue link.capacity (amount' e) t (queue_by_slack link.capacity (link_slack label link departure)))
-            (sym (agree.labels link.tail departure (good.tails e link p) w))
+        (sym (agree.labels link.tail departure (good.tails e link p) w))
         (queue_same e link (label link.tail departure) _ p (in_label link.tail departure (good.tails e link p) w) (holds.queue e link departure p w)));
     unbounded = λ e link departure p none w. le_by _ _ _ _ (sym (slack_same e link departure p w)) refl (holds.unbounded e link departure p none w);
     entered = λ v departure h other w.
@@ -98,10 +98,10 @@ module _ (net : Network) (amount label amount' label' : ℕ → ℚ → ℚ) (un
         ∙ sym (sent_same e link departure p w);
     idle_queue = λ e link departure p w h i.
         let same : label' link.head departure -ℚ link.transit ≡ label link.head departure -ℚ link.transit =
-            less _ _ link.transit (agree.labels link.head departure (good.heads e link p) w) in
+        less _ _ link.transit (agree.labels link.head departure (good.heads e link p) w) in
         let from : 0ℚ ≤ℚ label link.head departure -ℚ link.transit = le_by _ _ _ _ refl same i in
         let to : label link.head departure -ℚ link.transit ≤ℚ label link.tail departure =
-            in_time (label link.tail departure) (label link.head departure) link.transit (low e link departure p w h) in
+        in_time (label link.tail departure) (label link.head departure) link.transit (low e link departure p w h) in
         subst (λ (t : ℚ). IsQueue link.capacity (amount' e) t 0ℚ) (sym same)
         (queue_same e link (label link.head departure -ℚ link.transit) 0ℚ p (from, ≤ℚ_trans _ _ _ to (in_label link.tail departure (good.tails e link p) w).1)
         (holds.idle_queue e link departure p w (low e link departure p w h) from));
@@ -119,7 +119,7 @@ module _ (net : Network) (amount label amount' label' : ℕ → ℚ → ℚ) (un
     DescribesLinks-same = record {
       outflows = λ e link departure p w. ap (outflow' e) (agree.labels link.head departure (good.heads e link p) w)
           ∙ outflows e link (label link.head departure) p (in_label link.head departure (good.heads e link p) w) ∙ describes.outflows e link departure p w
-              ∙ sym (sent_same e link departure p w);
+          ∙ sym (sent_same e link departure p w);
       outflows_early = λ e link time p w.
           let to : time ≤ℚ label link.head 0ℚ = le_by _ _ _ _ refl (agree.labels link.head 0ℚ (good.heads e link p) first) w.1 in
           outflows e link time p (w.0, ≤ℚ_trans _ _ _ to (in_label link.head 0ℚ (good.heads e link p) first).1) ∙ describes.outflows_early e link time p (w.0, to);

@@ -32,7 +32,7 @@ module _ (passes : Passing) (net : Network) (good : IsNetwork net) (bounds : Bou
 
   go_of : (s t : Standing) (g : Goes passes net bounds.horizon bounds.patterns s t) → WellRun net s
       → CurvesGoOn net (curves_of (flow_of s)).inflows (curves_of (flow_of s)).labels s.time g.step.length (number_at g.flows) (number_at g.slopes)
-          (curves_of (flow_of (next_of s t g))).inflows (curves_of (flow_of (next_of s t g))).labels
+      (curves_of (flow_of (next_of s t g))).inflows (curves_of (flow_of (next_of s t g))).labels
   go_of s t g well =
       let first = g.finds.search.is_search.answers in
       curves_go passes net good bounds.horizon s g.pattern g.flows g.slopes g.step well g.finds.below
@@ -40,7 +40,7 @@ module _ (passes : Passing) (net : Network) (good : IsNetwork net) (bounds : Bou
 
   describe_of : (s t : Standing) (g : Goes passes net bounds.horizon bounds.patterns s t) → WellRun net s
       → DescriptionCurvesGoOn net (at (curves_of (flow_of s)).labels) (at (curves_of (flow_of (next_of s t g))).labels) (curves_of (flow_of s)).outflows
-          (curves_of (flow_of s)).queues s.time g.step.length
+      (curves_of (flow_of s)).queues s.time g.step.length
       (number_at g.flows) (number_at g.slopes) (curves_of (flow_of (next_of s t g))).outflows (curves_of (flow_of (next_of s t g))).queues
   describe_of s t g well =
       let first = g.finds.search.is_search.answers in

@@ -25,8 +25,14 @@ use Rattle.nf_routes.specs.KeptList.{kept_result}
 module _ (passes : Passing) (net : Network) (routes : List Route) (horizon : ℚ) where
   abbrev pub ended_as : SoFar → List (List Point) → Routed
   ended_as s travels =
-      record { ends = map (end_or passes) s.links; links = map (loaded_or passes) s.links; entries = map (but_last passes) s.entries; arrivals =
-      map last_entry s.entries; travels = travels }
+      record {
+        ends = map (end_or passes) s.links;
+        links = map (loaded_or passes) s.links;
+        entries = map (but_last passes) s.entries;
+        arrivals =
+            map last_entry s.entries;
+        travels = travels;
+      }
 
   abbrev after_loads : SoFar → Checked Routed
   after_loads s = each (λ (route : Route). travel_on passes horizon s.links route.links (departures horizon)) routes >>= λ travels. Ok (ended_as s travels)
@@ -46,7 +52,7 @@ module _ (passes : Passing) (net : Network) (routes : List Route) (horizon : ℚ
       travels-are = each_same (λ (route : Route). travel_on passes horizon s.links route.links (departures horizon))
           (λ (route : Route). travel_along passes horizon links route.links (departures horizon))
           (λ route. travel_on-is passes horizon s.links route.links (departures horizon)
-              ∙ ap (λ (ls : List Loaded). travel_along passes horizon ls route.links (departures horizon)) (sym e)) routes
+          ∙ ap (λ (ls : List Loaded). travel_along passes horizon ls route.links (departures horizon)) (sym e)) routes
 
       pub travel_stops : (p : PassedAt ℚ) → at_part Load (each (λ (route : Route). travel_along passes horizon links route.links (departures horizon))
           routes) ≡ Err p → at_part Load (routes_list passes net routes horizon) ≡ Err p
@@ -62,7 +68,7 @@ module _ (passes : Passing) (net : Network) (routes : List Route) (horizon : ℚ
 pub same_parts : {ends ends' : List ℚ} {links links' : List Loaded} {entries entries' : List (List (List Point))} {arrivals arrivals' travels : List (List Point)}
     → ends ≡ ends' → links ≡ links' → entries ≡ entries' → arrivals ≡ arrivals'
     → ◌≡◌ {A = Routed} (record { ends = ends; links = links; entries = entries; arrivals = arrivals; travels = travels })
-        (record { ends = ends'; links = links'; entries = entries'; arrivals = arrivals'; travels = travels })
+    (record { ends = ends'; links = links'; entries = entries'; arrivals = arrivals'; travels = travels })
 same_parts {travels = travels} a b c d = λ i. record { ends = a i; links = b i; entries = c i; arrivals = d i; travels = travels }
 
 -- ---- what is kept of the result

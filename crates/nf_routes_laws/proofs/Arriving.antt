@@ -123,8 +123,15 @@ module _ (net : Network) (routes : List Route) (horizon : ℚ) (routed : Routed)
         let l = link_of place e (at_place place e (f ∷ rest) h) in
         let m = link_of (suc place) f (at_place (suc place) f rest (from_next place e (f ∷ rest) h)) in
         ≤ℚ_trans _ _ _ (exit-order e l.0 t (E e) l.1 i j (≤ℚ_refl (E e)))
-        ((is.ends f (within f m.0 m.1)).before e (record { number = r; place = place; route = route; is_route = here; here =
-            at_place place e (f ∷ rest) h; next = at_place (suc place) f rest (from_next place e (f ∷ rest) h) }))
+        ((is.ends f (within f m.0 m.1)).before e (record {
+          number = r;
+          place = place;
+          route = route;
+          is_route = here;
+          here =
+              at_place place e (f ∷ rest) h;
+          next = at_place (suc place) f rest (from_next place e (f ∷ rest) h);
+        }))
 
     some_none : (o : Option ℕ) (x : ℕ) → o ≡ Some x → o ≡ None → ⊥
     some_none o x e f = cc
@@ -138,7 +145,7 @@ module _ (net : Network) (routes : List Route) (horizon : ℚ) (routed : Routed)
         past : (place : ℕ) → slice_get route.links place ≡ None → length route.links ≤ place
         past place none = ⊎_elim
             (λ (w : (x : ℕ) × (place < length route.links) × (slice_get route.links place ≡ Some x) × (get_or route.links place x ≡ x)). absurd
-                (some_none (slice_get route.links place) w.0 w.2 none))
+            (some_none (slice_get route.links place) w.0 w.2 none))
             (λ (w : (length route.links ≤ place) × (slice_get route.links place ≡ None)). w.0)
             (slice_get_cases route.links place).1
 
@@ -172,7 +179,7 @@ module _ (net : Network) (routes : List Route) (horizon : ℚ) (routed : Routed)
         let u : (u : ℚ) × Within 0ℚ (E e) u × (X e u ≡ z) = entry_of e l.0 z l.1 (≤ℚ_trans _ _ _ (exit-order e l.0 0ℚ t l.1 (≤ℚ_refl 0ℚ) i j) k) (≤ℚ_of_lt _ _ m) in
         ⊎_elim
         (λ (n : u.0 <ℚ t). ap (S r (suc place)) (≤ℚ_antisymm z (X e t) (subst (λ (x : ℚ). x ≤ℚ X e t) u.2
-            (exit-order e l.0 u.0 t l.1 u.1.0 (≤ℚ_of_lt _ _ n) j)) k) ∙ is.next r place e route t here h (i, j) ∙ all t (≤ℚ_refl t))
+        (exit-order e l.0 u.0 t l.1 u.1.0 (≤ℚ_of_lt _ _ n) j)) k) ∙ is.next r place e route t here h (i, j) ∙ all t (≤ℚ_refl t))
         (λ (n : t ≤ℚ u.0). ap (S r (suc place)) (sym u.2) ∙ is.next r place e route u.0 here h u.1 ∙ all u.0 n)
         (lt_or_le_ℚ u.0 t))
         (λ (m : X e (E e) ≤ℚ z). is.next_after r place e route z here h m ∙ all (E e) j)

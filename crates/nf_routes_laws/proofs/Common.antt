@@ -29,12 +29,48 @@ pub use Rattle.nf_rational_laws.proofs.Linear.{eq, eq_times, le, linear_eq, line
 pub use Rattle.nf_rational_laws.proofs.Order.{less_ps, lt_or_le_ℚ, ≤ℚ_antisymm, ≤ℚ_of_lt, ≤ℚ_of_same}
 pub use Rattle.nf_rational_laws.proofs.Polynomial.{reading_of}
 pub use Rattle.nf_rational_laws.proofs.Results.{not_both, same_Ok, true_or_false}
-pub use Rattle.nf_routes_def.specs.Meanings.{IsEnd, IsRouted, RoutesArrive, arrival_at, entry_at, exit_by, exits_along, inflow_by, link_loaded, sent_along,
-    sent_by, sent_by_routes, stages_at, travel_at}
+pub use Rattle.nf_routes_def.specs.Meanings.{
+  IsEnd,
+  IsRouted,
+  RoutesArrive,
+  arrival_at,
+  entry_at,
+  exit_by,
+  exits_along,
+  inflow_by,
+  link_loaded,
+  sent_along,
+  sent_by,
+  sent_by_routes,
+  stages_at,
+  travel_at,
+}
 pub use Rattle.nf_routes_def.specs.Routes.{AreRoutes, AreWalks, HoldCircle, PrecedesOnRoute, Route, all_pairs, first_free, order_from, with_next}
 pub use Rattle.nf_routes_def.specs.RoutesFile.{End, RateLine, RouteLine, RoutesEntry, end_line, rate_line, route_line, routes_entry}
-pub use Rattle.nf_routes_def.specs.RoutesList.{LoadedLink, Routed, SoFar, add_if, begin_all, begin_if, begins_with, but_last, end_by, end_or, exit_end,
-    exit_of, goes_over, last_entry, load_all, load_here, loaded_or, next_all, next_entry, next_if, sum_from, travel_on}
+pub use Rattle.nf_routes_def.specs.RoutesList.{
+  LoadedLink,
+  Routed,
+  SoFar,
+  add_if,
+  begin_all,
+  begin_if,
+  begins_with,
+  but_last,
+  end_by,
+  end_or,
+  exit_end,
+  exit_of,
+  goes_over,
+  last_entry,
+  load_all,
+  load_here,
+  loaded_or,
+  next_all,
+  next_entry,
+  next_if,
+  sum_from,
+  travel_on,
+}
 pub use Rattle.nf_routes_def.specs.declared.RoutesRule.TheVariants.{G10, G11, G12, G13, G14, G15, G16, G17, G3, G4, G5, G7, G8, G9}
 pub use Rattle.nf_routes_laws.specs.Laws.{CanShare, IsSentOn, NoneBeyond}
 pub use Rattle.nf_side_def.specs.Lines.{is_head, piece_entry, unless_rule}

@@ -94,7 +94,7 @@ module _ (passes : Passing) (last : ℚ) where
       let rest = then_ok (cumulative_from passes sum.between later last) _ points sum.next in
       ⊎_elim
       (λ (x : IsOne t (times_of (point_if_after_0 piece.start so_far))). ≤ℚ_trans _ _ _
-          (≤ℚ_of_same t piece.start (point-time (is_zero piece.start) piece.start so_far t x)) (≤ℚ_of_lt _ _ v.1))
+      (≤ℚ_of_same t piece.start (point-time (is_zero piece.start) piece.start so_far t x)) (≤ℚ_of_lt _ _ v.1))
       (λ (x : IsOne t (times_of rest.between)). from-upto sum.between later rest.between rest.first t x)
       (one-either (point_if_after_0 piece.start so_far) rest.between t (subst (λ (l : List Point). IsOne t (times_of l)) (sym (same_Ok _ _ rest.next)) w)))
       (λ (v : (lt_ℚ piece.start last ≡ false) × (last ≤ℚ piece.start)).
@@ -117,7 +117,7 @@ pub loading-ends : (passes : Passing) (transit : ℚ) (capacity : Option ℚ) (i
     → checked_loading passes transit capacity inflow last ≡ Ok loaded → EndsAtTime last loaded.exit
 loading-ends passes transit capacity inflow last loaded c rises waits_0 positive from_0 e =
     let x : ExitPoints passes transit capacity inflow last loaded c rises waits_0 positive from_0 =
-        exit_points passes transit capacity inflow last loaded c rises waits_0 positive from_0 e in
+    exit_points passes transit capacity inflow last loaded c rises waits_0 positive from_0 e in
     checked_short-end passes (x.first ∷ x.rest) loaded.exit last (follows-end (exit_at transit capacity inflow c) last x.first x.rest x.follows) x.short
 
 -- ---- the next entry

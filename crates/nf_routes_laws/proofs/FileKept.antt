@@ -83,8 +83,13 @@ module _ (net : Network) (draft : RoutesDraft) (good : IsGood net draft) where
       record {
         few = omega (arith, fewer, length-append draft.routes (route ∷ []));
         names = subst AreNames (sym (map-append (λ (r : NamedRoute). r.name) draft.routes (route ∷ []))) (names_more (route_names draft.routes) name good.names new.0 a.0);
-        each = All-push (IsGoodRoute net) draft.routes route good.each (record { walk = walk_of net links net.source net.sink (not-false walk d.0); some =
-            new.1; pieces = tt; few = omega arith });
+        each = All-push (IsGoodRoute net) draft.routes route good.each (record {
+          walk = walk_of net links net.source net.sink (not-false walk d.0);
+          some =
+              new.1;
+          pieces = tt;
+          few = omega arith;
+        });
       }
 
   piece_more : (r : ℕ) (piece : Piece) → routes_rule_of net draft (RateLine r piece) ≡ None → IsGood net (routes_after draft (RateLine r piece))
@@ -134,7 +139,7 @@ module _ (n : Named) where
       let none : IsGood n.net (routes_frame n).empty = record { few = omega arith; names = no_names; each = All-nil (IsGoodRoute n.net) } in
       let good = draft_kept (routes_frame n) (IsGood n.net) line_kept none lines draft e in
       let walks = All-map IsWalkOf (λ (r : NamedRoute). r.route) draft.routes
-          (All-weaker (IsGoodRoute n.net) (λ (r : NamedRoute). IsWalkOf r.route) (λ r g. g.walk) draft.routes good.each) in
+      (All-weaker (IsGoodRoute n.net) (λ (r : NamedRoute). IsWalkOf r.route) (λ r g. g.walk) draft.routes good.each) in
       record {
         form = record {
           few = good.few;

@@ -77,7 +77,7 @@ module _ (passes : Passing) (e : ℕ) where
   sum-is total (x ∷ routes) (y ∷ entries) entered inflow c w h =
       let n = then_ok (add_if passes (goes_over x.links e) total (last_entry y)) _ inflow h in
       let a : IsSumWith total (λ t. sent_along (λ p. entered 0 p t) e x.links) n.between =
-          add-is (goes_over x.links e) total (last_entry y) n.between (λ t. sent_along (λ p. entered 0 p t) e x.links) c here none n.first in
+      add-is (goes_over x.links e) total (last_entry y) n.between (λ t. sent_along (λ p. entered 0 p t) e x.links) c here none n.first in
       let rest : IsSumWith n.between (λ t. sent_by_routes (λ r place. entered (suc r) place t) e routes) inflow =
       sum-is n.between routes entries (λ r. entered (suc r)) inflow a.curve later n.next in
       record { curve = rest.curve; values = λ t k. two_sums _ _ _ _ _ (rest.values t k) (a.values t k) }
@@ -96,8 +96,12 @@ module _ (passes : Passing) (e : ℕ) where
       none past t = along-none (λ p. entered 0 p t) e x.links (λ p k. absurd (not_both (goes_over x.links e) (over-at x.links p e k) past))
 
       later : Enters e routes entries (λ r. entered (suc r))
-      later = record { count = let k = w.count in less k; each = λ r place route i j. w.each (suc r) place route i j; once =
-          λ r place other route i j k. w.once (suc r) place other route i j k }
+      later = record {
+        count = let k = w.count in less k;
+        each = λ r place route i j. w.each (suc r) place route i j;
+        once =
+            λ r place other route i j k. w.once (suc r) place other route i j k;
+      }
         where
           less : length (y ∷ entries) ≡ length (x ∷ routes) → length entries ≡ length routes
           less e = omega arith

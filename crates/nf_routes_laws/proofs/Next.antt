@@ -88,7 +88,7 @@ module _ (passes : Passing) (exit entry : List Point) (last : ℚ) (can : CanSha
     rises = rises;
     at_exit = λ t m j. ⊎_elim
         (λ (l : b <ℚ t). value-after (X a, A a) (X b, A b) points (X t) (can.exits_rise b t (≤ℚ_trans _ _ _ h (≤ℚ_of_lt _ _ n.order)) (≤ℚ_of_lt _ _ l) j)
-            ∙ w.at_exit t (≤ℚ_of_lt _ _ l) j)
+        ∙ w.at_exit t (≤ℚ_of_lt _ _ l) j)
         (λ (l : t ≤ℚ b). value-line (X a, A a) (X b, A b) points (X t) rises (can.exits_rise t b (≤ℚ_trans _ _ _ h m) l k) ∙ part t m l)
         (lt_or_le_ℚ b t);
     after = λ z m. value-after (X a, A a) (X b, A b) points z (≤ℚ_trans _ _ _ (can.exits_rise b last (≤ℚ_trans _ _ _ h (≤ℚ_of_lt _ _ n.order)) k (≤ℚ_refl last)) m) ∙ w.after z m;
@@ -192,7 +192,7 @@ module _ (passes : Passing) (exit entry : List Point) (last : ℚ) (can : CanSha
             at_exit = λ t k. value-after (0ℚ, 0ℚ) (X 0ℚ, A 0ℚ) points (X t) (can.exits_rise 0ℚ t (≤ℚ_refl 0ℚ) k.0 k.1) ∙ w.at_exit t k.0 k.1;
             before = λ z k. value-line (0ℚ, 0ℚ) (X 0ℚ, A 0ℚ) points z rises k.1
                 ∙ level (slope (0ℚ, 0ℚ) (X 0ℚ, A 0ℚ)) z (no_slope (slope (0ℚ, 0ℚ) (X 0ℚ, A 0ℚ)) (X 0ℚ)
-                    (slope-times (0ℚ, 0ℚ) (X 0ℚ, A 0ℚ) less ∙ ap (λ (y : ℚ). y -ℚ 0ℚ) can.begins) less);
+                (slope-times (0ℚ, 0ℚ) (X 0ℚ, A 0ℚ) less ∙ ap (λ (y : ℚ). y -ℚ 0ℚ) can.begins) less);
             after = λ z k. value-after (0ℚ, 0ℚ) (X 0ℚ, A 0ℚ) points z (≤ℚ_trans _ _ _ (can.exits_rise 0ℚ last (≤ℚ_refl 0ℚ) can.from_0 (≤ℚ_refl last)) k) ∙ w.after z k;
           }
 

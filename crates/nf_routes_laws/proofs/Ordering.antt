@@ -109,7 +109,7 @@ pair-before (x ∷ routes) all shift p same h = ⊎_elim
     (λ (k : In p (pairs_of x.links)). let w = pair-places x.links p k in
     record { number = shift; place = w.0; route = x; is_route = ap (λ (n : ℕ). slice_get all n) (let n : shift ≡ shift + 0 = omega arith in n) ∙ sym (same 0); here = w.1; next = w.2 })
     (λ (k : In p (all_pairs routes)). pair-before routes all (suc shift) p
-        (λ r. same (suc r) ∙ ap (λ (n : ℕ). slice_get all n) (let n : shift + suc r ≡ suc shift + r = omega arith in n)) k)
+    (λ r. same (suc r) ∙ ap (λ (n : ℕ). slice_get all n) (let n : shift + suc r ≡ suc shift + r = omega arith in n)) k)
     (in-either p (pairs_of x.links) (all_pairs routes) h)
 
 pub before-of : (routes : List Route) (p : ℕ × ℕ) → In p (all_pairs routes) → PrecedesOnRoute routes p.0 p.1
@@ -264,7 +264,7 @@ module _ (net : Network) (routes : List Route) (are : AreRoutes net routes) wher
       by None none later = ⊎_elim
           (λ (k : is_taken taken e ≡ true). inl (inl k))
           (λ (k : is_taken taken e ≡ false). inr (circle-back taken (λ f i. free-none pairs taken (range_with_len 0 many) f none
-              (in-range 0 many f (omega arith) (let n : f < 0 + many = omega arith in n))) e h k))
+          (in-range 0 many f (omega arith) (let n : f < 0 + many = omega arith in n))) e h k))
           (true_or_false (is_taken taken e))
       by (Some f) some later =
           let w = free-some pairs taken (range_with_len 0 many) f some in
@@ -327,7 +327,7 @@ module _ (routes : List Route) (many : ℕ) where
 
       by : (o : Option ℕ) → first_free pairs' taken (range_with_len 0 many) ≡ o → (front : List ℕ) → with_next o (λ f. order_from more pairs' many (f ∷ taken)) ≡ front ++ e ∷ back
           → ((f : ℕ) (front' : List ℕ) → order_from more pairs' many (f ∷ taken) ≡ front' ++ e ∷ back
-              → (In e (front' ++ f ∷ taken) → ⊥) × ((g : ℕ) → PrecedesOnRoute routes g e → In g (front' ++ f ∷ taken)))
+          → (In e (front' ++ f ∷ taken) → ⊥) × ((g : ℕ) → PrecedesOnRoute routes g e → In g (front' ++ f ∷ taken)))
           → (In e (front ++ taken) → ⊥) × ((f : ℕ) → PrecedesOnRoute routes f e → In f (front ++ taken))
       by None none [] h later = absurd (cc)
       by None none (x ∷ front) h later = absurd (cc)
@@ -374,8 +374,8 @@ module _ (routes : List Route) (many : ℕ) where
   unfolding takes_all loading_order
   circle-left e between h way all =
       let s = split (order_from many pairs' many []) e (taken-in (order_from many pairs' many []) e
-          (all-at (λ f. is_taken (order_from many pairs' many []) f) (range_with_len 0 many) e all
-          (in-range 0 many e (omega arith) (let n : e < 0 + many = omega arith in n)))) in
+      (all-at (λ f. is_taken (order_from many pairs' many []) f) (range_with_len 0 many) e all
+      (in-range 0 many e (omega arith) (let n : e < 0 + many = omega arith in n)))) in
       (placed many [] s.0 e s.1 s.2).0 (in-front e s.0 [] (led between e e s.0 s.1 s.2 way))
 
 pub none-circle : (net : Network) (routes : List Route) → AreRoutes net routes → takes_all (length net.links) routes ≡ true → HoldCircle routes → ⊥

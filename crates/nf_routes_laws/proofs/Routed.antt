@@ -24,7 +24,7 @@ all-ordered : (passes : Passing) (net : Network) (routes : List Route) (horizon 
 unfolding takes_all loading_order
 all-ordered passes net routes horizon are straight e h =
     taken-in (order passes net routes horizon) e (all-at (λ f. is_taken (order passes net routes horizon) f) (range_with_len 0 (length net.links)) e
-        (takes_all-straight net routes are straight)
+    (takes_all-straight net routes are straight)
     (in-range 0 (length net.links) e (omega arith) (let n : e < 0 + length net.links = omega arith in n)))
 
 module _ (passes : Passing) (net : Network) (routes : List Route) (horizon : ℚ) (final : SoFar) (travels : List (List Point)) (good : IsNetwork net)
@@ -73,7 +73,7 @@ module _ (passes : Passing) (net : Network) (routes : List Route) (horizon : ℚ
         whole = ⊎_elim
             (λ (l : rs.n < length route.links). absurd (more_left l))
             (λ (l : (rs.n ≡ length route.links) ⊎ (length route.links < rs.n)). ⊎_elim (λ (k : rs.n ≡ length route.links). k)
-                (λ (k : length route.links < rs.n). let w = rs.stands.within in absurd (omega arith)) l)
+            (λ (k : length route.links < rs.n). let w = rs.stands.within in absurd (omega arith)) l)
             (compared rs.n (length route.links))
 
         staged : (n m : ℕ) → 0 < m → n ≡ m → stage n ≡ suc m
@@ -168,7 +168,7 @@ module _ (passes : Passing) (net : Network) (routes : List Route) (horizon : ℚ
     outflow_is t w = subst (λ (k : Link). Within 0ℚ (number_at all.ends e +ℚ k.transit) t
         → IsOutflow k.transit k.capacity (inflow_by routes all e) t (value (link_loaded all e).outflow t)) same_link
         (λ v. IsOutflow-same is.link.transit is.link.capacity (value is.inflow) (inflow_by routes all e) t (value (link_loaded all e).outflow t)
-            (λ u k. is.amounts u k.0) (is.loaded.outflow_values t v)) w
+        (λ u k. is.amounts u k.0) (is.loaded.outflow_values t v)) w
 
   -- ---- all of it
   pub is-routed : IsRouted net routes horizon all
@@ -204,11 +204,11 @@ pub routes_list-is : (passes : Passing) (net : Network) (routes : List Route) (h
 unfolding routes_list loading_order
 routes_list-is passes net routes horizon result good are straight from_0 h =
     let final = then_ok (load_all passes net routes horizon (order passes net routes horizon)
-        (record { links = map (λ _. None) net.links; entries = map (λ _. []) routes })) _ result h in
+    (record { links = map (λ _. None) net.links; entries = map (λ _. []) routes })) _ result h in
     let travels = then_ok (each (λ (route : Route). travel_on passes horizon final.between.links route.links (departures horizon)) routes) _ result final.next in
     subst (λ (x : Routed). IsRouted net routes horizon x) (same_Ok _ _ travels.next)
     (is-routed passes net routes horizon final.between travels.between good are straight from_0
-        (unrolled passes net routes horizon final.between travels.between final.first) travels.first)
+    (unrolled passes net routes horizon final.between travels.between final.first) travels.first)
 
 -- ---- the routes over a link send on its outflow
 pub nexts-outflow : (net : Network) (routes : List Route) (horizon : ℚ) (routed : Routed) (e : ℕ) (link : Link) (time : ℚ) → IsNetwork net
@@ -218,6 +218,6 @@ nexts-outflow net routes horizon routed e link time good are from_0 is p w =
     let end_nn : 0ℚ ≤ℚ number_at routed.ends e = ≤ℚ_trans _ _ _ from_0 (is.ends e (slice_get_within net.links e link p)).horizon_by in
     let after : number_at routed.ends e +ℚ link.transit ≤ℚ exit_by routed e (number_at routed.ends e) =
     IsExit-after link.transit link.capacity (inflow_by routes routed e) (number_at routed.ends e) _ (IsPositive-link net e link good p)
-        (is.exits e link (number_at routed.ends e) p (end_nn, ≤ℚ_refl _)) in
+    (is.exits e link (number_at routed.ends e) p (end_nn, ≤ℚ_refl _)) in
     IsOutflow-unique link.transit link.capacity (inflow_by routes routed e) time _ _ (is.outflows e link time p w)
     ((arrive net routes horizon routed good are from_0 is).shares e link time p (w.0, ≤ℚ_trans _ _ _ w.1 after))

@@ -222,17 +222,27 @@ module _ (passes : Passing) (net : Network) (routes : List Route) (horizon : ℚ
             let same : rd.was.entries ≡ xs = same_Some _ _ (sym rd.was.here ∙ h) in
             subst (λ (l : List (List Point)). (ys : List (List Point)) × (more : List (List Point)) × (slice_get next.entries r ≡ Some ys) × (ys ≡ l ++ more)) same
             (⊎_elim
-            (λ (o : Over passes e horizon route rd.was.entries rd.begun d.loaded.exit rd.was.n rd.after).
-            (rd.after, o.begins.more ++ o.next ∷ [], rd.after_here, o.after_is ∙ ap (λ (l : List (List Point)). l ++ o.next ∷ []) o.begins.grown
-                ∙ append_assoc rd.was.entries o.begins.more (o.next ∷ [])))
+            (λ (o : Over passes e horizon route rd.was.entries rd.begun d.loaded.exit rd.was.n rd.after). (
+              rd.after,
+              o.begins.more ++ o.next ∷ [],
+              rd.after_here,
+              o.after_is ∙ ap (λ (l : List (List Point)). l ++ o.next ∷ []) o.begins.grown
+                  ∙ append_assoc rd.was.entries o.begins.more (o.next ∷ []),
+            ))
             (λ (p : ((place : ℕ) → slice_get route.links place ≡ Some e → ⊥) × (rd.after ≡ rd.was.entries)). (rd.after, [], rd.after_here, p.1 ∙ sym (append-nil rd.was.entries)))
             rd.case)
 
   -- ---- the result agrees with the values known at each step
   module _ (final : SoFar) (travels : List (List Point)) where
     abbrev pub routed : Routed
-    routed = record { ends = map (end_or passes) final.links; links = map (loaded_or passes) final.links; entries =
-        map (but_last passes) final.entries; arrivals = map last_entry final.entries; travels = travels }
+    routed = record {
+      ends = map (end_or passes) final.links;
+      links = map (loaded_or passes) final.links;
+      entries =
+          map (but_last passes) final.entries;
+      arrivals = map last_entry final.entries;
+      travels = travels;
+    }
 
     pub record Grows (front : List ℕ) (s : SoFar) : Type 0 where
       pub links : (f : ℕ) → In f front → slice_get final.links f ≡ slice_get s.links f
@@ -332,7 +342,7 @@ module _ (passes : Passing) (net : Network) (routes : List Route) (horizon : ℚ
           by : RouteDone front s e link next d r route → RouteOver e r place route d.begun
           by rd = ⊎_elim
               (λ (o : Over passes e horizon route rd.was.entries rd.begun d.loaded.exit rd.was.n rd.after). over_case rd
-                  (place-is routes front e new led r route h rd.was.n rd.was.stands place k) o)
+              (place-is routes front e new led r route h rd.was.n rd.was.stands place k) o)
               (λ (p : ((place : ℕ) → slice_get route.links place ≡ Some e → ⊥) × (rd.after ≡ rd.was.entries)). absurd (p.0 place k))
               rd.case
 
@@ -361,8 +371,11 @@ module _ (passes : Passing) (net : Network) (routes : List Route) (horizon : ℚ
     unroll [] front s same standing h =
         let done : s ≡ final = same_Ok _ _ h in
         record {
-          grows = record { links = λ f w. ap (λ (z : SoFar). slice_get z.links f) (sym done); entries =
-              λ r xs k. (xs, [], ap (λ (z : SoFar). slice_get z.entries r) (sym done) ∙ k, sym (append-nil xs)) };
+          grows = record {
+            links = λ f w. ap (λ (z : SoFar). slice_get z.links f) (sym done);
+            entries =
+                λ r xs k. (xs, [], ap (λ (z : SoFar). slice_get z.entries r) (sym done) ∙ k, sym (append-nil xs));
+          };
           stands = subst (λ (l : List ℕ). RoutesStanding l final) (sym (same ∙ append-nil front)) (subst (λ (z : SoFar). RoutesStanding front z) done standing);
           steps = λ e w. absurd w;
         }
@@ -375,7 +388,7 @@ module _ (passes : Passing) (net : Network) (routes : List Route) (horizon : ℚ
         let new : In e front → ⊥ = λ w. p.0 (subst (λ (l : List ℕ). In e l) (sym (append-nil front)) w) in
         let led : (f : ℕ) → PrecedesOnRoute routes f e → In f front = λ f b. subst (λ (l : List ℕ). In f l) (append-nil front) (p.1 f b) in
         let rest : Unrolled (front ++ e ∷ []) step.between back = unroll back (front ++ e ∷ []) step.between (same ∙ sym (append_assoc front (e ∷ []) back))
-            (step-standing front s e l.0 step.between d standing new led) step.next in
+        (step-standing front s e l.0 step.between d standing new led) step.next in
         record {
           grows = step-final front s e l.0 step.between d standing new led l.1 rest.grows;
           stands = rest.stands;

@@ -70,7 +70,7 @@ module _ (passes : Passing) (kept : Kept) (net : Network) (routes : List Route) 
       loads_stop h s = stops_on h (at_part Load (load_here passes horizon routes so_far e (slice_get net.links e))) (at_part Load (all_kept passes kept net routes horizon))
           (λ p k. ap (at_part Load) (sym here)
           ∙ after_err Load (load_here passes horizon routes so_far e (slice_get net.links e))
-              (λ next. load_kept passes kept net routes horizon (drop (i + 1) order) (kept_after kept next)) p k) s
+          (λ next. load_kept passes kept net routes horizon (drop (i + 1) order) (kept_after kept next)) p k) s
 
       pub loads_go : (link : Link) (next : SoFar) → IsLink net e link → 0ℚ ≤ℚ horizon → IsNetwork net
           → at_part Load (load_here passes horizon routes so_far e (slice_get net.links e)) ≡ Ok next

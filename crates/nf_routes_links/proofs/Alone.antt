@@ -137,7 +137,7 @@ module _ (passes : Passing) where
   begins_alone horizon e routes entries =
       ap all_alone (begin_all-is passes horizon e routes (map last_alone entries))
       ∙ steps_alone (λ (route : Route) (sent : Sent). begin_if passes (begins_with route.links e) horizon route sent)
-          (λ route sent. begin_alone (begins_with route.links e) horizon route sent) routes entries
+      (λ route sent. begin_alone (begins_with route.links e) horizon route sent) routes entries
       ∙ ap all_alone (sym (begin_all-is passes horizon e routes entries))
 
   sum_alone : (e : ℕ) (total : List Point) (routes : List Route) (entries : List Sent) → sum_from passes e total routes (map last_alone entries) ≡ sum_from passes e total routes entries
@@ -146,7 +146,7 @@ module _ (passes : Passing) where
   sum_alone e total (route ∷ routes) (sent ∷ rest) =
       ap (λ (entry : List Point). add_if passes (goes_over route.links e) total entry >>= λ next. sum_from passes e next routes (map last_alone rest)) (last_of_alone sent)
       ∙ after_same (add_if passes (goes_over route.links e) total (last_entry sent))
-          (λ (next : List Point). sum_from passes e next routes (map last_alone rest)) (λ (next : List Point). sum_from passes e next routes rest)
+      (λ (next : List Point). sum_from passes e next routes (map last_alone rest)) (λ (next : List Point). sum_from passes e next routes rest)
       (λ next. sum_alone e next routes rest)
 
   pushed_alone : (front : Sent) (r : Checked (List Point)) → alone (r >>= λ next. Ok (front ++ next ∷ [])) ≡ (r >>= λ next. Ok (next ∷ []))
@@ -228,7 +228,7 @@ module _ (passes : Passing) where
 
   here_kept : (kept : Kept) (horizon : ℚ) (routes : List Route) (s : SoFar) (e : ℕ) (link : Option Link)
       → (load_here passes horizon routes (kept_after kept s) e link >>= λ next. Ok (kept_after kept next))
-          ≡ (load_here passes horizon routes s e link >>= λ next. Ok (kept_after kept next))
+      ≡ (load_here passes horizon routes s e link >>= λ next. Ok (kept_after kept next))
   here_kept Every horizon routes s e link = refl
   here_kept Last horizon routes s e link = here_alone horizon routes s e link
 
@@ -238,7 +238,7 @@ module _ (passes : Passing) where
   kept_is kept net routes horizon [] s = refl
   kept_is kept net routes horizon (e ∷ order) s =
       sym (chain (load_here passes horizon routes (kept_after kept s) e (slice_get net.links e)) (λ next. Ok (kept_after kept next))
-          (λ next. load_kept passes kept net routes horizon order next))
+      (λ next. load_kept passes kept net routes horizon order next))
       ∙ ap (λ (r : Checked SoFar). r >>= λ next. load_kept passes kept net routes horizon order next) (here_kept kept horizon routes s e (slice_get net.links e))
       ∙ later (load_here passes horizon routes s e (slice_get net.links e)) (λ next. kept_is kept net routes horizon order next)
     where
@@ -253,5 +253,5 @@ module _ (passes : Passing) where
       → all_kept passes kept net routes horizon ≡ (all_loaded passes net routes horizon >>= λ all. Ok (kept_after kept all))
   all_kept-is kept net routes horizon =
       ap (λ (s : SoFar). load_kept passes kept net routes horizon (loading_order (length net.links) routes) s)
-          (sym (first_kept kept (record { links = nothing_loaded net.links; entries = nothing_sent routes }) (none_alone routes)))
+      (sym (first_kept kept (record { links = nothing_loaded net.links; entries = nothing_sent routes }) (none_alone routes)))
       ∙ kept_is kept net routes horizon (loading_order (length net.links) routes) (record { links = nothing_loaded net.links; entries = nothing_sent routes })

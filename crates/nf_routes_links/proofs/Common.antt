@@ -31,8 +31,29 @@ pub use Rattle.nf_rational_laws.proofs.Order.{<ℚ_irrefl, lt_or_le_ℚ, ≤ℚ_
 pub use Rattle.nf_rational_laws.proofs.Results.{not_both, or_rest, same_Ok}
 pub use Rattle.nf_routes_def.specs.Routes.{AreRoutes, Route, all_pairs, is_taken, loading_order, pairs_of}
 pub use Rattle.nf_routes_def.specs.RoutesFile.{NamedRoute, links_at, links_of, routes_of}
-pub use Rattle.nf_routes_def.specs.RoutesList.{LoadedLink, SoFar, add_if, begin_all, begin_if, begins_with, but_last, end_by, exit_end, exit_of, goes_over,
-    last_entry, load_all, load_here, loaded_or, next_all, next_entry, next_from, next_if, sum_from, travel_on}
+pub use Rattle.nf_routes_def.specs.RoutesList.{
+  LoadedLink,
+  SoFar,
+  add_if,
+  begin_all,
+  begin_if,
+  begins_with,
+  but_last,
+  end_by,
+  exit_end,
+  exit_of,
+  goes_over,
+  last_entry,
+  load_all,
+  load_here,
+  loaded_or,
+  next_all,
+  next_entry,
+  next_from,
+  next_if,
+  sum_from,
+  travel_on,
+}
 pub use Rattle.nf_routes_links.specs.Amounts.{AreExits, IsAmount}
 pub use Rattle.nf_routes_links.specs.Beginning.{HavePieces, all_loaded, first_entry, nothing_loaded, nothing_sent}
 pub use Rattle.nf_routes_links.specs.Keeping.{all_kept, kept_after, last_alone, load_kept, keeping_last}
@@ -42,8 +63,20 @@ pub use Rattle.nf_routes_links.specs.Travels.{AreTravels, GoOverAll, HaveExits, 
 pub use Rattle.nf_routes_links.specs.declared.keeping.Kept.{Kept}
 pub use Rattle.nf_routes_read.proofs.Taking.{IsPlaced, order_placed, taken-push}
 pub use Rattle.std.proofs.lemmas.Bool.Decides.{eqb_tells, nat_tests}
-pub use Rattle.std.proofs.lemmas.List.{drop-drop, drop-set-lt, drop_all, length-map, length-set, length_push, map-append, map_push, take-append-drop,
-    take_all, take_more_set, with_items_is}
+pub use Rattle.std.proofs.lemmas.List.{
+  drop-drop,
+  drop-set-lt,
+  drop_all,
+  length-map,
+  length-set,
+  length_push,
+  map-append,
+  map_push,
+  take-append-drop,
+  take_all,
+  take_more_set,
+  with_items_is,
+}
 pub use Rattle.std.proofs.lemmas.Option.{none-some, same_Some, slice_get-get_or, slice_get_read, slice_get_within}
 pub use Rattle.std.proofs.lemmas.Result.{err_from_is_err_and}
 pub use Rattle.std.specs.List.{AllByRecursion, list_all, range_with_len}

@@ -23,7 +23,7 @@ begin_all-is passes horizon e [] entries = refl
 begin_all-is passes horizon e (route ∷ routes) [] = refl
 begin_all-is passes horizon e (route ∷ routes) (sent ∷ rest) =
     ap (λ (r : Checked (List Sent)). begin_if passes (begins_with route.links e) horizon route sent >>= λ here. r >>= λ later. Ok (here ∷ later))
-        (begin_all-is passes horizon e routes rest)
+    (begin_all-is passes horizon e routes rest)
 
 pub next_all-is : (passes : Passing) (e : ℕ) (exit : List Point) (routes : List Route) (entries : List Sent)
     → next_all passes e exit routes entries ≡ step_all (λ (route : Route) (sent : Sent). next_if passes (goes_over route.links e) exit sent) routes entries
@@ -77,7 +77,7 @@ module _ (f : Route → Sent → Checked Sent) (routes : List Route) (old : List
       pub steps_stop : (h : Halt ℚ) → Stops (λ (q : ℚ). q) h (at_part Load (f route sent)) → Stops (λ (q : ℚ). q) h (at_part Load (step_all f routes old))
       steps_stop h s = stops_on h (at_part Load (f route sent)) (at_part Load (step_all f routes old))
           (λ p e. ap (at_part Load) (sym here) ∙ front_err Load (take i now)
-              (f route sent >>= λ here. step_all f (drop (i + 1) routes) (drop (i + 1) old) >>= λ later. Ok (here ∷ later)) p
+          (f route sent >>= λ here. step_all f (drop (i + 1) routes) (drop (i + 1) old) >>= λ later. Ok (here ∷ later)) p
           (after_err Load (f route sent) (λ here. step_all f (drop (i + 1) routes) (drop (i + 1) old) >>= λ later. Ok (here ∷ later)) p e)) s
 
       pub steps_go : (next : Sent) → at_part Load (f route sent) ≡ Ok next → Steps f routes old (set now i next) (i + 1)
@@ -87,7 +87,7 @@ module _ (f : Route → Sent → Checked Sent) (routes : List Route) (old : List
             same = ap (λ (l : List Sent). with_front l (step_all f (drop (i + 1) routes) (drop (i + 1) old))) (take_more_set now i next inside)
                 ∙ sym (front_cons (take i now) next (step_all f (drop (i + 1) routes) (drop (i + 1) old)))
                 ∙ ap (λ (r : Checked Sent). with_front (take i now) (r >>= λ here. step_all f (drop (i + 1) routes) (drop (i + 1) old) >>= λ later. Ok
-                    (here ∷ later))) (sym (was_ok Load (f route sent) next e))
+                (here ∷ later))) (sym (was_ok Load (f route sent) next e))
                 ∙ here;
             rest = drop-set-lt (i + 1) now i next (omega arith) ∙ next_rest now old i so_far.rest;
             count = length-set now i next ∙ so_far.count;
@@ -161,8 +161,10 @@ module _ (passes : Passing) (e : ℕ) (first : List Point) (routes : List Route)
           → Stops (λ (q : ℚ). q) h (at_part Load (sum_from passes e first routes entries))
       sums_stop h s = stops_on h (at_part Load (add_if passes (goes_over route.links e) total (last_entry sent))) (at_part Load (sum_from passes e first routes entries))
           (λ p k. ap (at_part Load) (sym sum_here) ∙ after_err Load (add_if passes (goes_over route.links e) total (last_entry sent))
-              (λ next. sum_from passes e next (drop (i + 1) routes) (drop (i + 1) entries)) p k) s
+          (λ next. sum_from passes e next (drop (i + 1) routes) (drop (i + 1) entries)) p k) s
 
       pub sums_go : (next : List Point) → at_part Load (add_if passes (goes_over route.links e) total (last_entry sent)) ≡ Ok next → Sums passes e first routes entries next (i + 1)
-      sums_go next k = record { same = ap (λ (r : Checked (List Point)). r >>= λ t. sum_from passes e t (drop (i + 1) routes) (drop (i + 1) entries))
-          (sym (was_ok Load (add_if passes (goes_over route.links e) total (last_entry sent)) next k)) ∙ sum_here }
+      sums_go next k = record {
+        same = ap (λ (r : Checked (List Point)). r >>= λ t. sum_from passes e t (drop (i + 1) routes) (drop (i + 1) entries))
+            (sym (was_ok Load (add_if passes (goes_over route.links e) total (last_entry sent)) next k)) ∙ sum_here;
+      }

@@ -72,7 +72,7 @@ module _ (along : List ℕ) (links : List (Option LoadedLink)) (link i : ℕ) (e
     first =
         let n : suc (i - 1) ≡ i = omega arith in
         sym (ap (λ (ps : List (ℕ × ℕ)). end_by end ps links link) (pairs_at along (i - 1) e f before (ap (slice_get along) n ∙ here)
-            ∙ ap (λ (k : ℕ). (e, f) ∷ pairs_of (drop k along)) n)) ∙ so_far
+        ∙ ap (λ (k : ℕ). (e, f) ∷ pairs_of (drop k along)) n)) ∙ so_far
 
     later : (least : ℚ) → end_by least (pairs_of (drop (i + 1 - 1) along)) links link ≡ end_by least (pairs_of (drop i along)) links link
     later least = ap (λ (k : ℕ). end_by least (pairs_of (drop k along)) links link) (let n : i + 1 - 1 ≡ i = omega arith in n)
@@ -86,7 +86,7 @@ module _ (along : List ℕ) (links : List (Option LoadedLink)) (link i : ℕ) (e
 -- over one more route
 pub end_route : (routes : List NamedRoute) (links : List (Option LoadedLink)) (link i : ℕ) (end next all : ℚ) (route : NamedRoute) → slice_get routes i ≡ Some route
     → end_by end (all_pairs (routes_of (drop i routes))) links link ≡ all → next ≡ end_by end (pairs_of route.route.links) links link
-        → end_by next (all_pairs (routes_of (drop (i + 1) routes))) links link ≡ all
+    → end_by next (all_pairs (routes_of (drop (i + 1) routes))) links link ≡ all
 end_route routes links link i end next all route at so_far is =
     ap (λ (z : ℚ). end_by z (all_pairs (routes_of (drop (i + 1) routes))) links link) is
     ∙ end-append end (pairs_of route.route.links) (all_pairs (routes_of (drop (i + 1) routes))) links link

@@ -14,8 +14,11 @@ module _ (passes : Passing) (horizon : ℚ) (routes : List Route) (so_far : SoFa
 
   abbrev after_loading : List Sent → Loaded → Checked SoFar
   after_loading begun loaded =
-      next_all passes e loaded.exit routes begun >>= λ entries. Ok (record { links =
-      set so_far.links e (Some (record { end = end; loaded = loaded })); entries = entries })
+      next_all passes e loaded.exit routes begun >>= λ entries. Ok (record {
+        links =
+            set so_far.links e (Some (record { end = end; loaded = loaded }));
+        entries = entries;
+      })
 
   abbrev after_sum : List Sent → List Point → Checked SoFar
   after_sum begun inflow = checked_loading passes link.transit link.capacity inflow end >>= after_loading begun
@@ -53,7 +56,7 @@ module _ (passes : Passing) (horizon : ℚ) (routes : List Route) (so_far : SoFa
 
         pub comes_to : (entries : List Sent) → at_part Load (next_all passes e loaded.exit routes begun) ≡ Ok entries
             → at_part Load (load_here passes horizon routes so_far e (Some link)) ≡ Ok
-                (record { links = set so_far.links e (Some (record { end = end; loaded = loaded })); entries = entries })
+            (record { links = set so_far.links e (Some (record { end = end; loaded = loaded })); entries = entries })
         comes_to entries h = loads ∙ after_ok Load (next_all passes e loaded.exit routes begun)
             (λ entries. Ok (record { links = set so_far.links e (Some (record { end = end; loaded = loaded })); entries = entries })) entries h
 

@@ -14,11 +14,11 @@ module _ (passes : Passing) (b : Bool) (yes : b ≡ true) (p : PassedAt ℚ) whe
       ap (λ (t : Bool). at_part Load (begin_if passes t horizon route sent)) yes
       ∙ sym (ap (at_part Load) (chain (checked_cumulative passes route.pieces horizon) (λ (a : List Point). checked_short passes a) (λ (entry : List Point). Ok (entry ∷ []))))
       ∙ after_err Load (first_entry passes route.pieces horizon) (λ (entry : List Point). Ok (entry ∷ [])) p
-          (ap (λ (l : List Piece). at_part Load (first_entry passes l horizon)) (sym same) ∙ e)
+      (ap (λ (l : List Piece). at_part Load (first_entry passes l horizon)) (sym same) ∙ e)
 
   pub next_passes : (exit entry : List Point) (sent : List (List Point)) → entry ≡ last_entry sent → at_part Load (next_entry passes exit entry) ≡ Err p
       → at_part Load (next_if passes b exit sent) ≡ Err p
   next_passes exit entry sent same e =
       ap (λ (t : Bool). at_part Load (next_if passes t exit sent)) yes
       ∙ after_err Load (next_entry passes exit (last_entry sent)) (λ (next : List Point). Ok (sent ++ next ∷ [])) p
-          (ap (λ (l : List Point). at_part Load (next_entry passes exit l)) (sym same) ∙ e)
+      (ap (λ (l : List Point). at_part Load (next_entry passes exit l)) (sym same) ∙ e)

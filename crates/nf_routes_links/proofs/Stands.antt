@@ -126,7 +126,7 @@ module _ (passes : Passing) (net : Network) (routes : List Route) (horizon : ℚ
   exits_then : (f : ℕ) (l : LoadedLink) → slice_get (set so_far.links e (Some here)) f ≡ Some (Some l) → AreExits l.loaded.exit
   exits_then f l h = ⊎_elim
       (λ (v : (eqb e f ≡ true) × (e ≡ f)). subst (λ (x : LoadedLink). AreExits x.loaded.exit)
-          (same (sym (set-same so_far.links e (Some here) inside) ∙ ap (slice_get (set so_far.links e (Some here))) v.1 ∙ h)) exits-are)
+      (same (sym (set-same so_far.links e (Some here) inside) ∙ ap (slice_get (set so_far.links e (Some here))) v.1 ∙ h)) exits-are)
       (λ (v : (eqb e f ≡ false) × (e ≢ f)). s.exits f l (sym (set_other so_far.links e f (Some here) v.1) ∙ h))
       (eqb_tells e f)
     where
@@ -181,8 +181,10 @@ module _ (net : Network) (routes : List Route) (order : List ℕ) (so_far : SoFa
     count = s.count;
     links = record { each = λ e h. s.loaded e (all e (let w = slice_get_within so_far.links e None h in let c = s.count in omega arith)) h };
     exits = s.exits;
-    sent = record { each = λ r sent h. let t = sent_there routes so_far.entries r sent s.entries h in let f = first_link t.0.links (are.walks r t.0 t.1) in
-        t.2.some f.0 (all f.0 f.1) f.2 };
+    sent = record {
+      each = λ r sent h. let t = sent_there routes so_far.entries r sent s.entries h in let f = first_link t.0.links (are.walks r t.0 t.1) in
+          t.2.some f.0 (all f.0 f.1) f.2;
+    };
   }
 
 pub all_taken : (links : ℕ) (routes : List Route) (order : List ℕ) → order ≡ loading_order links routes → takes_all links routes ≡ true → (f : ℕ) → f < links → is_taken order f ≡ true

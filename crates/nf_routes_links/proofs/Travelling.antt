@@ -104,8 +104,11 @@ pub record Travels (passes : Passing) (horizon : ℚ) (loaded : List Loaded) (li
 module _ (passes : Passing) (horizon : ℚ) (loaded : List Loaded) (links : List ℕ) where
   pub travels_first : (line : List Point) → 0ℚ ≤ℚ horizon → line ≡ departures horizon → Travels passes horizon loaded links line 0
   travels_first line from_0 e =
-      record { same = ap (λ (t : List Point). travel_along passes horizon loaded links t) e; positive =
-      subst (λ (l : List Point). NoneNegative horizon l) (sym e) (departures_nn horizon from_0) }
+      record {
+        same = ap (λ (t : List Point). travel_along passes horizon loaded links t) e;
+        positive =
+            subst (λ (l : List Point). NoneNegative horizon l) (sym e) (departures_nn horizon from_0);
+      }
 
   module _ (travel : List Point) (i : ℕ) (so_far : Travels passes horizon loaded links travel i) where
     pub travels_last : length links ≤ i → travel_along passes horizon loaded [] travel ≡ travel_along passes horizon loaded links (departures horizon)
@@ -124,7 +127,7 @@ module _ (passes : Passing) (horizon : ℚ) (loaded : List Loaded) (links : List
           → Stops (λ (q : ℚ). q) h (at_part Load (travel_along passes horizon loaded links (departures horizon)))
       travels_stop h s = stops_on h (at_part Load (checked_composed passes link.exit travel horizon)) (at_part Load (travel_along passes horizon loaded links (departures horizon)))
           (λ p k. ap (at_part Load) (sym here) ∙ after_err Load (checked_composed passes link.exit travel horizon)
-              (λ next. travel_along passes horizon loaded (drop (i + 1) links) next) p k) s
+          (λ next. travel_along passes horizon loaded (drop (i + 1) links) next) p k) s
 
       pub travels_go : (next : List Point) → AreExits link.exit → at_part Load (checked_composed passes link.exit travel horizon) ≡ Ok next
           → IsComposedOf link.exit travel horizon next → Travels passes horizon loaded links next (i + 1)

@@ -82,7 +82,7 @@ range_within start (suc count) e pairs taken h = by (is_free pairs taken start) 
   where
     by : (b : Bool) → is_free pairs taken start ≡ b → (if b then Some start else first_free pairs taken (range_with_len (start + 1) count)) ≡ Some e
         → (first_free pairs taken (range_with_len (start + 1) count) ≡ Some e → (e < start + 1 + count) × (is_free pairs taken e ≡ true))
-            → (e < start + suc count) × (is_free pairs taken e ≡ true)
+        → (e < start + suc count) × (is_free pairs taken e ≡ true)
     by true t h later = let same : start ≡ e = cc in (omega arith, ap (is_free pairs taken) (sym same) ∙ t)
     by false t h later = let r = later h in (omega (arith, r.0), r.1)
 
@@ -99,7 +99,7 @@ module _ (pairs : List (ℕ × ℕ)) (links : ℕ) where
     where
       by : (o : Option ℕ) → first_free pairs taken (range_with_len 0 links) ≡ o → (front : List ℕ) → with_next o (λ f. order_from more pairs links (f ∷ taken)) ≡ front ++ e ∷ back
           → ((f : ℕ) (front' : List ℕ) → order_from more pairs links (f ∷ taken) ≡ front' ++ e ∷ back
-              → (e < links) × (list_all (λ (p : ℕ × ℕ). not (eqb p.1 e) || is_taken (front' ++ f ∷ taken) p.0) pairs ≡ true))
+          → (e < links) × (list_all (λ (p : ℕ × ℕ). not (eqb p.1 e) || is_taken (front' ++ f ∷ taken) p.0) pairs ≡ true))
           → (e < links) × (list_all (λ (p : ℕ × ℕ). not (eqb p.1 e) || is_taken (front ++ taken) p.0) pairs ≡ true)
       by None none [] h later = absurd (cc)
       by None none (x ∷ front) h later = absurd (cc)
@@ -130,20 +130,20 @@ pub free-on : (pairs : List (ℕ × ℕ)) (taken : List ℕ) (all : Option ℕ) 
     → first_free pairs taken (range_with_len (start + 1) (count - (start + 1))) ≡ all
 free-on pairs taken all start count so_far h t =
     sym (ap (first_free pairs taken) (range-more start count h) ∙ ap (λ (b : Bool). if b then Some start else first_free pairs taken
-        (range_with_len (start + 1) (count - (start + 1)))) t) ∙ so_far
+    (range_with_len (start + 1) (count - (start + 1)))) t) ∙ so_far
 
 pub all-on : (order : List ℕ) (all : Bool) (start count : ℕ) → list_all (λ (e : ℕ). is_taken order e) (range_with_len start (count - start)) ≡ all
     → start < count → is_taken order start ≡ true
     → list_all (λ (e : ℕ). is_taken order e) (range_with_len (start + 1) (count - (start + 1))) ≡ all
 all-on order all start count so_far h t =
     sym (ap (list_all (λ (e : ℕ). is_taken order e)) (range-more start count h)
-        ∙ ap (λ (b : Bool). b && list_all (λ (e : ℕ). is_taken order e) (range_with_len (start + 1) (count - (start + 1)))) t) ∙ so_far
+    ∙ ap (λ (b : Bool). b && list_all (λ (e : ℕ). is_taken order e) (range_with_len (start + 1) (count - (start + 1)))) t) ∙ so_far
 
 pub all-off : (order : List ℕ) (all : Bool) (start count : ℕ) → list_all (λ (e : ℕ). is_taken order e) (range_with_len start (count - start)) ≡ all
     → start < count → is_taken order start ≡ false → false ≡ all
 all-off order all start count so_far h t =
     sym (ap (list_all (λ (e : ℕ). is_taken order e)) (range-more start count h)
-        ∙ ap (λ (b : Bool). b && list_all (λ (e : ℕ). is_taken order e) (range_with_len (start + 1) (count - (start + 1)))) t) ∙ so_far
+    ∙ ap (λ (b : Bool). b && list_all (λ (e : ℕ). is_taken order e) (range_with_len (start + 1) (count - (start + 1)))) t) ∙ so_far
 
 pub all-end : (order : List ℕ) (all : Bool) (start count : ℕ) → list_all (λ (e : ℕ). is_taken order e) (range_with_len start (count - start)) ≡ all → count ≤ start → true ≡ all
 all-end order all start count so_far h = sym (ap (list_all (λ (e : ℕ). is_taken order e)) (range-none start count h)) ∙ so_far

@@ -2,8 +2,21 @@
 pub use Rattle.nf_complete_laws.proofs.Bare.{same_node}
 pub use Rattle.nf_complete_laws.proofs.Deciding.{Decided, NoLink, both, same_or_not}
 pub use Rattle.nf_complete_laws.proofs.ExistsDeciding.{SomeLink, less_or_not, not_so, some_below, some_link}
-pub use Rattle.nf_complete_laws.proofs.Fitting.{Fits-capped, HasRoom, IsAtMost, IsFilled, capped, capped-le, capped-near, capped-none, capped-same,
-    filled_or_room, fits_used, ordered-low, room_or_not}
+pub use Rattle.nf_complete_laws.proofs.Fitting.{
+  Fits-capped,
+  HasRoom,
+  IsAtMost,
+  IsFilled,
+  capped,
+  capped-le,
+  capped-near,
+  capped-none,
+  capped-same,
+  filled_or_room,
+  fits_used,
+  ordered-low,
+  room_or_not,
+}
 pub use Rattle.nf_complete_laws.proofs.LinkSums.{sum_in-not_negative, sum_out-not_negative}
 pub use Rattle.nf_complete_laws.proofs.Pushing.{in-pushed, pushed, pushed-cases, spare-else, spare-head, spare-tail}
 pub use Rattle.nf_complete_laws.proofs.Spare.{HasSpare, demand-not_negative, enough_of_spare, spare, spare_of_enough, spare_or_not}

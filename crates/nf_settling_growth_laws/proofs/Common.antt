@@ -17,8 +17,19 @@ pub use Rattle.nf_rational_laws.proofs.Order.{<ℚ_irrefl, less_nn, lt_or_le_ℚ
 pub use Rattle.nf_rational_laws.proofs.Polynomial.{reading_of}
 pub use Rattle.nf_rational_laws.proofs.Tests.{max0_none, max0_of, test_of_less, test_of_not_less}
 pub use Rattle.nf_settling_graded_laws.specs.Grading.{IsGraded}
-pub use Rattle.nf_settling_growth_laws.specs.Growth.{AreInOrder, BottleneckDecides, BottleneckSteadies, GradedFlowDecides, GrowsAt, GrowthIsByCuts,
-    IsGrowth, OneLinkGrows, SwaysAtMost, TailHasGrowth, sway}
+pub use Rattle.nf_settling_growth_laws.specs.Growth.{
+  AreInOrder,
+  BottleneckDecides,
+  BottleneckSteadies,
+  GradedFlowDecides,
+  GrowsAt,
+  GrowthIsByCuts,
+  IsGrowth,
+  OneLinkGrows,
+  SwaysAtMost,
+  TailHasGrowth,
+  sway,
+}
 pub use Rattle.nf_settling_laws.proofs.Filling.{Kind, capacity_or_0, carried_up, filled, filled_amount, kind_at, law_at}
 pub use Rattle.nf_settling_laws.proofs.Starts.{IsLastSupply-from, label-bounded, label_bound, label_bound-not_negative, last_rate-not_negative, last_start, last_start-not_negative}
 pub use Rattle.nf_settling_laws.specs.Excess.{link_sum}

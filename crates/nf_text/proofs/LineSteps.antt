@@ -69,7 +69,7 @@ pub step_rise : (lines : List Line) (line : Line) (start next : ℕ) → start �
     → Rise 0 next (spans_of (lines ++ line ∷ []))
 step_rise lines line start next h r t =
     let both : spans_of (lines ++ line ∷ []) ≡ spans_of lines ++ line.words.items = flat_map-append (λ line. line.words.items) lines (line ∷ [])
-        ∙ ap (λ t. spans_of lines ++ t) (append-nil line.words.items) in
+    ∙ ap (λ t. spans_of lines ++ t) (append-nil line.words.items) in
     rw both (Rise-append 0 start next (spans_of lines) line.words.items (omega arith) h r t)
 
 -- each word of each line is in the text

@@ -33,8 +33,8 @@ line_is_read number rest plain read start whole e h p =
     let same : start + whole - start ≡ whole_len rest = omega (arith, h) in
     let line : take (start + whole - start) rest ≡ (first_line number rest).bytes ++ (first_line number rest).ending = ap (λ n. take n rest) same ∙ sym (whole_bytes number rest) in
     let q : plain ≡ bytes_eq ((first_line number rest).bytes ++ (first_line number rest).ending) (line_of_words all) = p
-        ∙ ap (λ t. bytes_eq t (line_of_words read)) line ∙ ap (λ ws. bytes_eq ((first_line number rest).bytes ++ (first_line number rest).ending)
-        (line_of_words ws)) e in
+    ∙ ap (λ t. bytes_eq t (line_of_words read)) line ∙ ap (λ ws. bytes_eq ((first_line number rest).bytes ++ (first_line number rest).ending)
+    (line_of_words ws)) e in
     at q
   where
     at : plain ≡ bytes_eq ((first_line number rest).bytes ++ (first_line number rest).ending) (line_of_words (words (take (bytes_len rest) rest)))

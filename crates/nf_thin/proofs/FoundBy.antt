@@ -57,7 +57,7 @@ module _ (passes : Passing) (net : Network) (sets : Sets) (rate : ℚ) (base for
   by_within thin finds =
       let f = finds listing narrow narrows in
       let w = answer_within passes net sets rate base forced listing narrow narrows budget thin.place f.part f.has_place f.accepted f.first thin.flows.items
-          thin.labels.items f.solution f.within in
+      thin.labels.items f.solution f.within in
       (w.0, subst (λ (p : Pattern). IsSearch passes net sets rate base budget (Found w.0 p thin.flows.items thin.labels.items)) (sym f.pattern_is) w.1)
 
   pub by_fault : (fault : SearchFault) → NarrowFinds passes net sets rate base forced budget (Err fault) → Searches (IsSearch passes net sets rate base budget) budget (Err fault)
@@ -79,4 +79,4 @@ module _ (net : Network) (sets : Sets) (rate : ℚ) (base forced : Pattern) (slo
   pub allowed_by : (pattern : Pattern) → IsListedIn net sets pattern → IsSolvable net sets rate pattern → HasForced forced pattern
   allowed_by pattern listed solvable =
       subst (λ (f : Pattern). HasForced f pattern) (sym is) (forced_allowed net sets rate base thin.0 slopes good sets_are.sets_are acyclic sets_are.count
-          is_base thin.1 pattern listed solvable)
+      is_base thin.1 pattern listed solvable)

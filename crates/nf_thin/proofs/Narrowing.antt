@@ -56,7 +56,7 @@ module _ (passes : Passing) (net : Network) (sets : Sets) (rate : ℚ) (base for
   next_later is_base pace keeps all is =
       let w = keeps all is in
       let later : IsBefore (question_left forced (question_of net sets base)).base w.part p =
-          subst (λ (l : Last). IsLater (question_left forced (question_of net sets base)).base l p) w.is_last next.later in
+      subst (λ (l : Last). IsLater (question_left forced (question_of net sets base)).base l p) w.is_last next.later in
       record {
         through = w.stands.through;
         later = subst (λ (l : Last). IsLater base l (filled forced p)) (sym w.stands.last)
@@ -112,7 +112,7 @@ module _ (passes : Passing) (net : Network) (sets : Sets) (rate : ℚ) (base for
         none = (vainly listing narrow n).1;
         beyond = λ there at.
             (let le = no_earlier_place passes net sets rate base forced listing narrow n (suc before.tried) there p
-                (before.tried, refl, here listing narrow n) at in let e = t.0 in omega arith);
+            (before.tried, refl, here listing narrow n) at in let e = t.0 in omega arith);
       },
     )
     narrow_failed (SearchFault.Passed place at) t listing narrow n = t

@@ -65,7 +65,7 @@ module _ (net : Network) (ranges nodes : List Range) (e : ℕ) (link : Link) (is
         (tail_below : t < length nodes) (head_below : h < length nodes)
         (sent_at : slice_get nodes t ≡ Some sent) (sums : (x y : ℚ) → IsWithin sent x → IsWithin here y → IsWithin out (x +ℚ y)) (middle_is : middle ≡ slice_set nodes t out)
         (kept_at : slice_get middle h ≡ Some kept) (differences : (x y : ℚ) → IsWithin kept x → IsWithin here y → IsWithin rest (x -ℚ y))
-            (after_is : after ≡ slice_set middle h rest) where
+        (after_is : after ≡ slice_set middle h rest) where
       middle_at : (v : ℕ) → v ≢ t → slice_get middle v ≡ slice_get nodes v
       middle_at v other = ap (λ (l : List Range). slice_get l v) middle_is ∙ set_other nodes t v out other
 
@@ -86,7 +86,7 @@ module _ (net : Network) (ranges nodes : List Range) (e : ℕ) (link : Link) (is
           let same : out ≡ range = same_Some out range (sym (after_at t apart ∙ (ap (λ (l : List Range). slice_get l t) middle_is ∙ set_same nodes t out tail_below)) ∙ at) in
           subst (λ (r : Range). IsWithin r (surplus_of_first net flow t (suc e))) same
           (subst (IsWithin out) (greater_surplus net flow t e link is_link (ap (λ (w : ℕ). eqb w t) tail_is ∙ eqb_same t t refl)
-              (ap (λ (w : ℕ). eqb w t) head_is ∙ eqb_other h t (λ back. apart (sym back))))
+          (ap (λ (w : ℕ). eqb w t) head_is ∙ eqb_other h t (λ back. apart (sym back))))
           (sums _ _ (so_far t sent sent_at flow within) (within e here there)))
 
       elsewhere : (v : ℕ) (range : Range) → v ≢ h → v ≢ t → slice_get after v ≡ Some range → BoundsFirst net ranges v (suc e) range

@@ -173,18 +173,26 @@ braess = record {
 braess_to_8 : printed_run (phases_by braess (n 8) (first_standing braess (n 0 ∷ n 3 ∷ n 1 ∷ n 2 ∷ []))
     ((Some Tight ∷ None ∷ Some Full ∷ None ∷ Some Tight ∷ []) ∷ (Some Tight ∷ Some Full ∷ None ∷ None ∷ Some Tight ∷ []) ∷ (Some Tight ∷ None ∷ None ∷ Some
     Tight ∷ Some Tight ∷ []) ∷ [])) ≡ Some (record {
-  reached = i 8;
-  labels = (at 0 0 ∷ at 8 8 ∷ []) ∷ (at 0 3 ∷ at 1 6 ∷ at 5 12 ∷ at 8 15 ∷ []) ∷ (at 0 1 ∷ at 8 9 ∷ []) ∷ (at 0 2 ∷ at 1 5 ∷ at 5 11 ∷ at 8 14 ∷ []) ∷ [];
-  inflows =
-      (at 0 0 ∷ at 1 3 ∷ at 5 9 ∷ at 8 15 ∷ [], i 3 ∷ (pos 3, 2) ∷ i 2 ∷ []) ∷ (at 0 0 ∷ at 1 0 ∷ at 5 6 ∷ at 8 9 ∷ [],
-      i 0 ∷ (pos 3, 2) ∷ i 1 ∷ []) ∷ (at 0 0 ∷ at 1 0 ∷ at 2 3 ∷ at 6 9 ∷ at 9 12 ∷ [], i 0 ∷ i 3 ∷ (pos 3, 2) ∷ i 1 ∷ []) ∷ (at 0 0 ∷ at 6 0 ∷ at 9 3 ∷ [],
-      i 0 ∷ i 1 ∷ []) ∷ (at 0 0 ∷ at 2 0 ∷ at 5 3 ∷ at 14 21 ∷ [], i 0 ∷ i 1 ∷ i 2 ∷ []) ∷ [];
-  outflows =
-      (at 0 0 ∷ at 1 0 ∷ at 2 3 ∷ at 6 9 ∷ at 9 15 ∷ [], i 0 ∷ i 3 ∷ (pos 3, 2) ∷ i 2 ∷ []) ∷ (at 0 0 ∷ at 5 0 ∷ at 14 9 ∷ [],
-      i 0 ∷ i 1 ∷ []) ∷ (at 0 0 ∷ at 2 0 ∷ at 14 12 ∷ [], i 0 ∷ i 1 ∷ []) ∷ (at 0 0 ∷ at 12 0 ∷ at 15 3 ∷ [],
-      i 0 ∷ i 1 ∷ []) ∷ (at 0 0 ∷ at 3 0 ∷ at 6 3 ∷ at 15 21 ∷ [], i 0 ∷ i 1 ∷ i 2 ∷ []) ∷ [];
-  queues = (at 0 0 ∷ at 8 0 ∷ []) ∷ (at 0 0 ∷ at 1 0 ∷ at 5 2 ∷ at 8 2 ∷ []) ∷ (at 0 0 ∷ at 1 0 ∷ at 2 2 ∷ at 6 4 ∷ at 9 4 ∷ []) ∷ (at 0 0 ∷ at 9 0 ∷ []) ∷ (at 0 0 ∷ at 14 0 ∷ []) ∷ [];
-})
+      reached = i 8;
+      labels = (at 0 0 ∷ at 8 8 ∷ []) ∷ (at 0 3 ∷ at 1 6 ∷ at 5 12 ∷ at 8 15 ∷ []) ∷ (at 0 1 ∷ at 8 9 ∷ []) ∷ (at 0 2 ∷ at 1 5 ∷ at 5 11 ∷ at 8 14 ∷ []) ∷ [];
+      inflows =
+          (at 0 0 ∷ at 1 3 ∷ at 5 9 ∷ at 8 15 ∷ [], i 3 ∷ (pos 3, 2) ∷ i 2 ∷ []) ∷ (
+            at 0 0 ∷ at 1 0 ∷ at 5 6 ∷ at 8 9 ∷ [],
+            i 0 ∷ (pos 3, 2) ∷ i 1 ∷ [],
+          ) ∷ (at 0 0 ∷ at 1 0 ∷ at 2 3 ∷ at 6 9 ∷ at 9 12 ∷ [], i 0 ∷ i 3 ∷ (pos 3, 2) ∷ i 1 ∷ []) ∷ (
+            at 0 0 ∷ at 6 0 ∷ at 9 3 ∷ [],
+            i 0 ∷ i 1 ∷ [],
+          ) ∷ (at 0 0 ∷ at 2 0 ∷ at 5 3 ∷ at 14 21 ∷ [], i 0 ∷ i 1 ∷ i 2 ∷ []) ∷ [];
+      outflows =
+          (at 0 0 ∷ at 1 0 ∷ at 2 3 ∷ at 6 9 ∷ at 9 15 ∷ [], i 0 ∷ i 3 ∷ (pos 3, 2) ∷ i 2 ∷ []) ∷ (
+            at 0 0 ∷ at 5 0 ∷ at 14 9 ∷ [],
+            i 0 ∷ i 1 ∷ [],
+          ) ∷ (at 0 0 ∷ at 2 0 ∷ at 14 12 ∷ [], i 0 ∷ i 1 ∷ []) ∷ (
+            at 0 0 ∷ at 12 0 ∷ at 15 3 ∷ [],
+            i 0 ∷ i 1 ∷ [],
+          ) ∷ (at 0 0 ∷ at 3 0 ∷ at 6 3 ∷ at 15 21 ∷ [], i 0 ∷ i 1 ∷ i 2 ∷ []) ∷ [];
+      queues = (at 0 0 ∷ at 8 0 ∷ []) ∷ (at 0 0 ∷ at 1 0 ∷ at 5 2 ∷ at 8 2 ∷ []) ∷ (at 0 0 ∷ at 1 0 ∷ at 2 2 ∷ at 6 4 ∷ at 9 4 ∷ []) ∷ (at 0 0 ∷ at 9 0 ∷ []) ∷ (at 0 0 ∷ at 14 0 ∷ []) ∷ [];
+    })
 unfolding pattern_lists table_list equations verdict_list phase_lists extend_list advance_list labels_after curve_list checked beyond whole ratio gcd neg_ℚ
     inv_ℚ ◌+ℚ◌ ◌-ℚ◌ ◌*ℚ◌ ◌/ℚ◌ le_ℚ lt_ℚ min_ℚ
 braess_to_8 = refl
@@ -201,12 +209,12 @@ unbounded = record {
 
 unbounded_to_6 : printed_run (phases_by unbounded (n 6) (first_standing unbounded (n 0 ∷ n 2 ∷ n 1 ∷ []))
     ((Some Tight ∷ Some Full ∷ None ∷ []) ∷ (Some Tight ∷ None ∷ Some Tight ∷ []) ∷ [])) ≡ Some (record {
-  reached = i 6;
-  labels = (at 0 0 ∷ at 6 6 ∷ []) ∷ (at 0 2 ∷ at 2 6 ∷ at 6 10 ∷ []) ∷ (at 0 1 ∷ at 6 7 ∷ []) ∷ [];
-  inflows = (at 0 0 ∷ at 2 4 ∷ at 6 8 ∷ [], i 2 ∷ i 1 ∷ []) ∷ (at 0 0 ∷ at 1 0 ∷ at 3 4 ∷ at 7 8 ∷ [], i 0 ∷ i 2 ∷ i 1 ∷ []) ∷ (at 0 0 ∷ at 2 0 ∷ at 6 4 ∷ [], i 0 ∷ i 1 ∷ []) ∷ [];
-  outflows = (at 0 0 ∷ at 1 0 ∷ at 3 4 ∷ at 7 8 ∷ [], i 0 ∷ i 2 ∷ i 1 ∷ []) ∷ (at 0 0 ∷ at 2 0 ∷ at 10 8 ∷ [], i 0 ∷ i 1 ∷ []) ∷ (at 0 0 ∷ at 6 0 ∷ at 10 4 ∷ [], i 0 ∷ i 1 ∷ []) ∷ [];
-  queues = (at 0 0 ∷ at 6 0 ∷ []) ∷ (at 0 0 ∷ at 1 0 ∷ at 3 2 ∷ at 7 2 ∷ []) ∷ (at 0 0 ∷ at 6 0 ∷ []) ∷ [];
-})
+      reached = i 6;
+      labels = (at 0 0 ∷ at 6 6 ∷ []) ∷ (at 0 2 ∷ at 2 6 ∷ at 6 10 ∷ []) ∷ (at 0 1 ∷ at 6 7 ∷ []) ∷ [];
+      inflows = (at 0 0 ∷ at 2 4 ∷ at 6 8 ∷ [], i 2 ∷ i 1 ∷ []) ∷ (at 0 0 ∷ at 1 0 ∷ at 3 4 ∷ at 7 8 ∷ [], i 0 ∷ i 2 ∷ i 1 ∷ []) ∷ (at 0 0 ∷ at 2 0 ∷ at 6 4 ∷ [], i 0 ∷ i 1 ∷ []) ∷ [];
+      outflows = (at 0 0 ∷ at 1 0 ∷ at 3 4 ∷ at 7 8 ∷ [], i 0 ∷ i 2 ∷ i 1 ∷ []) ∷ (at 0 0 ∷ at 2 0 ∷ at 10 8 ∷ [], i 0 ∷ i 1 ∷ []) ∷ (at 0 0 ∷ at 6 0 ∷ at 10 4 ∷ [], i 0 ∷ i 1 ∷ []) ∷ [];
+      queues = (at 0 0 ∷ at 6 0 ∷ []) ∷ (at 0 0 ∷ at 1 0 ∷ at 3 2 ∷ at 7 2 ∷ []) ∷ (at 0 0 ∷ at 6 0 ∷ []) ∷ [];
+    })
 unfolding pattern_lists table_list equations verdict_list phase_lists extend_list advance_list labels_after curve_list checked beyond whole ratio gcd neg_ℚ
     inv_ℚ ◌+ℚ◌ ◌-ℚ◌ ◌*ℚ◌ ◌/ℚ◌ le_ℚ lt_ℚ min_ℚ
 unbounded_to_6 = refl

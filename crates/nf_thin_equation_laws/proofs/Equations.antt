@@ -79,7 +79,7 @@ module _ (net : Network) (sets : Sets) where
     pub node_total : (v : ℕ) → total (node_factor net v) ≡ surplus net flows v
     node_total v = in_parts (node_factor net v) ∙ first_is_zero _ _ no_slopes
         ∙ node-dot net.links sets.active 0 (λ e. node_factor net v (FlowOn e)) (drop net.nodes xs) v sets_are.count flows-length
-            (λ i e same. ap (λ (j : ℕ). node_factor net v (FlowOn j)) (let s : e ≡ i = omega arith in s))
+        (λ i e same. ap (λ (j : ℕ). node_factor net v (FlowOn j)) (let s : e ≡ i = omega arith in s))
 
     module _ (e : ℕ) (link : Link) (is_link : IsLink net e link) where
       head_in : link.head < net.nodes
@@ -95,7 +95,7 @@ module _ (net : Network) (sets : Sets) where
       pub fills_total : total (fills_factor e link) ≡ neg_ℚ (unwrap_or link.capacity 0ℚ) *ℚ number_at slopes link.head +ℚ number_at flows e
       fills_total = in_parts (fills_factor e link)
           ∙ ap (λ (s : ℚ). s +ℚ dot (λ f. fills_factor e link (FlowOn f)) (active_from 0 sets.active) (drop net.nodes xs))
-              (slope_alone link.head (neg_ℚ (unwrap_or link.capacity 0ℚ)) head_in)
+          (slope_alone link.head (neg_ℚ (unwrap_or link.capacity 0ℚ)) head_in)
           ∙ ap (λ (s : ℚ). neg_ℚ (unwrap_or link.capacity 0ℚ) *ℚ number_at slopes link.head +ℚ s) (flow_alone e 1ℚ ∙ one-*ℚ (number_at flows e))
 
       pub zero_total : total (link_factor e link (Some Zero)) ≡ number_at flows e

@@ -74,7 +74,7 @@ module _ (P : Row → Type 0) where
     numbers_at (suc n) k h v low high apart = ⊎_elim
         (λ (e : (eqb v k ≡ true) × (v ≡ k)). picked_here e.1)
         (λ (e : (eqb v k ≡ false) × (v ≢ k)). (let other = e.1 in numbers_at n (k + 1)
-            (picked_rest (is_kept k) k (filter is_kept (range_with_len (k + 1) n)) h) v (later other) (omega arith) apart))
+        (picked_rest (is_kept k) k (filter is_kept (range_with_len (k + 1) n)) h) v (later other) (omega arith) apart))
         (eqb_tells v k)
       where
         later : v ≢ k → k + 1 ≤ v
@@ -119,7 +119,7 @@ filtered_before zero k w h = refl
 filtered_before (suc n) k w h = ⊎_elim
     (λ (e : (eqb k w ≡ true) × (k ≡ w)). (let s = e.1 in absurd (same s)))
     (λ (e : (eqb k w ≡ false) × (k ≢ w)). ap (λ (b : Bool). length (cond (not b) (k ∷ filter (λ v. not (eqb v w)) (range_with_len (k + 1) n))
-        (filter (λ v. not (eqb v w)) (range_with_len (k + 1) n)))) e.0
+    (filter (λ v. not (eqb v w)) (range_with_len (k + 1) n)))) e.0
     ∙ ap suc (filtered_before n (k + 1) w (omega arith)))
     (eqb_tells k w)
   where
@@ -130,10 +130,10 @@ pub filtered-length : (n k w : ℕ) → k ≤ w → w < k + n → suc (length (f
 filtered-length zero k w low high = absurd (omega arith)
 filtered-length (suc n) k w low high = ⊎_elim
     (λ (e : (eqb k w ≡ true) × (k ≡ w)). ap (λ (b : Bool). suc (length (cond (not b) (k ∷ filter (λ v. not (eqb v w)) (range_with_len (k + 1) n))
-        (filter (λ v. not (eqb v w)) (range_with_len (k + 1) n))))) e.0
+    (filter (λ v. not (eqb v w)) (range_with_len (k + 1) n))))) e.0
     ∙ ap suc (filtered_before n (k + 1) w (after e.1)))
     (λ (e : (eqb k w ≡ false) × (k ≢ w)). ap (λ (b : Bool). suc (length (cond (not b) (k ∷ filter (λ v. not (eqb v w)) (range_with_len (k + 1) n))
-        (filter (λ v. not (eqb v w)) (range_with_len (k + 1) n))))) e.0
+    (filter (λ v. not (eqb v w)) (range_with_len (k + 1) n))))) e.0
     ∙ ap suc (filtered-length n (k + 1) w (later e.1) (omega arith)))
     (eqb_tells k w)
   where

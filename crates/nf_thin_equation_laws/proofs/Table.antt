@@ -66,11 +66,11 @@ module _ (net : Network) (sets : Sets) (rate : ℚ) (pattern : Pattern) where
     rows-length =
         let a : length (node_rows ++ rows_of_links) ≡ length node_rows + length rows_of_links = length-append node_rows rows_of_links in
         let b : length node_rows ≡ length (filter (λ v. not (eqb v net.sink)) (range_with_len 0 net.nodes)) =
-            length-map (filter (λ v. not (eqb v net.sink)) (range_with_len 0 net.nodes)) (node_row net sets rate) in
+        length-map (filter (λ v. not (eqb v net.sink)) (range_with_len 0 net.nodes)) (node_row net sets rate) in
         let c : suc (length (filter (λ v. not (eqb v net.sink)) (range_with_len 0 net.nodes))) ≡ net.nodes =
-            filtered-length net.nodes 0 net.sink (omega arith) (let s = good.sink in omega arith) in
+        filtered-length net.nodes 0 net.sink (omega arith) (let s = good.sink in omega arith) in
         let d : length rows_of_links ≡ flow_count net sets = set_rows-length set link_row net.links sets.active 0 0 sets_are.count
-            (λ i e same. ap (λ (j : ℕ). unwrap_or (slice_get sets.active j) false) (let s : e ≡ i = omega arith in s)) in
+        (λ i e same. ap (λ (j : ℕ). unwrap_or (slice_get sets.active j) false) (let s : e ≡ i = omega arith in s)) in
         omega arith
 
     abbrev IsWide : Row → Type 0
@@ -170,13 +170,16 @@ module _ (net : Network) (sets : Sets) (rate : ℚ) (pattern : Pattern) (p : IsP
     module _ (h : Each Right (equations net sets rate pattern)) where
       parts : Right (source_row net sets rate pattern) × Each Right (node_rows net sets rate pattern) × Each Right (rows_of_links net sets rate pattern)
       unfolding equations
-      parts = (h.0, each-first Right (node_rows net sets rate pattern) (rows_of_links net sets rate pattern) h.1,
-          each-second Right (node_rows net sets rate pattern) (rows_of_links net sets rate pattern) h.1)
+      parts = (
+        h.0,
+        each-first Right (node_rows net sets rate pattern) (rows_of_links net sets rate pattern) h.1,
+        each-second Right (node_rows net sets rate pattern) (rows_of_links net sets rate pattern) h.1,
+      )
 
       node_is : (v : ℕ) → v < net.nodes → v ≢ net.sink → surplus net flows v ≡ only net.source rate v
       node_is v inside apart = sym (node_total net sets good sets_are xs count v)
           ∙ said net sets rate pattern good sets_are xs count (node_factor net v) (only net.source rate v)
-              (numbers_at Right (node_row net sets rate) net.sink net.nodes 0 parts.1 v (omega arith) (omega arith) apart)
+          (numbers_at Right (node_row net sets rate) net.sink net.nodes 0 parts.1 v (omega arith) (omega arith) apart)
 
       link_is : (e : ℕ) (link : Link) (state : Option State) → IsLink net e link → Has sets.active e → slice_get pattern e ≡ Some state → sum (link_factor e link state) ≡ 0ℚ
       link_is e link state is_link active at =
@@ -220,7 +223,7 @@ module _ (net : Network) (sets : Sets) (rate : ℚ) (pattern : Pattern) (p : IsP
       node_right v inside not_sink = says net sets rate pattern good sets_are xs count (node_factor net v) (only net.source rate v)
           (node_total net sets good sets_are xs count v ∙ ⊎_elim
           (λ (e : (eqb v net.source ≡ true) × (v ≡ net.source)). subst (λ (w : ℕ). surplus net flows w ≡ only net.source rate w) (sym e.1)
-              (s.source ∙ sym (only-here net.source rate net.source refl)))
+          (s.source ∙ sym (only-here net.source rate net.source refl)))
           (λ (e : (eqb v net.source ≡ false) × (v ≢ net.source)). s.inner v inside e.1 not_sink ∙ sym (only-else net.source rate v e.1))
           (eqb_tells v net.source))
 
@@ -232,7 +235,7 @@ module _ (net : Network) (sets : Sets) (rate : ℚ) (pattern : Pattern) (p : IsP
         row_of (Some Zero) at = zero_total net sets good sets_are xs count e link is_link ∙ s.links e link (Some Zero) is_link at
         row_of None at = fills_total net sets good sets_are xs count e link is_link ∙ fills_link link.capacity (number_at flows e) (number_at slopes link.head)
             (subst (λ (b : Bool). Equation None b link.capacity (number_at flows e) (number_at slopes link.tail) (number_at slopes link.head))
-                (flag_set sets.resetting e (resets e active at)) (s.links e link None is_link at))
+            (flag_set sets.resetting e (resets e active at)) (s.links e link None is_link at))
 
         has_entry : (state : Option State) × (slice_get pattern e ≡ Some state)
         has_entry = entry pattern e (let c = p.pattern_is.count in let d = sets_are.count in let w = slice_get_within net.links e link is_link in omega arith)

@@ -15,7 +15,7 @@ data Exits (exit t x : ℚ) : Type 0 where
 
 module _ (net : Network) (sets : Sets) (rate : ℚ) (pattern : Pattern) (flows slopes : List ℚ) (good : IsNetwork net) (are : AreSets net sets)
     (is_pattern : IsPattern sets (unbounded net) pattern) (leads : EachIsLed net sets pattern) (solves : Solves net sets rate pattern flows slopes)
-        (meets : Meets net pattern flows slopes) where
+    (meets : Meets net pattern flows slopes) where
   abbrev exit_of : ℕ → Link → ℚ
   exit_of e link = exit_slope_at sets flows slopes e link
 

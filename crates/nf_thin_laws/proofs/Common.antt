@@ -4,8 +4,30 @@ pub use Rattle.nf_frac_def.specs.Passing.{Passing, never}
 pub use Rattle.nf_frac_def.specs.declared.PassedAt.{PassedAt}
 pub use Rattle.nf_model.specs.Entries.{Has, number_at}
 pub use Rattle.nf_model.specs.Network.{ArePieces, IsLink, IsNetwork, IsPiece, Link, Network, Piece, hop_of, hops, next_change, rate_at, sum_in, sum_out, unbounded}
-pub use Rattle.nf_model.specs.Pattern.{AllDiffer, Equation, Fills, HasState, Inequality, IsBase, IsBefore, IsEarlier, IsFirstInto, IsForest, IsListed,
-    IsListedIn, IsPattern, IsSolution, IsSolvable, IsTrail, Meets, NeedsState, Pattern, Solves, changes, rank}
+pub use Rattle.nf_model.specs.Pattern.{
+  AllDiffer,
+  Equation,
+  Fills,
+  HasState,
+  Inequality,
+  IsBase,
+  IsBefore,
+  IsEarlier,
+  IsFirstInto,
+  IsForest,
+  IsListed,
+  IsListedIn,
+  IsPattern,
+  IsSolution,
+  IsSolvable,
+  IsTrail,
+  Meets,
+  NeedsState,
+  Pattern,
+  Solves,
+  changes,
+  rank,
+}
 pub use Rattle.nf_model.specs.Phases.{AreStartLabels, IsPhase, IsPhaseLength, IsPhaseSequence, IsUnending, Lasts, PhasesFrom, moved}
 pub use Rattle.nf_model.specs.ThinFlow.{Enters, IsThinFlow, Sets, exit_slope, exit_slope_at, sets_at, sets_of, slack, slacks_of, surplus}
 pub use Rattle.nf_model.specs.Walk.{Hop, IsHop, IsLeastTransit, IsWalk, transit_of, transit_sum}
@@ -33,14 +55,64 @@ pub use Rattle.nf_thin_def.specs.Accepted.{IsAccepted, pattern_lists}
 pub use Rattle.nf_thin_def.specs.Advance.{advance_list}
 pub use Rattle.nf_thin_def.specs.Extend.{extend_list}
 pub use Rattle.nf_thin_def.specs.Listing.{HasPlace, IsListing, IsListingIn}
-pub use Rattle.nf_thin_def.specs.PhaseRun.{Bounds, Fails, Goes, IsPhaseRun, IsRunReport, IsStart, PhaseStep, Runs, Seeks, Standing, at_horizon, at_lists,
-    at_phases, at_search, at_slack, cause_of_search, fails, goes, phase_lists, report_of, standing_after}
-pub use Rattle.nf_thin_def.specs.Search.{Answers, Found, IsFirstAccepted, IsFirstPassing, IsInVain, IsOverBudget, IsSearch, NoPattern, NoneAccepted,
-    NoneAcceptedBefore, NonePasses, OverBudget, PassesAt, SearchAnswer}
+pub use Rattle.nf_thin_def.specs.PhaseRun.{
+  Bounds,
+  Fails,
+  Goes,
+  IsPhaseRun,
+  IsRunReport,
+  IsStart,
+  PhaseStep,
+  Runs,
+  Seeks,
+  Standing,
+  at_horizon,
+  at_lists,
+  at_phases,
+  at_search,
+  at_slack,
+  cause_of_search,
+  fails,
+  goes,
+  phase_lists,
+  report_of,
+  standing_after,
+}
+pub use Rattle.nf_thin_def.specs.Search.{
+  Answers,
+  Found,
+  IsFirstAccepted,
+  IsFirstPassing,
+  IsInVain,
+  IsOverBudget,
+  IsSearch,
+  NoPattern,
+  NoneAccepted,
+  NoneAcceptedBefore,
+  NonePasses,
+  OverBudget,
+  PassesAt,
+  SearchAnswer,
+}
 pub use Rattle.nf_thin_laws.specs.ActiveLinks.{AreSets, EachIsEntered, HoldNoCycle, IsActiveWalk, NoneEntersSource}
 pub use Rattle.nf_thin_laws.specs.Firm.{AllAscend, AreFirm, Ascend, IsKeeper, choices_by, firm_before, firm_earlier, if_allowed, is_in, states_by}
-pub use Rattle.nf_thin_laws.specs.Forcing.{HasForced, IsForcing, change, entrywise, filled, forced_at, forced_by, forced_changes, forced_state, free_state,
-    given_state, left_of, now_resetting, sets_left, still_active}
+pub use Rattle.nf_thin_laws.specs.Forcing.{
+  HasForced,
+  IsForcing,
+  change,
+  entrywise,
+  filled,
+  forced_at,
+  forced_by,
+  forced_changes,
+  forced_state,
+  free_state,
+  given_state,
+  left_of,
+  now_resetting,
+  sets_left,
+  still_active,
+}
 pub use Rattle.nf_thin_laws.specs.PatternLaws.{AllowState, EachIsLed, SolvesHomogeneous}
 pub use Rattle.nf_thin_laws.specs.Ways.{AreIn, AreSole, Choices, IsIn, choices_of, left_ways, states_of, ways, ways_before, ways_below, ways_by, ways_earlier, ways_fewer}
 pub use Rattle.std.proofs.lemmas.Bool.{cases_lt, false≢true}
@@ -48,5 +120,25 @@ pub use Rattle.std.proofs.lemmas.Bool.Decides.{eqb_tells, leb_tells}
 pub use Rattle.std.proofs.lemmas.List.{append-nil, length-map, length-replicate}
 pub use Rattle.std.proofs.lemmas.Option.{none-some, same_Some, slice_get-get_or, slice_get-map, slice_get_cases, slice_get_past, slice_get_within}
 pub use Rattle.std.specs.List.{IsDistinct, enumerate_from, list_any}
-pub use Rattle.std.specs.Prelude.{Contains, Err, IsOk, None, Ok, Option, Result, Some, if◌then◌else◌, is_none, map, nat_lt, slice_get, slice_index_or, take,
-    unwrap_or, ◌-◌, ◌==◌, ◌↔◌, ◌⊎◌}
+pub use Rattle.std.specs.Prelude.{
+  Contains,
+  Err,
+  IsOk,
+  None,
+  Ok,
+  Option,
+  Result,
+  Some,
+  if◌then◌else◌,
+  is_none,
+  map,
+  nat_lt,
+  slice_get,
+  slice_index_or,
+  take,
+  unwrap_or,
+  ◌-◌,
+  ◌==◌,
+  ◌↔◌,
+  ◌⊎◌,
+}

@@ -260,7 +260,7 @@ module _ (passes : Passing) (net : Network) (is_network : IsNetwork net) (horizo
     still_queue e link one is_link at none =
         let facts = step_at s pattern flows slopes step parts e link one is_link at in
         still_tail e link one is_link at (no_queue_step passes (link_phase (sets_at net s.labels) pattern flows slopes step.labels (0 + e, link))
-            one.inflow_rate (facts.queue ∙ ap Ok none))
+        one.inflow_rate (facts.queue ∙ ap Ok none))
 
     after_of : (e : ℕ) (link : Link) (curves : LinkCurves) → IsLink net e link → slice_get (link_curves_after step.labels net.links s.link_curves step.links) e ≡ Some curves
         → After step.labels net.links s.link_curves step.links e link curves

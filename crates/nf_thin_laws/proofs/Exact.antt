@@ -135,7 +135,7 @@ pub slacks_exact : (passes : Passing) (hops : List Hop) (labels slacks : List �
 unfolding slack_list
 slacks_exact passes hops labels slacks e =
     same_value (slack_list never hops labels) slacks (slacks_of hops labels) (slack_list_as passes hops labels slacks e)
-        (each_exact (slack_of never labels) (slack labels) (slack_exact labels) hops)
+    (each_exact (slack_of never labels) (slack labels) (slack_exact labels) hops)
 
 -- The moved labels of the nodes from a number on.
 abbrev moved_label : ℚ → List ℚ → ℕ × ℚ → ℚ
@@ -168,7 +168,7 @@ advance_exact : (horizon time : ℚ) (extension : Option ℚ) (labels slopes : L
 unfolding advance_list checked
 advance_exact horizon time extension labels slopes count =
     ap (λ (w : Checked (List ℚ)). w >>= λ new. Ok (record { length = cut_at (horizon -ℚ time) extension; labels = new }))
-        (labels_exact (cut_at (horizon -ℚ time) extension) labels slopes count)
+    (labels_exact (cut_at (horizon -ℚ time) extension) labels slopes count)
 
 pub advanced_exact : (passes : Passing) (horizon time : ℚ) (extension : Option ℚ) (labels slopes : List ℚ) (new : Advanced) → length slopes ≡ length labels
     → advance_list passes horizon time extension labels slopes ≡ Ok new → (new.length ≡ cut_at (horizon -ℚ time) extension) × (new.labels ≡ moved labels slopes new.length)

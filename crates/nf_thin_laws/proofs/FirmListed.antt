@@ -85,8 +85,18 @@ chosen (b ∷ base) [] full zeros (r ∷ q) h e s at = absurd h
 chosen (b ∷ base) (t ∷ tight) [] zeros (r ∷ q) h e s at = absurd h
 chosen (b ∷ base) (t ∷ tight) (f ∷ full) [] (r ∷ q) h e s at = absurd h
 chosen (b ∷ base) (t ∷ tight) (f ∷ full) (z ∷ zeros) (r ∷ q) h zero s at =
-    record { b = b; t = t; f = f; z = z; at_base = refl; at_tight = refl; at_full = refl; at_zero = refl; is_in =
-        subst (λ (x : Option State). IsIn (states_by b t f z) x) (same_Some r s at) h.0 }
+    record {
+      b = b;
+      t = t;
+      f = f;
+      z = z;
+      at_base = refl;
+      at_tight = refl;
+      at_full = refl;
+      at_zero = refl;
+      is_in =
+          subst (λ (x : Option State). IsIn (states_by b t f z) x) (same_Some r s at) h.0;
+    }
 chosen (b ∷ base) (t ∷ tight) (f ∷ full) (z ∷ zeros) (r ∷ q) h (suc e) s at = let w = chosen base tight full zeros q h.1 e s at in
     record { b = w.b; t = w.t; f = w.f; z = w.z; at_base = w.at_base; at_tight = w.at_tight; at_full = w.at_full; at_zero = w.at_zero; is_in = w.is_in }
 
@@ -100,7 +110,7 @@ count_by (b ∷ base) (t ∷ tight) (f ∷ full) (z ∷ zeros) n m k = ap suc (c
 
 module _ (nodes source : ℕ) (hops : List Hop) (sets : Sets) (unbounded : List Bool) (base listed : Pattern) (tight full zeros : List Bool) (is_base : IsPattern sets unbounded base)
     (is_listed : IsListed nodes source hops sets unbounded listed) (firm : AreFirm nodes source hops sets unbounded listed tight full zeros) (q : Pattern)
-        (in_q : AreIn (choices_by base tight full zeros) q) where
+    (in_q : AreIn (choices_by base tight full zeros) q) where
   count : length q ≡ length base
   count = sym (AreIn-length (choices_by base tight full zeros) q in_q)
       ∙ count_by base tight full zeros (firm.tight_count ∙ sym is_base.count) (firm.full_count ∙ sym is_base.count) (firm.zero_count ∙ sym is_base.count)

@@ -48,7 +48,7 @@ module _ (links : List Link) (d : ℕ → ℚ) (v : ℕ) (balanced : out_less_in
   none_leaves_backward e link p at h = back_sum (sum_out links d v) (sum_in links d v) (sum_in links (λ _. 0ℚ) v) (d e) (sum_in links backward v) balanced out_some h
       (sum_in-none links v) (sum_in-line links (λ _. 0ℚ) d (0ℚ -ℚ 1ℚ) v)
       (subst (λ (z : ℚ). backward e ≤ℚ z) (sym (sum_in-same links backward (λ k. max_ℚ 0ℚ (backward k)) v
-          (λ k l q a. sym (max_is_right 0ℚ (backward k) (backward_nn (d k) (none_in k l q a))))))
+      (λ k l q a. sym (max_is_right 0ℚ (backward k) (backward_nn (d k) (none_in k l q a))))))
       (subst (λ (z : ℚ). z ≤ℚ sum_in links (λ k. max_ℚ 0ℚ (backward k)) v) (max_is_right 0ℚ (backward e) (backward_nn (d e) (≤ℚ_of_lt _ _ h)))
       (sum_in-each links (λ k. max_ℚ 0ℚ (backward k)) v (λ k. max_left 0ℚ (backward k)) e link p at)))
 
@@ -112,7 +112,7 @@ module _ (net : Network) (d : ℕ → ℚ) where
       (λ (h : 0ℚ <ℚ d e). ⊎_elim
       (λ (w : (eqb link.head v ≡ true) × (link.head ≡ v)). inl (inl (h, w.1)))
       (λ (w : (eqb link.head v ≡ false) × (link.head ≢ v)). inr (λ c. ⊎_elim (λ (k : (0ℚ <ℚ d e) × (link.head ≡ v)). w.1 k.1)
-          (λ (k : (d e <ℚ 0ℚ) × (link.tail ≡ v)). not_both_ℚ _ _ h (≤ℚ_of_lt _ _ k.0)) c))
+      (λ (k : (d e <ℚ 0ℚ) × (link.tail ≡ v)). not_both_ℚ _ _ h (≤ℚ_of_lt _ _ k.0)) c))
       (eqb_tells link.head v))
       (λ (h : d e ≤ℚ 0ℚ). ⊎_elim
       (λ (w : (eqb link.tail v ≡ true) × (link.tail ≡ v)). ⊎_elim
@@ -120,7 +120,7 @@ module _ (net : Network) (d : ℕ → ℚ) where
       (λ (k : 0ℚ ≤ℚ d e). inr (λ c. ⊎_elim (λ (j : (0ℚ <ℚ d e) × (link.head ≡ v)). not_both_ℚ _ _ j.0 h) (λ (j : (d e <ℚ 0ℚ) × (link.tail ≡ v)). not_both_ℚ _ _ j.0 k) c))
       (lt_or_le_ℚ (d e) 0ℚ))
       (λ (w : (eqb link.tail v ≡ false) × (link.tail ≢ v)). inr (λ c. ⊎_elim (λ (j : (0ℚ <ℚ d e) × (link.head ≡ v)). not_both_ℚ _ _ j.0 h)
-          (λ (j : (d e <ℚ 0ℚ) × (link.tail ≡ v)). w.1 j.1) c))
+      (λ (j : (d e <ℚ 0ℚ) × (link.tail ≡ v)). w.1 j.1) c))
       (eqb_tells link.tail v))
       (lt_or_le_ℚ 0ℚ (d e))
 
@@ -215,7 +215,7 @@ module _ (net : Network) (d : ℕ → ℚ) where
     too_long : (steps : List (ℕ × Bool)) (v w : ℕ) → IsFlowTrail steps v w → AllDiffer (edges steps) → length steps ≤ length net.links
     too_long steps v w trail differ =
         let l : length (edges steps) ≤ length net.links = length-le_from_distinct_below (edges steps) (length net.links)
-            (IsDistinct-differ (edges steps) differ) (edges_below steps v w trail) in
+        (IsDistinct-differ (edges steps) differ) (edges_below steps v w trail) in
         let m : length (edges steps) ≡ length steps = length-map steps (λ (s : ℕ × Bool). s.0) in omega arith
 
     grow : (more : ℕ) (steps : List (ℕ × Bool)) (v w : ℕ) → length net.links < length steps + more → v < net.nodes → IsFlowTrail steps v w → AllDiffer (edges steps) → Leaving v → ⊥

@@ -99,7 +99,7 @@ module _ (transit : ℚ) (capacity : Option ℚ) (pieces : List Piece) where
   forest : (Allowed : ℕ → Type 0) → IsForest (hops net) Allowed
   forest Allowed (e, forward) [] v differ (hop, p, a, s, t) =
       ends_differ forward (sym (s ∙ ap (λ (h : Hop). if forward then h.tail else h.head) (only_hop e hop p).1) ∙ sym t
-          ∙ ap (λ (h : Hop). if forward then h.head else h.tail) (only_hop e hop p).1)
+      ∙ ap (λ (h : Hop). if forward then h.head else h.tail) (only_hop e hop p).1)
   forest Allowed (e, forward) ((f, b) ∷ steps) v differ (hop, p, a, s, (next, q, o, z, t)) =
       differ.0 (zero, omega arith, (only_hop f next q).0 ∙ sym (only_hop e hop p).0)
 

@@ -136,7 +136,7 @@ module _ (net : Network) (sets : Sets) (pattern : Pattern) (good : IsNetwork net
       back : (v : ℕ) → v < net.nodes → Greater v → (e : ℕ) × (link : Link) × Enters net sets v e link × Greater link.tail
       back v h g =
           let t : (e : ℕ) × (link : Link) × Enters net sets v e link × Leads pattern sets e =
-              led net sets pattern are listed.states listed.entered v h (λ e. not_both_ℚ _ _ (subst Greater e g) (≤ℚ_of_same _ _ same_source)) in
+          led net sets pattern are listed.states listed.entered v h (λ e. not_both_ℚ _ _ (subst Greater e g) (≤ℚ_of_same _ _ same_source)) in
           (t.0, t.1, t.2, tail_greater t.0 t.1 t.2.is_link (compared_leads t.0 t.1 t.2.is_link t.3) (subst Greater (sym t.2.head) g))
 
       at_most : (v : ℕ) → v < net.nodes → l v ≤ℚ m v

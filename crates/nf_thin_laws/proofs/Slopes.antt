@@ -55,12 +55,12 @@ module _ (net : Network) (sets : Sets) (rate : ℚ) (good : IsNetwork net) (acyc
         (λ (w : (side link.head ≡ 1ℚ) × Greater link.head). fall_none (number_at x e) (number_at y e) _ _ (v.0 ∙ sym w.0))
         (λ (w : (side link.head ≡ 0ℚ) × NotGreater link.head). fall_out (number_at x e) (number_at y e) _ _ v.0 w.0
         (out_le (flag sets.resetting e) link.capacity _ _ _ _ _ _ (IsPositive-link net e link good s) (q.no_negative_flow e) (link_law x l p e link s a)
-            (link_law y m q e link s a) v.1 w.1))
+        (link_law y m q e link s a) v.1 w.1))
         (side_cases link.head))
         (λ (v : (side link.tail ≡ 0ℚ) × NotGreater link.tail). ⊎_elim
         (λ (w : (side link.head ≡ 1ℚ) × Greater link.head). fall_into (number_at x e) (number_at y e) _ _ v.0 w.0
         (into_le (flag sets.resetting e) link.capacity _ _ _ _ _ _ (IsPositive-link net e link good s) (p.no_negative_flow e) (link_law x l p e link s a)
-            (link_law y m q e link s a) v.1 w.1))
+        (link_law y m q e link s a) v.1 w.1))
         (λ (w : (side link.head ≡ 0ℚ) × NotGreater link.head). fall_none (number_at x e) (number_at y e) _ _ (v.0 ∙ sym w.0))
         (side_cases link.head))
         (side_cases link.tail)

@@ -45,7 +45,7 @@ module _ (q : Question) (given after : Given) (through : GoesThrough q given) (p
       through = goes_on;
       later = λ listing place is at.
           (let h = not_here q listing is place pattern at given.place given.last (through.counted listing is) p next other (is_ahead listing place is at) in
-              let e = one_more in omega arith);
+          let e = one_more in omega arith);
     }
 
   module _ (gives : Enumerates given None after) where

@@ -41,15 +41,15 @@ module _ (passes : Passing) (net : Network) (pattern : Pattern) (flows slopes : 
   unfolding link_verdict
   step_ok found e link bound h =
       ap (λ (r : Checked (Option ℚ)). (r >>= λ b. Ok (le_ℚ 0ℚ (number_at flows e) && keeps (state_of e) b (number_at flows e) (number_at slopes link.tail)
-          (number_at slopes link.head))) >>= λ holds. Ok (first_of found holds e)) h
+      (number_at slopes link.head))) >>= λ holds. Ok (first_of found holds e)) h
       ∙ ap (λ (b : Option ℚ). Ok (first_of found (le_ℚ 0ℚ (number_at flows e) && keeps (state_of e) b (number_at flows e) (number_at slopes link.tail)
-          (number_at slopes link.head)) e)) (bound_exact passes (state_of e) link.capacity (number_at slopes link.head) bound h)
+      (number_at slopes link.head)) e)) (bound_exact passes (state_of e) link.capacity (number_at slopes link.head) bound h)
 
   step_err : (found : Option ℕ) (e : ℕ) (link : Link) (p : Passed ℚ) → bound_at (e, link) ≡ Err p → after found (e, link) ≡ Err p
   unfolding link_verdict
   step_err found e link p h =
       ap (λ (r : Checked (Option ℚ)). (r >>= λ b. Ok (le_ℚ 0ℚ (number_at flows e) && keeps (state_of e) b (number_at flows e) (number_at slopes link.tail)
-          (number_at slopes link.head))) >>= λ holds. Ok (first_of found holds e)) h
+      (number_at slopes link.head))) >>= λ holds. Ok (first_of found holds e)) h
 
   -- ---- what the test says
   module _ (e : ℕ) (link : Link) (is_link : IsLink net e link) where
@@ -59,13 +59,13 @@ module _ (passes : Passing) (net : Network) (pattern : Pattern) (flows slopes : 
     test_meets : test e link ≡ true → MeetsAt net pattern flows slopes e
     test_meets h =
         let b = and_parts (le_ℚ 0ℚ (number_at flows e)) (keeps (state_of e) (bound_value (state_of e) link.capacity (number_at slopes link.head))
-            (number_at flows e) (number_at slopes link.tail) (number_at slopes link.head)) h in
+        (number_at flows e) (number_at slopes link.tail) (number_at slopes link.head)) h in
         record {
           no_negative = le_of_test 0ℚ (number_at flows e) b.0;
           inequality = λ other state at_link at_state. subst (λ (l : Link). Inequality state l.capacity (number_at flows e) (number_at slopes l.tail)
               (number_at slopes l.head)) (same_link other at_link)
               (subst (λ (s : Option State). Inequality s link.capacity (number_at flows e) (number_at slopes link.tail) (number_at slopes link.head))
-                  (ap (λ (o : Option (Option State)). unwrap_or o None) at_state)
+              (ap (λ (o : Option (Option State)). unwrap_or o None) at_state)
               (keeps_inequality (state_of e) link.capacity (number_at flows e) (number_at slopes link.tail) (number_at slopes link.head) b.1));
         }
 
@@ -74,7 +74,7 @@ module _ (passes : Passing) (net : Network) (pattern : Pattern) (flows slopes : 
       meets_test m = all_true _ _ (test_of_le 0ℚ (number_at flows e) m.no_negative)
           (inequality_keeps (state_of e) link.capacity (number_at flows e) (number_at slopes link.tail) (number_at slopes link.head)
           (subst (λ (s : Option State). Inequality s link.capacity (number_at flows e) (number_at slopes link.tail) (number_at slopes link.head))
-              (sym (ap (λ (o : Option (Option State)). unwrap_or o None) at_state))
+          (sym (ap (λ (o : Option (Option State)). unwrap_or o None) at_state))
           (m.inequality link state is_link at_state)))
 
       meets_not : test e link ≡ false → MeetsAt net pattern flows slopes e → ⊥
@@ -147,7 +147,7 @@ module _ (passes : Passing) (net : Network) (pattern : Pattern) (flows slopes : 
 
         by_bound : (r : Checked (Option ℚ)) → bound_at (k, link) ≡ r
             → (fold_checked after (first_of so_far (test k link) k) (enumerate_from (k + 1) links) ≡ Ok found
-                → IsOk (each bound_at (enumerate_from (k + 1) links)) × SoFar found ((k + 1) + length links))
+            → IsOk (each bound_at (enumerate_from (k + 1) links)) × SoFar found ((k + 1) + length links))
             → IsOk (each bound_at ((k, link) ∷ enumerate_from (k + 1) links)) × SoFar found (k + suc (length links))
         by_bound (Ok bound) e rest = done bound e
             (rest (sym (ap (λ (r : Checked (Option ℕ)). r >>= λ f. fold_checked after f (enumerate_from (k + 1) links)) (step_ok so_far k link bound e)) ∙ h))

@@ -139,7 +139,7 @@ module _ (net : Network) (sets : Sets) (e own : ℕ) (link : Link) (active : Has
       (λ (s : (eqb v link.tail ≡ true) × (v ≡ link.tail)). ap (number_at (set (set zeros link.head 1ℚ) link.tail (neg_ℚ 1ℚ))) s.1
       ∙ (got-same (set zeros link.head 1ℚ) link.tail (neg_ℚ 1ℚ) 0ℚ (let w = headed-length 1ℚ in let u = unknowns-length net sets in omega arith)
       ∙ (second_alone ∙ (ap (λ (b : Bool). one_if b -ℚ 1ℚ) (sym (different v link.head (λ t. apart (sym t ∙ s.1))))
-          ∙ ap (λ (b : Bool). one_if (eqb v link.head) -ℚ one_if b) (sym s.0)))))
+      ∙ ap (λ (b : Bool). one_if (eqb v link.head) -ℚ one_if b) (sym s.0)))))
       (λ (s : (eqb v link.tail ≡ false) × (v ≢ link.tail)). got-other (set zeros link.head 1ℚ) link.tail v (neg_ℚ 1ℚ) 0ℚ s.1
       ∙ (headed-at 1ℚ v ∙ (less_nothing (one_if (eqb v link.head)) ∙ ap (λ (b : Bool). one_if (eqb v link.head) -ℚ one_if b) (sym s.0))))
       (eqb_tells v link.tail)
@@ -157,9 +157,9 @@ module _ (net : Network) (sets : Sets) (e own : ℕ) (link : Link) (active : Has
   entries_tight : with_entries zeros (tight_entries link) ≡ row (unknowns net sets) (link_factor e link (Some Tight)) 0ℚ
   entries_tight = ⊎_elim
       (λ (s : (eqb link.head link.tail ≡ true) × (link.head ≡ link.tail)). ap
-          (λ (b : Bool). with_entries zeros (if b then [] else (link.head, 1ℚ) ∷ (link.tail, neg_ℚ 1ℚ) ∷ [])) s.0 ∙ level_row s.1)
+      (λ (b : Bool). with_entries zeros (if b then [] else (link.head, 1ℚ) ∷ (link.tail, neg_ℚ 1ℚ) ∷ [])) s.0 ∙ level_row s.1)
       (λ (s : (eqb link.head link.tail ≡ false) × (link.head ≢ link.tail)). ap
-          (λ (b : Bool). with_entries zeros (if b then [] else (link.head, 1ℚ) ∷ (link.tail, neg_ℚ 1ℚ) ∷ [])) s.0 ∙ tight_row s.1)
+      (λ (b : Bool). with_entries zeros (if b then [] else (link.head, 1ℚ) ∷ (link.tail, neg_ℚ 1ℚ) ∷ [])) s.0 ∙ tight_row s.1)
       (eqb_tells link.head link.tail)
 
   pub entries_row : (state : Option State) → with_entries zeros (link_entries own link state) ≡ row (unknowns net sets) (link_factor e link state) 0ℚ

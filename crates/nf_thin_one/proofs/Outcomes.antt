@@ -38,17 +38,19 @@ module _ (passes : Passing) (net : Network) (sets : Sets) (rate : ℚ) (pattern 
   pub values_count : (values : List ℚ) → AreValuesOf passes net sets rate pattern values → length values ≡ net.nodes + length (active_from 0 sets.active)
   values_count values h =
       (one_solution passes (equations net sets rate pattern) values (is_square net sets rate pattern p.network p.sets_are)
-          (table_ok passes net sets rate pattern p (Some values) h)).solves.count
+      (table_ok passes net sets rate pattern p (Some values) h)).solves.count
       ∙ rows-length net sets rate pattern p.network p.sets_are
 
   pub tried_values : (values : List ℚ) → AreValuesOf passes net sets rate pattern values → (r : Result Outcome (Halt ℚ))
       → JudgesValues net pattern (flows_in net.nodes sets.active values) (slopes_in net.nodes values)
-          (at_part Part.Verdict (verdict_list passes net pattern (slopes_in net.nodes values))) r
+      (at_part Part.Verdict (verdict_list passes net pattern (slopes_in net.nodes values))) r
       → TriesOne passes net sets rate pattern r
   tried_values values h (Ok (Outcome.Accepted flows slopes)) j =
-      let found = accepted passes net sets rate pattern p values h j.0 j.3 in
-      (found.0, subst (λ (l : List ℚ). IsSolution net sets rate pattern flows.items l) (sym j.2)
-          (subst (λ (f : List ℚ). IsSolution net sets rate pattern f (slopes_in net.nodes values)) (sym j.1) found.1))
+      let found = accepted passes net sets rate pattern p values h j.0 j.3 in (
+        found.0,
+        subst (λ (l : List ℚ). IsSolution net sets rate pattern flows.items l) (sym j.2)
+            (subst (λ (f : List ℚ). IsSolution net sets rate pattern f (slopes_in net.nodes values)) (sym j.1) found.1),
+      )
   tried_values values h (Ok Outcome.Refused) j = refused passes net sets rate pattern p values h j.0 j.1
   tried_values values h (Err (Halt.Passed at)) j = verdict_passes passes net sets rate pattern p values h at j
   tried_values values h (Err Halt.Memory) j = tt
@@ -59,7 +61,7 @@ module _ (passes : Passing) (net : Network) (sets : Sets) (rate : ℚ) (pattern 
 
   into_own : (values : List ℚ) → AreValuesOf passes net sets rate pattern values → (r : Result Tried (PassedAt ℚ))
       → JudgesFlows net pattern (flows_in net.nodes sets.active values) (slopes_in net.nodes values)
-          (at_part Part.Verdict (verdict_list passes net pattern (slopes_in net.nodes values))) r
+      (at_part Part.Verdict (verdict_list passes net pattern (slopes_in net.nodes values))) r
       → TriesInto passes net sets rate pattern (flows_in net.nodes sets.active values) (slopes_in net.nodes values) r
   into_own values h (Ok Tried.Accepted) j = accepted passes net sets rate pattern p values h j.0 j.1
   into_own values h (Ok Tried.NotSolvable) j = refused passes net sets rate pattern p values h j.0 j.1

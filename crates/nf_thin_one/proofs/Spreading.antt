@@ -22,7 +22,7 @@ module _ (active : List Bool) (values : List ℚ) (nodes : ℕ) where
     has_value at =
         let l = so.left in
         let c : length (active_from 0 (drop e active)) ≡ suc (length (active_from 1 (drop (suc e) active))) =
-            ap (λ (a : List Bool). length (active_from 0 a)) (drop_at active e true at) in
+        ap (λ (a : List Bool). length (active_from 0 a)) (drop_at active e true at) in
         omega arith
 
     pub active_more : (value : ℚ) (i j : ℕ) → i ≡ e + 1 → j ≡ next + 1 → slice_get active e ≡ Some true → slice_get values next ≡ Some value
@@ -44,7 +44,7 @@ module _ (active : List Bool) (values : List ℚ) (nodes : ℕ) where
         count =
             let l = so.left in
             let c : length (active_from 0 (drop e active)) ≡ suc (length (active_from 1 (drop (suc e) active))) =
-                ap (λ (a : List Bool). length (active_from 0 a)) (drop_at active e true at) in
+            ap (λ (a : List Bool). length (active_from 0 a)) (drop_at active e true at) in
             let d : length (active_from 1 (drop (suc e) active)) ≡ length (active_from 0 (drop i active)) =
             same_count (drop (suc e) active) 1 0 ∙ ap (λ (k : ℕ). length (active_from 0 (drop k active))) (let s : suc e ≡ i = omega arith in s) in
             omega arith
@@ -65,7 +65,7 @@ module _ (active : List Bool) (values : List ℚ) (nodes : ℕ) where
         count =
             let l = so.left in
             let c : length (active_from 0 (drop e active)) ≡ length (active_from 1 (drop (suc e) active)) =
-                ap (λ (a : List Bool). length (active_from 0 a)) (drop_at active e false at) in
+            ap (λ (a : List Bool). length (active_from 0 a)) (drop_at active e false at) in
             let d : length (active_from 1 (drop (suc e) active)) ≡ length (active_from 0 (drop i active)) =
             same_count (drop (suc e) active) 1 0 ∙ ap (λ (k : ℕ). length (active_from 0 (drop k active))) (let s : suc e ≡ i = omega arith in s) in
             omega arith

@@ -201,7 +201,7 @@ module _ (net : Network) (sets : Sets) (base pattern listed : Pattern) (is_base 
         shuns_all r v e some from at zeroed (inr before) = old.shuns r v e before (omega arith) at zeroed
         shuns_all r v e some from at zeroed (inl none) =
             shuns_by (slice_set keepers n (Some w.spare.other)) w.spare.keeper w.firm w.are r v e (omega arith)
-                (set_other keepers n v (Some w.spare.other) (λ same. omega arith) ∙ at) zeroed
+            (set_other keepers n v (Some w.spare.other) (λ same. omega arith) ∙ at) zeroed
 
     pub covers_more : (more after : ℕ) → IsByOther net sets base pattern listed keepers n more → after ≡ min (ways + more) most → Covers net sets base pattern keepers (n + 1) after
     covers_more more after (inl none) is = record {

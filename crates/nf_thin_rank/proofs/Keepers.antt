@@ -159,7 +159,7 @@ module _ (net : Network) (listed : Pattern) (keepers : List (Option ℕ)) (e : �
     full = λ h u. is_full h (same_Some (is_none link.capacity) true (sym (slice_get-image (λ (l : Link). is_none l.capacity) net.links e link at_link) ∙ u));
     zero = λ hop is_hop at_keeper off. no_keeper keeper
         (is_keeper (ap (slice_get keepers) (sym head_is ∙ ap (λ (h : Hop). h.head)
-            (same_Some (hop_of link) hop (sym (slice_get-image hop_of net.links e link at_link) ∙ is_hop))) ∙ at_keeper)) off;
+        (same_Some (hop_of link) hop (sym (slice_get-image hop_of net.links e link at_link) ∙ is_hop))) ∙ at_keeper)) off;
   }
 
 -- A link with a state may become Tight.

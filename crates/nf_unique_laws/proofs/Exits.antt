@@ -24,7 +24,7 @@ module _ (net : Network) (good : IsNetwork net) (one other : Flow) (is_one : Equ
         same : x.queue ≡ queue other e time
         same =
             IsQueue-unique link.capacity (inflow one e) time x.queue (queue one e time) x.is_queue
-                (is_one.queues e link time p (in_one net good one other is_one is_other e link time p w))
+            (is_one.queues e link time p (in_one net good one other is_one is_other e link time p w))
             ∙ queues-same net good one other is_one is_other e link time p w
 
     module _ (departure : ℚ) (v : Within 0ℚ one.reached departure) (w : Within 0ℚ other.reached departure) where

@@ -145,9 +145,11 @@ module _ (net : Network) (flow : Flow) (good : IsNetwork net) (is : Equilibrium 
   supply-nn departure h = subst (λ (z : ℚ). z ≤ℚ supply net departure) (supplied-begins net.pieces good.pieces) (supplied-rises net.pieces good.pieces 0ℚ departure (≤ℚ_refl 0ℚ) h)
 
   up_to_now : (departure : ℚ) → Within 0ℚ flow.reached departure → Within 0ℚ (end net.sink) (l net.sink departure)
-  up_to_now departure w =
-      (label-nn net flow good is net.sink departure good.sink w, label-order net flow good is net.sink departure flow.reached good.sink w.0 w.1
-      (≤ℚ_refl flow.reached))
+  up_to_now departure w = (
+    label-nn net flow good is net.sink departure good.sink w,
+    label-order net flow good is net.sink departure flow.reached good.sink w.0 w.1
+        (≤ℚ_refl flow.reached),
+  )
 
   at-sink : (time : ℚ) → Within 0ℚ (end net.sink) time → sum_out net.links (λ e. F e time) net.sink ≤ℚ sum_in net.links (λ e. G e time) net.sink
   at-sink time w = ⊎_elim
@@ -155,7 +157,7 @@ module _ (net : Network) (flow : Flow) (good : IsNetwork net) (is : Equilibrium 
       (λ (h : l net.sink 0ℚ ≤ℚ time).
       let d : (departure : ℚ) × Within 0ℚ flow.reached departure × (l net.sink departure ≡ time) = (HoldsUpTo-equilibrium net flow good is).label_takes net.sink time good.sink h w.1 in
       stays _ _ (supply net d.0) (sums net.sink time 0ℚ (supply net d.0) w
-          (subst (λ (z : ℚ). Balances net F net.sink z 0ℚ (supply net d.0)) d.2 (is.nash.conserves.sink d.0 d.1))) (supply-nn d.0 d.1.0))
+      (subst (λ (z : ℚ). Balances net F net.sink z 0ℚ (supply net d.0)) d.2 (is.nash.conserves.sink d.0 d.1))) (supply-nn d.0 d.1.0))
       (lt_or_le_ℚ time (l net.sink 0ℚ))
 
   at-node : (v : ℕ) (time : ℚ) → v < net.nodes → v ≢ net.source → Within 0ℚ (end v) time → sum_out net.links (λ e. F e time) v ≤ℚ sum_in net.links (λ e. G e time) v

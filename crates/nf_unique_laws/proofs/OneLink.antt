@@ -175,7 +175,7 @@ module _ (transit : ℚ) (capacity : Option ℚ) (amount : ℚ → ℚ) (tail_la
                     (λ (v : (g.taken.0 ≤ℚ tail_last) × (clipped tail_last g.taken.0 ≡ g.taken.0)). ap (λ (z : ℚ). amount z +ℚ rate *ℚ (time -ℚ transit -ℚ g.taken.0)) v.1 ∙ g.taken.2)
                     (λ (v : (tail_last ≤ℚ g.taken.0) × (clipped tail_last g.taken.0 ≡ tail_last)). ap (λ (z : ℚ). amount z +ℚ rate *ℚ (time -ℚ transit -ℚ g.taken.0)) v.1
                     ∙ just_taken rate (time -ℚ transit) g.taken.0 (amount g.taken.0) (amount tail_last) (out time) k g.taken.1.1 g.taken.2
-                        (rises tail_last g.taken.0 tail_nn v.0) (out-most time w))
+                    (rises tail_last g.taken.0 tail_nn v.0) (out-most time w))
                     (lands tail_last g.taken.0 tail_nn g.taken.1.0),
               );
               bound = λ t i. ⊎_elim
@@ -202,7 +202,7 @@ module _ (transit : ℚ) (capacity : Option ℚ) (amount : ℚ → ℚ) (tail_la
               (served_on rate transit head_last time t (amount t) (amount tail_last) k h
               ((all_out.bounded rate (in_flight transit head_last t i.0 m) some).bound t (i.0, ≤ℚ_of_lt _ _ m))))
               (λ (v : (tail_last ≤ℚ t) × (clipped tail_last t ≡ tail_last)). more_served rate (time -ℚ transit) t (entered t) (amount tail_last) k i.1
-                  (≤ℚ_of_same _ _ (ap amount (sym v.1))))
+              (≤ℚ_of_same _ _ (ap amount (sym v.1))))
               (lands tail_last t tail_nn i.0))
               (λ (m : head_last -ℚ transit ≤ℚ t). more_served rate (time -ℚ transit) t (entered t) (amount tail_last) k i.1 (≤ℚ_of_same _ _ (sym (settled t i.0 m))))
               (lt_or_le_ℚ t (head_last -ℚ transit));
@@ -213,5 +213,5 @@ module _ (transit : ℚ) (capacity : Option ℚ) (amount : ℚ → ℚ) (tail_la
   left-queue time n = ⊎_elim
       (λ (v : (time ≤ℚ head_last) × (clipped head_last time ≡ time)). subst (λ (z : ℚ). IsOutflow transit capacity entered time z) (ap out (sym v.1)) (out-queue time (n, v.0)))
       (λ (v : (head_last ≤ℚ time) × (clipped head_last time ≡ head_last)). subst (λ (z : ℚ). IsOutflow transit capacity entered time z)
-          (sym (ap out v.1 ∙ out-last)) (last-queue time v.0))
+      (sym (ap out v.1 ∙ out-last)) (last-queue time v.0))
       (lands head_last time head_nn n)

@@ -77,7 +77,7 @@ module _ (net : Network) (good : IsNetwork net) (rate : ℚ) (labels flows slope
         (λ (b : (flag before.resetting e ≡ true) × Has before.resetting e). ⊎_elim
         (λ (a : (flag after.resetting e ≡ true) × Has after.resetting e). inl (a.0 ∙ sym b.0))
         (λ (a : (flag after.resetting e ≡ false) × (Has after.resetting e → ⊥)). absurd
-            (a.1 (resetting_of_slack net later e link p (stays_above (slack_of_resetting net labels e link p b.1)))))
+        (a.1 (resetting_of_slack net later e link p (stays_above (slack_of_resetting net labels e link p b.1)))))
         (flag-cases after.resetting e))
         (λ (b : (flag before.resetting e ≡ false) × (Has before.resetting e → ⊥)). ⊎_elim
         (λ (a : (flag after.resetting e ≡ true) × Has after.resetting e). inr (

@@ -46,7 +46,7 @@ slack-requires-clause-head c =
 pub loop-hop-preserved : goal.loop-hop-preserved
 loop-hop-preserved c = subst
     (λ (items : List ℚ). each (slack_of passes_Q c.args.labels.now) c.args.hops.now ≡ with_front items
-        (each (slack_of passes_Q c.args.labels.now) (drop (c.loop-hop.hop-index + 1) c.args.hops.now)))
+    (each (slack_of passes_Q c.args.labels.now) (drop (c.loop-hop.hop-index + 1) c.args.hops.now)))
     (sym c.in_ok-push.ensures.items)
     (given_in Slack (slack_of passes_Q c.args.labels.now) c.args.hops.now c.loop-hop.slacks.items c.loop-hop.hop-index c.hop-item.result c.in_ok-next.next
     c.loop-hop-test.true c.hop-item.is c.loop-hop.invariant c.in_ok-next.ensures)

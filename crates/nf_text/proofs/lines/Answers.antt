@@ -39,7 +39,7 @@ returns-clause-within c = words_are_in c.args.text.now c.loop-start.start c.loop
 pub returns-clause-lines : goal.returns-clause-lines
 returns-clause-lines c = sym (c.loop-start.invariant.read
     ∙ ap (λ rest. map (seen_line c.args.text.now) c.loop-start.lines.items ++ map read_line (lines_from (vec_len c.loop-start.lines + 1) rest))
-        (drop_all c.loop-start.start c.args.text.now c.loop-start-test.false)
+    (drop_all c.loop-start.start c.args.text.now c.loop-start-test.false)
     ∙ append-nil (map (seen_line c.args.text.now) c.loop-start.lines.items))
 
 pub returns-clause-none : goal.returns-clause-none

@@ -20,7 +20,7 @@ load_link-requires-clause-transit c =
 pub load_link-requires-clause-capacity : goal.load_link-requires-clause-capacity
 load_link-requires-clause-capacity c =
     subst (λ (l : Link). IsPositive l.capacity) (sym c.here.view_is) (λ rate is. c.link-here.ensures.named.network.capacities c.args.link c.link-here.result
-        rate c.link-here.ensures.link is)
+    rate c.link-here.ensures.link is)
 
 pub load_link-requires-clause-begins : goal.load_link-requires-clause-begins
 load_link-requires-clause-begins c = c.in_ok-inflow.ensures.amount.begins
@@ -31,7 +31,7 @@ load_link-requires-clause-rises c = c.in_ok-inflow.ensures.amount.rises
 pub push_points-requires : goal.push_points-requires
 push_points-requires c =
     subst (λ (l : Link). IsPositive l.capacity) (sym c.here.view_is) (λ rate is. c.link-here.ensures.named.network.capacities c.args.link c.link-here.result
-        rate c.link-here.ensures.link is)
+    rate c.link-here.ensures.link is)
 
 pub returns : goal.returns
 returns c =

@@ -10,10 +10,10 @@ pub returns-in-Some : goal.returns-in-Some
 returns-in-Some c =
     not_below c.args.lower.now.points c.args.upper.now.points c.in_ok-least.least.points c.args.until (difference_of c.in-Some.field-0) c.requires c.in_ok-least.ensures.least
     (subst (λ (d : Option Difference). IsDifference c.in_ok-least.least.points c.args.lower.now.points c.args.until (option_map difference_of d))
-        c.in-Some.is c.in_ok-first_difference.ensures.difference)
+    c.in-Some.is c.in_ok-first_difference.ensures.difference)
 
 pub returns : goal.returns
 returns c =
     below c.args.lower.now.points c.args.upper.now.points c.in_ok-least.least.points c.args.until c.in_ok-least.ensures.least
     (subst (λ (d : Option Difference). IsDifference c.in_ok-least.least.points c.args.lower.now.points c.args.until (option_map difference_of d))
-        c.in-None.is c.in_ok-first_difference.ensures.difference)
+    c.in-None.is c.in_ok-first_difference.ensures.difference)

@@ -11,7 +11,7 @@ pub is_level-requires : goal.is_level-requires
 is_level-requires c =
     let form = c.in_ok-forever.ensures.form in
     let counts = subst (λ (t : Option Tail). IfSome (option_map tail_in t)
-        (λ tail. (length tail.slopes ≡ c.args.net.now.net.nodes) × (length tail.flows ≡ length c.args.net.now.net.links))) c.in-Some.is form.tail in
+    (λ tail. (length tail.slopes ≡ c.args.net.now.net.nodes) × (length tail.flows ≡ length c.args.net.now.net.links))) c.in-Some.is form.tail in
     counts.0
 
 pub returns-in-Some-clause-carries : goal.returns-in-Some-clause-carries

@@ -12,7 +12,7 @@ use Rattle.library_callers.proofs.load.queue_after.Goals as goal
 pub cumulative-requires-clause-pieces : goal.cumulative-requires-clause-pieces
 cumulative-requires-clause-pieces c =
     subst (λ (z : ℚ). ArePieces (record { start = z; rate = c.args.rate } ∷ [])) (sym c.zero.ensures)
-        (are_pieces c.args.rate (rate_there c.args.capacity c.args.rate c.requires.capacity c.requires.rate))
+    (are_pieces c.args.rate (rate_there c.args.capacity c.args.rate c.requires.capacity c.requires.rate))
 
 pub load_link-requires-clause-transit : goal.load_link-requires-clause-transit
 load_link-requires-clause-transit c = subst (λ (z : ℚ). 0ℚ ≤ℚ z) (sym c.zero-2.ensures) (≤ℚ_refl 0ℚ)

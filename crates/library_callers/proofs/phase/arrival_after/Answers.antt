@@ -15,7 +15,7 @@ pub returns-then-is_some-clause-stops : goal.returns-then-is_some-clause-stops
 returns-then-is_some-clause-stops c = λ _.
     let s = c.in_ok-solution.solution in
     stops c.args.net.now.net (bounds_of c.args.departure c.args.budgets) s.phases (report_in c.args.departure s) c.in_ok-solution.ensures.solution
-        (sym c.is_some.ensures ∙ c.if-is_some.true)
+    (sym c.is_some.ensures ∙ c.if-is_some.true)
 
 pub sink_label-requires-clause-labels : goal.sink_label-requires-clause-labels
 sink_label-requires-clause-labels c =

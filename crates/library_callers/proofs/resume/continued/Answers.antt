@@ -13,4 +13,4 @@ returns-in-Ok-clause-equilibrium c = subst (λ (r : Report). Equilibrium c.args.
 pub returns-in-Ok-clause-arrivals : goal.returns-in-Ok-clause-arrivals
 returns-in-Ok-clause-arrivals c = λ v departure node within.
     subst (λ (r : Report). label r.flow v departure ≡ label (seen_report c.args.report.now).flow v departure) (sym c.report_to.ensures)
-        (c.in-Ok.ensures.goes_on.labels v departure node within)
+    (c.in-Ok.ensures.goes_on.labels v departure node within)

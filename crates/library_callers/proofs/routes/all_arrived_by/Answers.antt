@@ -14,5 +14,5 @@ travel-requires-clause-route c =
 pub returns : goal.returns
 returns c =
     arrived c.args.net.now.net (routes_of c.args.routes.now) c.args.route c.args.horizon c.in_ok-time.time
-        (routed_of c.in_ok-routed.routed) c.requires.horizon c.in_ok-routed.ensures.routed
+    (routed_of c.in_ok-routed.routed) c.requires.horizon c.in_ok-routed.ensures.routed
     c.in_ok-routed.ensures.arrives c.in_ok-time.ensures

@@ -54,6 +54,6 @@ pub returns : goal.returns
 returns c file name = (
   verdict_given c.args.net.now c.recall.ensures file name c.args.text.items (seen_report c.in_ok-report.report)
       (ap (report_in c.args.net.now) (sym c.deref.ensures.value) ∙ c.in_ok-report.ensures.reads) c.in_ok-verdict.verdict c.in_ok-verdict.ensures.list
-          c.in_ok-verdict.ensures.rules c.in_ok-verdict.ensures.exact,
+      c.in_ok-verdict.ensures.rules c.in_ok-verdict.ensures.exact,
   tt,
 )

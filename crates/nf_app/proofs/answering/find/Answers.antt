@@ -58,12 +58,12 @@ distribute-requires-clause-within c =
 pub returns-in-Solve : goal.returns-in-Solve
 returns-in-Solve c =
     subst (λ (r : code.Request). FindsResult c.args.net.now c.args.other.items (requested r) c.solve_to.result) (sym c.in-Solve.is)
-        (c.solve_to.ensures c.in-Solve.file.now c.args.other.items)
+    (c.solve_to.ensures c.in-Solve.file.now c.args.other.items)
 
 pub returns-in-SolveForever : goal.returns-in-SolveForever
 returns-in-SolveForever c =
     subst (λ (r : code.Request). FindsResult c.args.net.now c.args.other.items (requested r) c.solve_on.result) (sym c.in-SolveForever.is)
-        (c.solve_on.ensures c.in-SolveForever.file.now c.args.other.items)
+    (c.solve_on.ensures c.in-SolveForever.file.now c.args.other.items)
 
 pub returns-in-Show : goal.returns-in-Show
 returns-in-Show c =
@@ -73,17 +73,17 @@ pub returns-in-Load : goal.returns-in-Load
 returns-in-Load c =
     with_bytes c.args.net.now c.args.request.now c.deref.result.now c.args.other.items c.load_to.result c.deref.ensures.value
     (subst (λ (r : code.Request). FindsResult c.args.net.now c.deref.result.now (requested r) c.load_to.result) (sym c.in-Load.is)
-        (c.load_to.ensures c.in-Load.file.now c.in-Load.loads.now))
+    (c.load_to.ensures c.in-Load.file.now c.in-Load.loads.now))
 
 pub returns-in-Check : goal.returns-in-Check
 returns-in-Check c =
     subst (λ (r : code.Request). FindsResult c.args.net.now c.args.other.items (requested r) c.check_report.result) (sym c.in-Check.is)
-        (c.check_report.ensures c.in-Check.file.now c.in-Check.report.now)
+    (c.check_report.ensures c.in-Check.file.now c.in-Check.report.now)
 
 pub returns-in-Quick : goal.returns-in-Quick
 returns-in-Quick c =
     subst (λ (r : code.Request). FindsResult c.args.net.now c.args.other.items (requested r) c.quick_to.result) (sym c.in-Quick.is)
-        (c.quick_to.ensures c.in-Quick.file.now c.args.other.items)
+    (c.quick_to.ensures c.in-Quick.file.now c.args.other.items)
 
 pub returns-in-Gen : goal.returns-in-Gen
 returns-in-Gen c =
@@ -93,15 +93,15 @@ pub returns-in-Settle : goal.returns-in-Settle
 returns-in-Settle c =
     with_bytes c.args.net.now c.args.request.now c.deref-in-Settle.result.now c.args.other.items c.settle_to.result c.deref-in-Settle.ensures.value
     (subst (λ (r : code.Request). FindsResult c.args.net.now c.deref-in-Settle.result.now (requested r) c.settle_to.result) (sym c.in-Settle.is)
-        (c.settle_to.ensures c.in-Settle.file.now c.in-Settle.flows.now))
+    (c.settle_to.ensures c.in-Settle.file.now c.in-Settle.flows.now))
 
 pub returns-in-Resume : goal.returns-in-Resume
 returns-in-Resume c =
     subst (λ (r : code.Request). FindsResult c.args.net.now c.args.other.items (requested r) c.resume_to.result) (sym c.in-Resume.is)
-        (c.resume_to.ensures c.in-Resume.file.now c.in-Resume.report.now)
+    (c.resume_to.ensures c.in-Resume.file.now c.in-Resume.report.now)
 
 pub returns-in-Routes : goal.returns-in-Routes
 returns-in-Routes c =
     with_bytes c.args.net.now c.args.request.now c.deref-in-Routes.result.now c.args.other.items c.distribute.result c.deref-in-Routes.ensures.value
     (subst (λ (r : code.Request). FindsResult c.args.net.now c.deref-in-Routes.result.now (requested r) c.distribute.result) (sym c.in-Routes.is)
-        (c.distribute.ensures c.in-Routes.file.now c.in-Routes.routes.now))
+    (c.distribute.ensures c.in-Routes.file.now c.in-Routes.routes.now))

@@ -16,7 +16,7 @@ pub returns-in_err-links : goal.returns-in_err-links
 returns-in_err-links c file name =
     let p = err_from_is_err_and c.from_residual-in_err-links.result c.from_residual-in_err-links.ensures.1 in
     rw (p.1, p.2) (loading_stopped c.args.net.now file name c.args.horizon c.args.loads.now c.in_ok-loads.loads c.in_ok-loads.ensures.reads
-        c.in_err-links.field-0.0 c.in_err-links.ensures.list)
+    c.in_err-links.field-0.0 c.in_err-links.ensures.list)
 
 pub returns : goal.returns
 returns c file name = (

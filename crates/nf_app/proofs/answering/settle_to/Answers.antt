@@ -16,7 +16,7 @@ pub returns-in_err-settled : goal.returns-in_err-settled
 returns-in_err-settled c file name =
     let p = err_from_is_err_and c.from_residual-in_err-settled.result c.from_residual-in_err-settled.ensures.1 in
     rw (p.1, p.2) (settling_halted c.args.net.now file name c.args.text.now
-        (given_of c.in_ok-flows.flows) c.in_ok-flows.ensures.reads c.in_err-settled.field-0.0 c.in_err-settled.ensures)
+    (given_of c.in_ok-flows.flows) c.in_ok-flows.ensures.reads c.in_err-settled.field-0.0 c.in_err-settled.ensures)
 
 pub returns-in-Some : goal.returns-in-Some
 returns-in-Some c file name =

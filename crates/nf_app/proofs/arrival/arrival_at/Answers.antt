@@ -18,7 +18,7 @@ returns-in-Some c =
     let stopped : s.stopped ≡ Some c.in-Some.stop.now = sym copied ∙ there in
     stopped_arrives c.args.net.now.net c.recall.ensures.network c.args.departs (report_in c.args.departs s) s.phases
     (subst (λ (b : Budgets). IsRunSolution c.args.net.now.net (bounds_of c.args.departs b) s.phases (report_in c.args.departs s))
-        c.usual_budgets-budgets.ensures c.in_ok-solution.ensures.solution)
+    c.usual_budgets-budgets.ensures c.in_ok-solution.ensures.solution)
     c.in-Some.stop.now stopped
 
 pub returns : goal.returns
@@ -29,6 +29,6 @@ returns c =
     let stopped : s.stopped ≡ None = sym copied ∙ none in
     reached_arrives c.args.net.now.net c.recall.ensures.network c.args.departs (report_in c.args.departs s) s.phases
     (subst (λ (b : Budgets). IsRunSolution c.args.net.now.net (bounds_of c.args.departs b) s.phases (report_in c.args.departs s))
-        c.usual_budgets-budgets.ensures c.in_ok-solution.ensures.solution)
+    c.usual_budgets-budgets.ensures c.in_ok-solution.ensures.solution)
     (subst (λ (v : ℕ). v < c.args.net.now.net.nodes) c.sink.ensures.value c.sink.ensures.node) c.requires stopped c.last_label.result
     (at_sink c.in_ok-solution.solution.flow c.sink.result c.args.net.now.net.sink c.last_label.result c.sink.ensures.value c.last_label.ensures)

@@ -12,4 +12,4 @@ returns c =
     let here = subst (λ (l : List Point). slice_get l (length l - 1) ≡ Some c.last_point.result)
     (points_there c.args.flow.now.labels.items c.index-place.result c.index-label.result.now c.index-label.ensures below) c.last_point.ensures in
     subst (λ (i : ℕ). slice_get (points_at (flow_of c.args.flow.now).labels i)
-        (length (points_at (flow_of c.args.flow.now).labels i) - 1) ≡ Some c.last_point.result) c.index-place.ensures here
+    (length (points_at (flow_of c.args.flow.now).labels i) - 1) ≡ Some c.last_point.result) c.index-place.ensures here

@@ -20,43 +20,43 @@ pub returns-in-Solve-clause-gathered : goal.returns-in-Solve-clause-gathered
 returns-in-Solve-clause-gathered g c words asks =
     let shelf = visit g.S.Shelf c.args.shelf.now c.fetch_one.new.shelf in
     gathered_one words shelf (requested c.args.request.now) asks (input_file c.in-Solve.file.now)
-        (ap (λ (r : code.Request). files_of (requested r)) c.in-Solve.is) (ap (λ (r : code.Request). generated_by (requested r)) c.in-Solve.is)
+    (ap (λ (r : code.Request). files_of (requested r)) c.in-Solve.is) (ap (λ (r : code.Request). generated_by (requested r)) c.in-Solve.is)
     c.fetch_one.result c.fetch_one.ensures.read
 
 pub returns-in-SolveForever-clause-gathered : goal.returns-in-SolveForever-clause-gathered
 returns-in-SolveForever-clause-gathered g c words asks =
     let shelf = visit g.S.Shelf c.args.shelf.now c.fetch_one-in-SolveForever.new.shelf in
     gathered_one words shelf (requested c.args.request.now) asks (input_file c.in-SolveForever.file.now)
-        (ap (λ (r : code.Request). files_of (requested r)) c.in-SolveForever.is)
-        (ap (λ (r : code.Request). generated_by (requested r)) c.in-SolveForever.is)
+    (ap (λ (r : code.Request). files_of (requested r)) c.in-SolveForever.is)
+    (ap (λ (r : code.Request). generated_by (requested r)) c.in-SolveForever.is)
     c.fetch_one-in-SolveForever.result c.fetch_one-in-SolveForever.ensures.read
 
 pub returns-in-Show-clause-gathered : goal.returns-in-Show-clause-gathered
 returns-in-Show-clause-gathered g c words asks =
     let shelf = visit g.S.Shelf c.args.shelf.now c.fetch_one-in-Show.new.shelf in
     gathered_one words shelf (requested c.args.request.now) asks (input_file c.in-Show.file.now)
-        (ap (λ (r : code.Request). files_of (requested r)) c.in-Show.is) (ap (λ (r : code.Request). generated_by (requested r)) c.in-Show.is)
+    (ap (λ (r : code.Request). files_of (requested r)) c.in-Show.is) (ap (λ (r : code.Request). generated_by (requested r)) c.in-Show.is)
     c.fetch_one-in-Show.result c.fetch_one-in-Show.ensures.read
 
 pub returns-in-Load-clause-gathered : goal.returns-in-Load-clause-gathered
 returns-in-Load-clause-gathered g c words asks =
     let shelf = visit g.S.Shelf c.args.shelf.now c.fetch_network_with.new.shelf in
     gathered_two words shelf (requested c.args.request.now) asks (input_file c.in-Load.file.now) (input_file c.in-Load.loads.now)
-        (ap (λ (r : code.Request). files_of (requested r)) c.in-Load.is) (ap (λ (r : code.Request). generated_by (requested r)) c.in-Load.is)
+    (ap (λ (r : code.Request). files_of (requested r)) c.in-Load.is) (ap (λ (r : code.Request). generated_by (requested r)) c.in-Load.is)
     c.fetch_network_with.result c.fetch_network_with.ensures.read
 
 pub returns-in-Check-clause-gathered : goal.returns-in-Check-clause-gathered
 returns-in-Check-clause-gathered g c words asks =
     let shelf = visit g.S.Shelf c.args.shelf.now c.fetch_network_with-in-Check.new.shelf in
     gathered_two words shelf (requested c.args.request.now) asks (input_file c.in-Check.file.now) (report_file c.in-Check.report.now)
-        (ap (λ (r : code.Request). files_of (requested r)) c.in-Check.is) (ap (λ (r : code.Request). generated_by (requested r)) c.in-Check.is)
+    (ap (λ (r : code.Request). files_of (requested r)) c.in-Check.is) (ap (λ (r : code.Request). generated_by (requested r)) c.in-Check.is)
     c.fetch_network_with-in-Check.result c.fetch_network_with-in-Check.ensures.read
 
 pub returns-in-Quick-clause-gathered : goal.returns-in-Quick-clause-gathered
 returns-in-Quick-clause-gathered g c words asks =
     let shelf = visit g.S.Shelf c.args.shelf.now c.fetch_one-in-Quick.new.shelf in
     gathered_one words shelf (requested c.args.request.now) asks (input_file c.in-Quick.file.now)
-        (ap (λ (r : code.Request). files_of (requested r)) c.in-Quick.is) (ap (λ (r : code.Request). generated_by (requested r)) c.in-Quick.is)
+    (ap (λ (r : code.Request). files_of (requested r)) c.in-Quick.is) (ap (λ (r : code.Request). generated_by (requested r)) c.in-Quick.is)
     c.fetch_one-in-Quick.result c.fetch_one-in-Quick.ensures.read
 
 pub returns-in-Gen-clause-gathered : goal.returns-in-Gen-clause-gathered
@@ -69,21 +69,21 @@ pub returns-in-Settle-clause-gathered : goal.returns-in-Settle-clause-gathered
 returns-in-Settle-clause-gathered g c words asks =
     let shelf = visit g.S.Shelf c.args.shelf.now c.fetch_network_with-in-Settle.new.shelf in
     gathered_two words shelf (requested c.args.request.now) asks (input_file c.in-Settle.file.now) (input_file c.in-Settle.flows.now)
-        (ap (λ (r : code.Request). files_of (requested r)) c.in-Settle.is) (ap (λ (r : code.Request). generated_by (requested r)) c.in-Settle.is)
+    (ap (λ (r : code.Request). files_of (requested r)) c.in-Settle.is) (ap (λ (r : code.Request). generated_by (requested r)) c.in-Settle.is)
     c.fetch_network_with-in-Settle.result c.fetch_network_with-in-Settle.ensures.read
 
 pub returns-in-Resume-clause-gathered : goal.returns-in-Resume-clause-gathered
 returns-in-Resume-clause-gathered g c words asks =
     let shelf = visit g.S.Shelf c.args.shelf.now c.fetch_network_with-in-Resume.new.shelf in
     gathered_two words shelf (requested c.args.request.now) asks (input_file c.in-Resume.file.now) (report_file c.in-Resume.report.now)
-        (ap (λ (r : code.Request). files_of (requested r)) c.in-Resume.is) (ap (λ (r : code.Request). generated_by (requested r)) c.in-Resume.is)
+    (ap (λ (r : code.Request). files_of (requested r)) c.in-Resume.is) (ap (λ (r : code.Request). generated_by (requested r)) c.in-Resume.is)
     c.fetch_network_with-in-Resume.result c.fetch_network_with-in-Resume.ensures.read
 
 pub returns-in-Routes-clause-gathered : goal.returns-in-Routes-clause-gathered
 returns-in-Routes-clause-gathered g c words asks =
     let shelf = visit g.S.Shelf c.args.shelf.now c.fetch_network_with-in-Routes.new.shelf in
     gathered_two words shelf (requested c.args.request.now) asks (input_file c.in-Routes.file.now) (input_file c.in-Routes.routes.now)
-        (ap (λ (r : code.Request). files_of (requested r)) c.in-Routes.is) (ap (λ (r : code.Request). generated_by (requested r)) c.in-Routes.is)
+    (ap (λ (r : code.Request). files_of (requested r)) c.in-Routes.is) (ap (λ (r : code.Request). generated_by (requested r)) c.in-Routes.is)
     c.fetch_network_with-in-Routes.result c.fetch_network_with-in-Routes.ensures.read
 
 pub returns-in-Solve-clause-fits : goal.returns-in-Solve-clause-fits
@@ -93,7 +93,7 @@ returns-in-Solve-clause-fits g c =
 pub returns-in-SolveForever-clause-fits : goal.returns-in-SolveForever-clause-fits
 returns-in-SolveForever-clause-fits g c =
     subst (λ (r : code.Request). IfOk c.fetch_one-in-SolveForever.result (λ got. OtherFits (requested r) got.1.items)) (sym c.in-SolveForever.is)
-        (any_fit c.fetch_one-in-SolveForever.result)
+    (any_fit c.fetch_one-in-SolveForever.result)
 
 pub returns-in-Show-clause-fits : goal.returns-in-Show-clause-fits
 returns-in-Show-clause-fits g c =
@@ -118,17 +118,17 @@ returns-in-Gen-clause-fits g c =
 pub returns-in-Settle-clause-fits : goal.returns-in-Settle-clause-fits
 returns-in-Settle-clause-fits g c =
     subst (λ (r : code.Request). IfOk c.fetch_network_with-in-Settle.result (λ got. OtherFits (requested r) got.1.items))
-        (sym c.in-Settle.is) c.fetch_network_with-in-Settle.ensures.within
+    (sym c.in-Settle.is) c.fetch_network_with-in-Settle.ensures.within
 
 pub returns-in-Resume-clause-fits : goal.returns-in-Resume-clause-fits
 returns-in-Resume-clause-fits g c =
     subst (λ (r : code.Request). IfOk c.fetch_network_with-in-Resume.result (λ got. OtherFits (requested r) got.1.items))
-        (sym c.in-Resume.is) c.fetch_network_with-in-Resume.ensures.within
+    (sym c.in-Resume.is) c.fetch_network_with-in-Resume.ensures.within
 
 pub returns-in-Routes-clause-fits : goal.returns-in-Routes-clause-fits
 returns-in-Routes-clause-fits g c =
     subst (λ (r : code.Request). IfOk c.fetch_network_with-in-Routes.result (λ got. OtherFits (requested r) got.1.items))
-        (sym c.in-Routes.is) c.fetch_network_with-in-Routes.ensures.within
+    (sym c.in-Routes.is) c.fetch_network_with-in-Routes.ensures.within
 
 pub returns-in-Solve-clause-same : goal.returns-in-Solve-clause-same
 returns-in-Solve-clause-same g c = c.fetch_one.ensures.same

@@ -57,7 +57,7 @@ returns c =
     subst (λ (r : Result lists.Loaded (PassedAt ℚ)). Gives loaded_of (λ (q : ℚ). q) c.load_trace.result r)
     (sym (after_ok Load (checked_cumulative passes_Q c.args.pieces.now c.args.horizon)
     (λ (inflow : List Point). lists.checked_loading passes_Q c.args.link.now.transit c.args.link.now.capacity inflow c.args.horizon)
-        c.in_ok-inflow.inflow.curve.points c.in_ok-inflow.ensures.list))
+    c.in_ok-inflow.inflow.curve.points c.in_ok-inflow.ensures.list))
     (subst (λ (l : Link). Gives loaded_of (λ (q : ℚ). q) c.load_trace.result
-        (at_part Load (lists.checked_loading passes_Q l.transit l.capacity c.in_ok-inflow.inflow.curve.points c.args.horizon)))
+    (at_part Load (lists.checked_loading passes_Q l.transit l.capacity c.in_ok-inflow.inflow.curve.points c.args.horizon)))
     c.link.view_is c.load_trace.ensures.list)

@@ -47,33 +47,33 @@ returns-in_err-loading-clause-list c =
     let p = err_from_is_err_and c.from_residual.result c.from_residual.ensures.1 in
     let front = map loaded_of c.loop-link.loaded.items in
     let so_far = ap (λ (l : List (Link × List Piece)). with_front front (each (load_link_list passes_Q c.args.horizon) l))
-        (sym (zip_next c.args.net.now.net.links c.args.loads.now c.loop-link.link c.link-here.result c.requires.many c.link-here.ensures.link))
-        ∙ c.loop-link.invariant.1 in
+    (sym (zip_next c.args.net.now.net.links c.args.loads.now c.loop-link.link c.link-here.result c.requires.many c.link-here.ensures.link))
+    ∙ c.loop-link.invariant.1 in
     let here = subst (λ (ps : List Piece). Gives loaded_of (λ (q : ℚ). q) (Err c.in_err-loading.field-0.0)
-        (at_part Load (load_link_list passes_Q c.args.horizon (c.link-here.result, ps)))) c.pieces-supplied.ensures.value c.in_err-loading.ensures in
+    (at_part Load (load_link_list passes_Q c.args.horizon (c.link-here.result, ps)))) c.pieces-supplied.ensures.value c.in_err-loading.ensures in
     rw (p.1, p.2) (stops_on c.in_err-loading.field-0.0 (at_part Load (load_link_list passes_Q c.args.horizon
-        (c.link-here.result, pieces_at c.args.loads.now c.loop-link.link))) (loading_list c.args.net.now c.args.loads.now c.args.horizon)
+    (c.link-here.result, pieces_at c.args.loads.now c.loop-link.link))) (loading_list c.args.net.now c.args.loads.now c.args.horizon)
     (each_stops Load (load_link_list passes_Q c.args.horizon) front (each (load_link_list passes_Q c.args.horizon)
-        (zip c.args.net.now.net.links c.args.loads.now)) (c.link-here.result, pieces_at c.args.loads.now c.loop-link.link)
-        (drop (c.loop-link.link + 1) (zip c.args.net.now.net.links c.args.loads.now)) so_far) here)
+    (zip c.args.net.now.net.links c.args.loads.now)) (c.link-here.result, pieces_at c.args.loads.now c.loop-link.link)
+    (drop (c.loop-link.link + 1) (zip c.args.net.now.net.links c.args.loads.now)) so_far) here)
 
 pub loop-link-preserved : goal.loop-link-preserved
 loop-link-preserved c =
     let front = map loaded_of c.loop-link.loaded.items in
     let so_far = ap (λ (l : List (Link × List Piece)). with_front front (each (load_link_list passes_Q c.args.horizon) l))
-        (sym (zip_next c.args.net.now.net.links c.args.loads.now c.loop-link.link c.link-here.result c.requires.many c.link-here.ensures.link))
-        ∙ c.loop-link.invariant.1 in
+    (sym (zip_next c.args.net.now.net.links c.args.loads.now c.loop-link.link c.link-here.result c.requires.many c.link-here.ensures.link))
+    ∙ c.loop-link.invariant.1 in
     let y = loaded_of c.in_ok-loading.loading in
     let here : at_part Load (load_link_list passes_Q c.args.horizon (c.link-here.result, pieces_at c.args.loads.now c.loop-link.link)) ≡ Ok y =
     ap (λ (ps : List Piece). at_part Load (load_link_list passes_Q c.args.horizon (c.link-here.result, ps))) (sym c.pieces-supplied.ensures.value) ∙ c.in_ok-loading.ensures in
     let items = c.in_ok-push.ensures.items in
     let made : map loaded_of c.push.new.self.items ≡ front ++ y ∷ [] = ap (λ (l : List code.Loaded). map loaded_of l) items
-        ∙ map-append loaded_of c.loop-link.loaded.items (c.in_ok-loading.loading ∷ []) in (
+    ∙ map-append loaded_of c.loop-link.loaded.items (c.in_ok-loading.loading ∷ []) in (
       ap length items ∙ length-append c.loop-link.loaded.items (c.in_ok-loading.loading ∷ []) ∙ ap (λ (n : ℕ). n + 1) c.loop-link.invariant.0,
       ap (λ (l : List lists.Loaded). with_front l (each (load_link_list passes_Q c.args.horizon) (drop (c.loop-link.link + 1) (zip c.args.net.now.net.links c.args.loads.now)))) made
           ∙ each_goes Load (load_link_list passes_Q c.args.horizon) front (each (load_link_list passes_Q c.args.horizon)
-              (zip c.args.net.now.net.links c.args.loads.now)) (c.link-here.result, pieces_at c.args.loads.now c.loop-link.link)
-              (drop (c.loop-link.link + 1) (zip c.args.net.now.net.links c.args.loads.now)) so_far y here,
+          (zip c.args.net.now.net.links c.args.loads.now)) (c.link-here.result, pieces_at c.args.loads.now c.loop-link.link)
+          (drop (c.loop-link.link + 1) (zip c.args.net.now.net.links c.args.loads.now)) so_far y here,
     )
 
 pub returns-clause-list : goal.returns-clause-list
@@ -82,7 +82,7 @@ returns-clause-list c =
     let end : c.loop-link.link ≡ length c.args.net.now.net.links = omega arith in
     let front = map loaded_of c.loop-link.loaded.items in
     let done = ap (λ (l : List (Link × List Piece)). with_front front (each (load_link_list passes_Q c.args.horizon) l))
-        (sym (zip_ends c.args.net.now.net.links c.args.loads.now c.loop-link.link c.requires.many end)) ∙ c.loop-link.invariant.1 in
+    (sym (zip_ends c.args.net.now.net.links c.args.loads.now c.loop-link.link c.requires.many end)) ∙ c.loop-link.invariant.1 in
     each_ends (load_link_list passes_Q c.args.horizon) front (each (load_link_list passes_Q c.args.horizon) (zip c.args.net.now.net.links c.args.loads.now)) Load done
 
 pub load_by_pieces-requires-clause-pieces : goal.load_by_pieces-requires-clause-pieces

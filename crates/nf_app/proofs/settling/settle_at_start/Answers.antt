@@ -31,7 +31,7 @@ is_thin-requires-clause-source c =
       slopes_same = sym c.deref-2.ensures.value;
     } in
     sets_source c.args.net.now.net (given_of c.args.flows.now) sets.0 sets.1 c.in_ok-sets.sets c.rate_at-rate.result c.deref.result.now c.deref-2.result.now
-        called c.recall.ensures.network
+    called c.recall.ensures.network
 
 pub is_thin-requires-clause-flows : goal.is_thin-requires-clause-flows
 is_thin-requires-clause-flows c = ap length c.deref.ensures.value ∙ c.requires.flows
@@ -50,7 +50,7 @@ returns-in_err-is_thin c =
     } in
     let p = err_from_is_err_and c.from_residual-in_err-is_thin.result c.from_residual-in_err-is_thin.ensures.1 in
     rw (p.1, p.2) (test_stopped c.args.net.now.net (given_of c.args.flows.now) sets.0 sets.1 c.in_ok-sets.sets c.rate_at-rate.result c.deref.result.now
-        c.deref-2.result.now called sets.2.0 (Halt.Passed c.in_err-is_thin.field-0.0) c.in_err-is_thin.ensures.list)
+    c.deref-2.result.now called sets.2.0 (Halt.Passed c.in_err-is_thin.field-0.0) c.in_err-is_thin.ensures.list)
 
 pub returns-then-not-branch : goal.returns-then-not-branch
 returns-then-not-branch c =
@@ -62,7 +62,7 @@ returns-then-not-branch c =
       slopes_same = sym c.deref-2.ensures.value;
     } in
     not_thin c.args.net.now.net (given_of c.args.flows.now) sets.0 sets.1 c.in_ok-sets.sets c.rate_at-rate.result c.deref.result.now c.deref-2.result.now
-        called sets.2.0 c.in_ok-is_thin.ensures.list (none_of c.in_ok-is_thin.field-0 _ _ c.in_ok-is_thin.ensures.thin c.if-not-branch.true)
+    called sets.2.0 c.in_ok-is_thin.ensures.list (none_of c.in_ok-is_thin.field-0 _ _ c.in_ok-is_thin.ensures.thin c.if-not-branch.true)
 
 pub settle-requires-clause-sets : goal.settle-requires-clause-sets
 settle-requires-clause-sets c =
@@ -74,7 +74,7 @@ settle-requires-clause-sets c =
       slopes_same = sym c.deref-4.ensures.value;
     } in
     sets_good c.args.net.now.net (given_of c.args.flows.now) sets.0 sets.1 c.in_ok-sets.sets c.rate_at-rate.result c.deref-3.result.now c.deref-4.result.now
-        again c.recall.ensures.network
+    again c.recall.ensures.network
 
 pub settle-requires-clause-rate : goal.settle-requires-clause-rate
 settle-requires-clause-rate c =
@@ -86,7 +86,7 @@ settle-requires-clause-rate c =
       slopes_same = sym c.deref-4.ensures.value;
     } in
     sets_rate c.args.net.now.net (given_of c.args.flows.now) sets.0 sets.1 c.in_ok-sets.sets c.rate_at-rate.result c.deref-3.result.now c.deref-4.result.now
-        again c.recall.ensures.network
+    again c.recall.ensures.network
 
 pub settle-requires-clause-thin : goal.settle-requires-clause-thin
 settle-requires-clause-thin c =
@@ -104,7 +104,7 @@ settle-requires-clause-thin c =
       slopes_same = sym c.deref-4.ensures.value;
     } in
     let thin = thin_there c.args.net.now.net (given_of c.args.flows.now) sets.0 sets.1 c.in_ok-sets.sets c.rate_at-rate.result c.deref.result.now
-        c.deref-2.result.now called (some_of c.in_ok-is_thin.field-0 _ _ c.in_ok-is_thin.ensures.thin c.if-not-branch.false) in
+    c.deref-2.result.now called (some_of c.in_ok-is_thin.field-0 _ _ c.in_ok-is_thin.ensures.thin c.if-not-branch.false) in
     thin_again c.args.net.now.net (given_of c.args.flows.now) sets.0 sets.1 c.in_ok-sets.sets c.rate_at-rate.result c.deref-3.result.now c.deref-4.result.now again thin
 
 pub returns-in_err-settled : goal.returns-in_err-settled
@@ -123,12 +123,12 @@ returns-in_err-settled c =
       slopes_same = sym c.deref-4.ensures.value;
     } in
     let test = tested c.args.net.now.net (given_of c.args.flows.now) sets.0 sets.1 c.in_ok-sets.sets c.rate_at-rate.result c.deref.result.now
-        c.deref-2.result.now called c.in_ok-is_thin.ensures.list in
+    c.deref-2.result.now called c.in_ok-is_thin.ensures.list in
     let thin = thin_there c.args.net.now.net (given_of c.args.flows.now) sets.0 sets.1 c.in_ok-sets.sets c.rate_at-rate.result c.deref.result.now
-        c.deref-2.result.now called (some_of c.in_ok-is_thin.field-0 _ _ c.in_ok-is_thin.ensures.thin c.if-not-branch.false) in
+    c.deref-2.result.now called (some_of c.in_ok-is_thin.field-0 _ _ c.in_ok-is_thin.ensures.thin c.if-not-branch.false) in
     let p = err_from_is_err_and c.from_residual-in_err-settled.result c.from_residual-in_err-settled.ensures.1 in
     rw (p.1, p.2) (settling_stopped c.args.net.now.net (given_of c.args.flows.now) sets.0 sets.1 c.in_ok-sets.sets c.rate_at-rate.result
-        c.deref-3.result.now c.deref-4.result.now again sets.2.0 test thin c.in_err-settled.field-0.0 c.in_err-settled.ensures.list)
+    c.deref-3.result.now c.deref-4.result.now again sets.2.0 test thin c.in_err-settled.field-0.0 c.in_err-settled.ensures.list)
 
 pub returns : goal.returns
 returns c =
@@ -146,9 +146,9 @@ returns c =
       slopes_same = sym c.deref-4.ensures.value;
     } in
     let test = tested c.args.net.now.net (given_of c.args.flows.now) sets.0 sets.1 c.in_ok-sets.sets c.rate_at-rate.result c.deref.result.now
-        c.deref-2.result.now called c.in_ok-is_thin.ensures.list in
+    c.deref-2.result.now called c.in_ok-is_thin.ensures.list in
     let thin = thin_there c.args.net.now.net (given_of c.args.flows.now) sets.0 sets.1 c.in_ok-sets.sets c.rate_at-rate.result c.deref.result.now
-        c.deref-2.result.now called (some_of c.in_ok-is_thin.field-0 _ _ c.in_ok-is_thin.ensures.thin c.if-not-branch.false) in
+    c.deref-2.result.now called (some_of c.in_ok-is_thin.field-0 _ _ c.in_ok-is_thin.ensures.thin c.if-not-branch.false) in
     let e = c.in_ok-settled.ensures in
     settled_there c.args.net.now.net (given_of c.args.flows.now) sets.0 sets.1 c.in_ok-sets.sets c.rate_at-rate.result c.deref-3.result.now
-        c.deref-4.result.now again sets.2.0 test thin c.in_ok-settled.settled e.list e.pattern e.thin e.listed e.solution
+    c.deref-4.result.now again sets.2.0 test thin c.in_ok-settled.settled e.list e.pattern e.thin e.listed e.solution

@@ -30,7 +30,7 @@ four_parts o o1 o2 o3 o4 a b d e h h1 h2 h3 h4 =
 pub returns : goal.returns
 returns c =
     four_parts c.new-text.result.items c.put_number_line.new.text.items c.put_walks.new.text.items c.put_cut.new.text.items
-        c.put_number_line-2.new.text.items _ _ _ _ c.new-text.ensures.items c.in_ok-put_number_line.ensures
+    c.put_number_line-2.new.text.items _ _ _ _ c.new-text.ensures.items c.in_ok-put_number_line.ensures
     (c.in_ok-put_walks.ensures ∙ ap (λ (l : List Fed). c.put_number_line.new.text.items ++ flat_map (walk_line c.args.net.now.link_names) l) c.deref.ensures.value)
     (c.in_ok-put_cut.ensures ∙ ap (λ (l : List ℚ). c.put_walks.new.text.items ++ flat_map (cut_line c.args.net.now.node_names) (enumerate_from 0 l)) c.deref-2.ensures.value)
     c.in_ok-put_number_line-2.ensures

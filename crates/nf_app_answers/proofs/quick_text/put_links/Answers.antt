@@ -15,7 +15,7 @@ pub loop-link-preserved : goal.loop-link-preserved
 loop-link-preserved c =
     word_more (name_at c.args.net.now.link_names) c.args.links.now c.loop-link.link-index c.link-item.result c.loop-link.text.items _ _
     (slice_get_read c.args.links.now (length c.args.links.now) c.loop-link.link-index c.link-item.result refl c.loop-link-test.true c.link-item.is)
-        c.loop-link.invariant (c.in_ok-push_word.ensures ∙ ap (λ (w : List ℕ). c.loop-link.text.items ++ 32 ∷ w) c.link_word.ensures)
+    c.loop-link.invariant (c.in_ok-push_word.ensures ∙ ap (λ (w : List ℕ). c.loop-link.text.items ++ 32 ∷ w) c.link_word.ensures)
 
 pub returns : goal.returns
 returns c =

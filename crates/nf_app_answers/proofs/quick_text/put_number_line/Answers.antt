@@ -16,5 +16,5 @@ returns-in_err-push_bytes-2 c = IfOk-from_err c.from_residual-in_err-push_bytes-
 pub returns : goal.returns
 returns c =
     line_put _ _ _ c.put_number.new.text.items _ c.args.key.now (printed c.args.number) [] c.in_ok-push_bytes.ensures c.in_ok-put_number.ensures
-        (sym (append-nil c.put_number.new.text.items))
+    (sym (append-nil c.put_number.new.text.items))
     c.in_ok-push_bytes-2.ensures

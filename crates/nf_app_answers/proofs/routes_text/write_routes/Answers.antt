@@ -42,7 +42,7 @@ returns-in_err-write_route g c =
     (points_there c.args.routed.now.arrivals.items i c.index-arrival.result.now c.index-arrival.ensures (omega arith))
     (points_there c.args.routed.now.travels.items i c.index-travel.result.now c.index-travel.ensures (omega arith)) in
     wrote_then_failed (flat_map lines (take i (range_with_len 0 n))) (lines i) (flat_map lines (drop (suc i) (range_with_len 0 n))) (for_each n lines) _
-        (each_left n lines i below) c.from_residual.ensures.0
+    (each_left n lines i below) c.from_residual.ensures.0
     c.loop-route.invariant (same_lines _ (lines i) here c.in_err-write_route.ensures)
 
 pub returns : goal.returns

@@ -26,9 +26,9 @@ loop-link-preserved g c =
     let below : i < n = omega arith in
     let there = slice_get_read c.args.flows.now (length c.args.flows.now) i c.index-flows-link.result refl (omega arith) c.index-flows-link.is in
     gathered_next (flat_map (flow_line c.args.net.now c.args.flows.now) (take i (range_with_len 0 n))) ((flow_line c.args.net.now c.args.flows.now) i)
-        (flat_map (flow_line c.args.net.now c.args.flows.now) (take (i + 1) (range_with_len 0 n)))
+    (flat_map (flow_line c.args.net.now c.args.flows.now) (take (i + 1) (range_with_len 0 n)))
     (each_next n (flow_line c.args.net.now c.args.flows.now) i below) c.loop-link.invariant
-        (same_gathered _ _ (line_is c.args.net.now c.args.flows.now i c.index-flows-link.result there) c.in_ok-put_flow.ensures)
+    (same_gathered _ _ (line_is c.args.net.now c.args.flows.now i c.index-flows-link.result there) c.in_ok-put_flow.ensures)
 
 pub returns-in_err-put_flow : goal.returns-in_err-put_flow
 returns-in_err-put_flow g c =
@@ -37,7 +37,7 @@ returns-in_err-put_flow g c =
     let below : i < n = omega arith in
     let there = slice_get_read c.args.flows.now (length c.args.flows.now) i c.index-flows-link.result refl (omega arith) c.index-flows-link.is in
     gathered_then_failed (flat_map (flow_line c.args.net.now c.args.flows.now) (take i (range_with_len 0 n)))
-        ((flow_line c.args.net.now c.args.flows.now) i) (flat_map (flow_line c.args.net.now c.args.flows.now) (drop (suc i) (range_with_len 0 n)))
+    ((flow_line c.args.net.now c.args.flows.now) i) (flat_map (flow_line c.args.net.now c.args.flows.now) (drop (suc i) (range_with_len 0 n)))
     (for_each n (flow_line c.args.net.now c.args.flows.now)) _ (each_left n (flow_line c.args.net.now c.args.flows.now) i below) c.from_residual.ensures.0 c.loop-link.invariant
     (same_gathered _ _ (line_is c.args.net.now c.args.flows.now i c.index-flows-link.result there) c.in_err-put_flow.ensures)
 
@@ -47,4 +47,4 @@ returns g c =
     let n = length c.args.net.now.net.links in
     let end : i ≡ n = omega arith in
     same_gathered (flat_map (flow_line c.args.net.now c.args.flows.now) (take i (range_with_len 0 n)))
-        (for_each n (flow_line c.args.net.now c.args.flows.now)) (each_all n (flow_line c.args.net.now c.args.flows.now) i end) c.loop-link.invariant
+    (for_each n (flow_line c.args.net.now c.args.flows.now)) (each_all n (flow_line c.args.net.now c.args.flows.now) i end) c.loop-link.invariant

@@ -15,7 +15,7 @@ pub loop-walk-preserved : goal.loop-walk-preserved
 loop-walk-preserved c =
     part_more (augment_line c.args.net.now.link_names) c.args.walks.now c.loop-walk.walk-index c.walk-item.result c.loop-walk.text.items _ _
     (slice_get_read c.args.walks.now (length c.args.walks.now) c.loop-walk.walk-index c.walk-item.result refl c.loop-walk-test.true c.walk-item.is)
-        c.loop-walk.invariant c.in_ok-put_augment.ensures
+    c.loop-walk.invariant c.in_ok-put_augment.ensures
 
 pub returns : goal.returns
 returns c =

@@ -15,7 +15,7 @@ pub loop-step-preserved : goal.loop-step-preserved
 loop-step-preserved c =
     word_more (step_word c.args.net.now.link_names) c.args.steps.now c.loop-step.step-index c.step-item.result c.loop-step.text.items _ _
     (slice_get_read c.args.steps.now (length c.args.steps.now) c.loop-step.step-index c.step-item.result refl c.loop-step-test.true c.step-item.is)
-        c.loop-step.invariant (c.in_ok-put_step.ensures ∙ ap (λ (l : List ℕ). c.loop-step.text.items ++ l) (append-nil (32 ∷ _)))
+    c.loop-step.invariant (c.in_ok-put_step.ensures ∙ ap (λ (l : List ℕ). c.loop-step.text.items ++ l) (append-nil (32 ∷ _)))
 
 pub returns : goal.returns
 returns c =

@@ -28,7 +28,7 @@ returns-in-Solved g c =
     let written : Report = record { horizon = c.in-Solved.horizon; flow = flow_of s.flow; stop = option_copied c.as_ref.result; last = s.last } in
     let same : written ≡ report_in c.in-Solved.horizon s = cc (c.as_ref.ensures.value) in
     same_text (report_text c.args.net.now written) (text_with c.args.net.now c.args.found.now)
-        (ap (λ (r : Report). report_text c.args.net.now r) same ∙ sym (ap (text_with c.args.net.now) c.in-Solved.is))
+    (ap (λ (r : Report). report_text c.args.net.now r) same ∙ sym (ap (text_with c.args.net.now) c.in-Solved.is))
     c.write_report.ensures.wrote
 
 pub returns-in-Loaded : goal.returns-in-Loaded
@@ -54,12 +54,12 @@ returns-in-Generated g c =
 pub returns-in-Settled : goal.returns-in-Settled
 returns-in-Settled g c =
     same_text (settled_text c.args.net.now c.in-Settled.settled.pattern c.in-Settled.settled.flows.items) (text_with c.args.net.now c.args.found.now)
-        (sym (ap (text_with c.args.net.now) c.in-Settled.is)) c.write_settled.ensures
+    (sym (ap (text_with c.args.net.now) c.in-Settled.is)) c.write_settled.ensures
 
 pub returns-in-SolvedForever : goal.returns-in-SolvedForever
 returns-in-SolvedForever g c =
     same_text (forever_text c.args.net.now (forever_in c.in-SolvedForever.forever)) (text_with c.args.net.now c.args.found.now)
-        (sym (ap (text_with c.args.net.now) c.in-SolvedForever.is)) c.write_forever.ensures
+    (sym (ap (text_with c.args.net.now) c.in-SolvedForever.is)) c.write_forever.ensures
 
 pub returns-in-Distributed : goal.returns-in-Distributed
 returns-in-Distributed g c =

@@ -11,5 +11,5 @@ unfolding app_in bare
 returns c =
     let rule : rule_of c.required-command.result ≡ command_rule = search rules in
     let start : app_of c.disable_help_flag.result ≡ bare = ap app_of_fields c.disable_help_flag.ensures
-        ∙ ap (on_top (λ (s : Shape). record s { disable_help_flag = true })) c.new-2.ensures.app in
+    ∙ ap (on_top (λ (s : Shape). record s { disable_help_flag = true })) c.new-2.ensures.app in
     IfOk-weaker c.arg.result _ _ (λ command h. h.shape (search rules) ∙ ap₂ with_rule start rule) c.arg.ensures

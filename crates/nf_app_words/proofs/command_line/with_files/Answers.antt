@@ -18,5 +18,5 @@ unfolding app_in
 returns c =
     let range : c.num_args-files.result.num_vals ≡ Some (record { start_inclusive = 0; end_inclusive = usize_max }) = some_is _ _ c.num_args-files.ensures.1 in
     let rule : rule_of c.num_args-files.result ≡ files_rule = ap rule_of c.num_args-files.ensures.0
-        ∙ ap₂ (λ (r : Rule) (v : Option ValueRange). record r { range = v }) c.new.ensures.rule range in
+    ∙ ap₂ (λ (r : Rule) (v : Option ValueRange). record r { range = v }) c.new.ensures.rule range in
     IfOk-weaker c.arg.result _ _ (λ more h. h.shape (search rules) ∙ ap (with_rule (app_of c.args.command)) rule) c.arg.ensures

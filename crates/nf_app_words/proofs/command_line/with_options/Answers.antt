@@ -27,5 +27,5 @@ pub returns : goal.returns
 unfolding app_in
 returns c =
     let all = at_drop_all (λ (names : List (Bor Text)). with_options (map (λ name. name.now) names) (app_of c.loop-name.command)) c.args.names.now
-        c.loop-name.name-index c.loop-name-test.false in
+    c.loop-name.name-index c.loop-name-test.false in
     sym all ∙ c.loop-name.invariant

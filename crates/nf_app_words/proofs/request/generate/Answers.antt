@@ -18,8 +18,14 @@ returns-in_err-phases_of c =
 
 pub returns-in_err-patterns_of : goal.returns-in_err-patterns_of
 returns-in_err-patterns_of c =
-    rw (c.from_residual-in_err-patterns_of.ensures, sym c.in_ok-number_of.ensures, sym c.in_ok-rungs_of.ensures, sym c.in_ok-horizon_of.ensures,
-        sym c.in_ok-phases_of.ensures, sym c.in_err-patterns_of.ensures) refl
+    rw (
+      c.from_residual-in_err-patterns_of.ensures,
+      sym c.in_ok-number_of.ensures,
+      sym c.in_ok-rungs_of.ensures,
+      sym c.in_ok-horizon_of.ensures,
+      sym c.in_ok-phases_of.ensures,
+      sym c.in_err-patterns_of.ensures,
+    ) refl
 
 pub returns : goal.returns
 returns c =

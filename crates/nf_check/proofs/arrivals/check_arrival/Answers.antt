@@ -24,14 +24,14 @@ pub returns-in_err-least-clause-tries : goal.returns-in_err-least-clause-tries
 returns-in_err-least-clause-tries c =
     let p = err_from_is_err_and c.from_residual.result c.from_residual.ensures.1 in
     rw (p.1, p.2) (part_stops Check (least_exits passes_Q (labels_in c.args.worked.now)
-        (loaded_in c.args.worked.now) c.args.worked.now.flow.now.reached c.args.worked.now.net.now.net.links c.args.node) _ c.in_err-least.field-0.0
-        c.in_err-least.ensures.list)
+    (loaded_in c.args.worked.now) c.args.worked.now.flow.now.reached c.args.worked.now.net.now.net.links c.args.node) _ c.in_err-least.field-0.0
+    c.in_err-least.ensures.list)
 
 pub returns-clause-tries : goal.returns-clause-tries
 returns-clause-tries c =
     tries_as (λ _. tt) c.compare.result (in_view arrivals c.args.worked.now c.args.node) _
     (part_goes Check (least_exits passes_Q (labels_in c.args.worked.now) (loaded_in c.args.worked.now) c.args.worked.now.flow.now.reached
-        c.args.worked.now.net.now.net.links c.args.node) _ (Some c.in-Some.least.points)
-        (c.in_ok-least.ensures.list ∙ ap (λ (o : Option Grown). Ok (option_map (λ (g : Grown). g.points) o)) c.in-Some.is)
+    c.args.worked.now.net.now.net.links c.args.node) _ (Some c.in-Some.least.points)
+    (c.in_ok-least.ensures.list ∙ ap (λ (o : Option Grown). Ok (option_map (λ (g : Grown). g.points) o)) c.in-Some.is)
     ∙ ap (λ (l : List Point). compared_by passes_Q C3 (Node c.args.node) l c.in-Some.least.points c.args.worked.now.flow.now.reached) (sym c.label_at-label.ensures.points))
     c.compare.ensures

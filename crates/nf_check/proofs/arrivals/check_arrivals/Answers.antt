@@ -16,20 +16,20 @@ returns-in_err-compare-clause-tries c =
     let label_is = c.label_at-label.ensures.points ∙ ap (points_at (labels_in c.args.worked.now)) c.source-source.ensures.value in
     rw (p.1, p.2) (ends_as c.in_err-compare.field-0.0 (in_view arrivals_list c.args.worked.now) _
     (arrivals-is passes_Q c.args.worked.now.net.now.net (flow_in c.args.worked.now) (labels_in c.args.worked.now)
-        (loaded_in c.args.worked.now) c.source-source.result c.label_at-label.result.now.points c.in_ok-line.line.points c.source-source.ensures.value
-        label_is c.in_ok-line.ensures)
+    (loaded_in c.args.worked.now) c.source-source.result c.label_at-label.result.now.points c.in_ok-line.line.points c.source-source.ensures.value
+    label_is c.in_ok-line.ensures)
     (ends c.in_err-compare.field-0.0 (compared_by passes_Q C3 (Node c.source-source.result) c.label_at-label.result.now.points c.in_ok-line.line.points
-        c.args.worked.now.flow.now.reached) _ c.in_err-compare.ensures))
+    c.args.worked.now.flow.now.reached) _ c.in_err-compare.ensures))
 
 pub returns-clause-tries : goal.returns-clause-tries
 returns-clause-tries c =
     let label_is = c.label_at-label.ensures.points ∙ ap (points_at (labels_in c.args.worked.now)) c.source-source.ensures.value in
     tries_as (λ _. tt) c.check_arrivals_at.result (in_view arrivals_list c.args.worked.now) _
     (arrivals-is passes_Q c.args.worked.now.net.now.net (flow_in c.args.worked.now) (labels_in c.args.worked.now)
-        (loaded_in c.args.worked.now) c.source-source.result c.label_at-label.result.now.points c.in_ok-line.line.points c.source-source.ensures.value
-        label_is c.in_ok-line.ensures
+    (loaded_in c.args.worked.now) c.source-source.result c.label_at-label.result.now.points c.in_ok-line.line.points c.source-source.ensures.value
+    label_is c.in_ok-line.ensures
     ∙ goes_on (compared_by passes_Q C3 (Node c.source-source.result) c.label_at-label.result.now.points c.in_ok-line.line.points
-        c.args.worked.now.flow.now.reached) _ tt c.in_ok-compare.ensures)
+    c.args.worked.now.flow.now.reached) _ tt c.in_ok-compare.ensures)
     c.check_arrivals_at.ensures.tries
 
 pub identity-requires : goal.identity-requires

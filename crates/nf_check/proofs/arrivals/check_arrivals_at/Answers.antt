@@ -12,7 +12,7 @@ returns-in_err-check_arrival-clause-tries c =
     let inside : c.loop-number.number < c.args.worked.now.net.now.net.nodes = omega arith in
     let apart = is_other c.loop-number.number c.args.worked.now.net.now.net.source c.source.result c.source.ensures.value (sym c.ne.ensures ∙ c.if-ne.true) in
     rw (p.1, p.2) (but_ends (in_view arrivals c.args.worked.now) c.args.worked.now.net.now.net.source c.args.worked.now.net.now.net.nodes
-        c.loop-number.number c.loop-number.invariant.left inside apart c.in_err-check_arrival.field-0.0 c.in_err-check_arrival.ensures.tries)
+    c.loop-number.number c.loop-number.invariant.left inside apart c.in_err-check_arrival.field-0.0 c.in_err-check_arrival.ensures.tries)
 
 pub loop-number-preserved : goal.loop-number-preserved
 loop-number-preserved c =

@@ -28,7 +28,7 @@ returns-in_err-check_inflows-clause-list c =
     rw (p.1, p.2) (ends_as c.in_err-check_inflows.field-0.0 (worked_list passes_Q c.args.net.now.net (flow_of c.args.flow.now)) _
     (goes_on (each (label_cut passes_Q c.args.net.now.net (flow_of c.args.flow.now)) (all_nodes c.args.net.now.net)) _ (curves_of c.args.labels.now) c.requires.labels)
     (ends c.in_err-check_inflows.field-0.0 (done (each (inflow_rule passes_Q c.args.net.now.net (flow_of c.args.flow.now)) (all_links c.args.net.now.net)))
-        _ c.in_err-check_inflows.ensures))
+    _ c.in_err-check_inflows.ensures))
 
 pub returns-in_err-check_rates-clause-list : goal.returns-in_err-check_rates-clause-list
 unfolding worked_list
@@ -43,7 +43,7 @@ pub returns-clause-list : goal.returns-clause-list
 unfolding worked_list
 returns-clause-list c =
     tries_as (λ (loaded : Vec Loaded Global). (curves_of c.args.labels.now, loadings_of loaded.items)) c.load_links.result
-        (worked_list passes_Q c.args.net.now.net (flow_of c.args.flow.now)) _
+    (worked_list passes_Q c.args.net.now.net (flow_of c.args.flow.now)) _
     (goes_on (each (label_cut passes_Q c.args.net.now.net (flow_of c.args.flow.now)) (all_nodes c.args.net.now.net)) _ (curves_of c.args.labels.now) c.requires.labels
     ∙ goes_on (done (each (inflow_rule passes_Q c.args.net.now.net (flow_of c.args.flow.now)) (all_links c.args.net.now.net))) _ tt c.in_ok-check_inflows.ensures
     ∙ goes_on (done (each (link_rates passes_Q c.args.net.now.net (flow_of c.args.flow.now)) (all_links c.args.net.now.net))) _ tt c.in_ok-check_rates.ensures)

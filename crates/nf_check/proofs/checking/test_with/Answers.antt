@@ -17,13 +17,15 @@ unfolding tested_list
 returns-in_err-loaded c =
     let p = err_from_is_err_and c.from_residual.result c.from_residual.ensures.1 in
     rw (p.1, p.2) (ends_as c.in_err-loaded.field-0.0 (done (trial passes_Q c.args.net.now.net (flow_of c.args.flow.now))) _
-        (tested-is passes_Q c.args.net.now.net (flow_of c.args.flow.now))
+    (tested-is passes_Q c.args.net.now.net (flow_of c.args.flow.now))
     (ends c.in_err-loaded.field-0.0 (worked_list passes_Q c.args.net.now.net (flow_of c.args.flow.now)) _ c.in_err-loaded.ensures.list))
 
 pub invariant_of-worked : goal.invariant_of-worked
 invariant_of-worked c =
-    record { known = worked_known passes_Q c.args.net.now.net c.args.flow.now c.requires.given.checked c.args.labels.now _ c.requires.labels
-    (ap (λ (l : List Loaded). length l) c.deref.ensures.value ∙ c.in_ok-loaded.ensures.count) }
+    record {
+      known = worked_known passes_Q c.args.net.now.net c.args.flow.now c.requires.given.checked c.args.labels.now _ c.requires.labels
+          (ap (λ (l : List Loaded). length l) c.deref.ensures.value ∙ c.in_ok-loaded.ensures.count);
+    }
 
 pub returns : goal.returns
 unfolding tested_list

@@ -21,8 +21,8 @@ returns-in_err-check_label c =
     let p = err_from_is_err_and c.from_residual.result c.from_residual.ensures.1 in
     let inside : c.loop-number.number < c.args.net.now.net.nodes = omega arith in
     rw (p.1, p.2) (kept_ends (label_cut passes_Q c.args.net.now.net (flow_of c.args.flow.now)) c.args.net.now.net.nodes c.loop-number.number
-        (take c.loop-number.number (curves_of c.args.flow.now.labels.items)) c.loop-number.invariant inside c.in_err-check_label.field-0.0
-        (c.in_err-check_label.ensures c.args.net.now.net))
+    (take c.loop-number.number (curves_of c.args.flow.now.labels.items)) c.loop-number.invariant inside c.in_err-check_label.field-0.0
+    (c.in_err-check_label.ensures c.args.net.now.net))
 
 pub loop-number-preserved : goal.loop-number-preserved
 loop-number-preserved c =
@@ -30,9 +30,9 @@ loop-number-preserved c =
     let within : c.loop-number.number < length c.args.flow.now.labels.items = omega (arith, c.requires.labels, inside) in
     let there = link_there c.args.flow.now.labels.items c.loop-number.number within in
     kept_goes (label_cut passes_Q c.args.net.now.net (flow_of c.args.flow.now)) c.args.net.now.net.nodes c.loop-number.number
-        (take c.loop-number.number (curves_of c.args.flow.now.labels.items)) c.loop-number.invariant inside
+    (take c.loop-number.number (curves_of c.args.flow.now.labels.items)) c.loop-number.invariant inside
     (points_at (curves_of c.args.flow.now.labels.items) c.loop-number.number) (take (c.loop-number.number + 1) (curves_of c.args.flow.now.labels.items))
-        (c.in_ok-check_label.ensures c.args.net.now.net)
+    (c.in_ok-check_label.ensures c.args.net.now.net)
     (curves_more c.args.flow.now.labels.items c.loop-number.number there.link there.is)
 
 pub returns : goal.returns
@@ -41,5 +41,5 @@ returns c =
     let whole : take c.loop-number.number (curves_of c.args.flow.now.labels.items) ≡ curves_of c.args.flow.now.labels.items =
     take_all c.loop-number.number (curves_of c.args.flow.now.labels.items) (omega (arith, length-map c.args.flow.now.labels.items (λ (g : Grown). g.points), c.requires.labels, past)) in
     kept_last (label_cut passes_Q c.args.net.now.net (flow_of c.args.flow.now)) c.args.net.now.net.nodes c.loop-number.number
-        (take c.loop-number.number (curves_of c.args.flow.now.labels.items)) c.loop-number.invariant past
+    (take c.loop-number.number (curves_of c.args.flow.now.labels.items)) c.loop-number.invariant past
     ∙ ap (λ (l : List (List Point)). Ok l) whole

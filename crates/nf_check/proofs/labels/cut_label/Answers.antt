@@ -32,7 +32,7 @@ returns-in_err-unless c = λ net.
     let ended = rw c.negative_point.ensures at c.in_err-unless.ensures in
     rw (p.1, p.2) (ends_as c.in_err-unless.field-0.0 (label_cut passes_Q net (flow_of c.args.flow.now) c.args.node) _
     (part_goes Check (checked_cut passes_Q (points_at (flow_of c.args.flow.now).labels c.args.node) c.args.flow.now.reached) _ c.in_ok-cut.cut.points came)
-        (ends c.in_err-unless.field-0.0 (unless C1 (Node c.args.node) (negative_point c.in_ok-cut.cut.points)) _ ended))
+    (ends c.in_err-unless.field-0.0 (unless C1 (Node c.args.node) (negative_point c.in_ok-cut.cut.points)) _ ended))
 
 pub returns : goal.returns
 returns c = λ net.
@@ -41,4 +41,4 @@ returns c = λ net.
     let came = rw label_is at c.in_ok-cut.ensures.list in
     let through = rw c.negative_point.ensures at c.in_ok-unless.ensures in
     part_goes Check (checked_cut passes_Q (points_at (flow_of c.args.flow.now).labels c.args.node) c.args.flow.now.reached) _ c.in_ok-cut.cut.points came
-        ∙ goes_on (unless C1 (Node c.args.node) (negative_point c.in_ok-cut.cut.points)) _ tt through
+    ∙ goes_on (unless C1 (Node c.args.node) (negative_point c.in_ok-cut.cut.points)) _ tt through

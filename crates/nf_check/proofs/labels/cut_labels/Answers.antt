@@ -19,18 +19,18 @@ returns-in_err-cut c =
     let p = err_from_is_err_and c.from_residual-in_err-cut.result c.from_residual-in_err-cut.ensures.1 in
     let inside : c.loop-number.number < c.args.net.now.net.nodes = omega arith in
     rw (p.1, p.2) (kept_ends (label_cut passes_Q c.args.net.now.net (flow_of c.args.flow.now)) c.args.net.now.net.nodes c.loop-number.number
-        (curves_of c.loop-number.labels.items) c.loop-number.invariant inside c.in_err-cut.field-0.0 (c.in_err-cut.ensures c.args.net.now.net))
+    (curves_of c.loop-number.labels.items) c.loop-number.invariant inside c.in_err-cut.field-0.0 (c.in_err-cut.ensures c.args.net.now.net))
 
 pub loop-number-preserved : goal.loop-number-preserved
 loop-number-preserved c =
     let inside : c.loop-number.number < c.args.net.now.net.nodes = omega arith in
     kept_goes (label_cut passes_Q c.args.net.now.net (flow_of c.args.flow.now)) c.args.net.now.net.nodes c.loop-number.number
-        (curves_of c.loop-number.labels.items) c.loop-number.invariant inside c.in_ok-cut.cut.points (curves_of c.push.new.self.items)
-        (c.in_ok-cut.ensures c.args.net.now.net)
+    (curves_of c.loop-number.labels.items) c.loop-number.invariant inside c.in_ok-cut.cut.points (curves_of c.push.new.self.items)
+    (c.in_ok-cut.ensures c.args.net.now.net)
     (ap (λ (l : List Grown). curves_of l) c.in_ok-push.ensures.items ∙ map-append (λ (g : Grown). g.points) c.loop-number.labels.items _)
 
 pub returns : goal.returns
 returns c =
     let past : c.args.net.now.net.nodes ≤ c.loop-number.number = omega arith in
     kept_last (label_cut passes_Q c.args.net.now.net (flow_of c.args.flow.now)) c.args.net.now.net.nodes c.loop-number.number
-        (curves_of c.loop-number.labels.items) c.loop-number.invariant past
+    (curves_of c.loop-number.labels.items) c.loop-number.invariant past

@@ -24,9 +24,9 @@ returns-in_err-least-clause-list c =
     let inside : c.loop-number.number < length c.args.worked.now.net.now.net.links = omega arith in
     let there = link_there c.args.worked.now.net.now.net.links c.loop-number.number inside in
     rw (p.1, p.2) (fold_stops (with_exit passes_Q (labels_in c.args.worked.now)
-        (loaded_in c.args.worked.now) c.args.worked.now.flow.now.reached c.args.node) c.args.worked.now.net.now.net.links None
-        (option_map (λ (g : Grown). g.points) c.loop-number.least) c.loop-number.number c.loop-number.invariant.folds there.link there.is
-        c.in_err-least.field-0.0 (c.in_err-least.ensures.list there.link there.is))
+    (loaded_in c.args.worked.now) c.args.worked.now.flow.now.reached c.args.node) c.args.worked.now.net.now.net.links None
+    (option_map (λ (g : Grown). g.points) c.loop-number.least) c.loop-number.number c.loop-number.invariant.folds there.link there.is
+    c.in_err-least.field-0.0 (c.in_err-least.ensures.list there.link there.is))
 
 pub loop-number-preserved : goal.loop-number-preserved
 loop-number-preserved c =
@@ -45,5 +45,5 @@ unfolding least_exits
 returns-clause-list c =
     let past : length c.args.worked.now.net.now.net.links ≤ c.loop-number.number = omega arith in
     fold_last (with_exit passes_Q (labels_in c.args.worked.now) (loaded_in c.args.worked.now) c.args.worked.now.flow.now.reached c.args.node)
-        c.args.worked.now.net.now.net.links None (option_map (λ (g : Grown). g.points) c.loop-number.least) c.loop-number.number
-        c.loop-number.invariant.folds past
+    c.args.worked.now.net.now.net.links None (option_map (λ (g : Grown). g.points) c.loop-number.least) c.loop-number.number
+    c.loop-number.invariant.folds past

@@ -14,17 +14,17 @@ use Rattle.nf_check_rules.proofs.arriving.with_exit.Goals as goal
 pub returns-then-ne-clause-list : goal.returns-then-ne-clause-list
 returns-then-ne-clause-list c = λ here is.
     exit_left_out passes_Q (labels_in c.args.worked.now) (loaded_in c.args.worked.now) c.args.worked.now.flow.now.reached c.args.node
-        (option_map (λ (g : Grown). g.points) c.args.so_far) c.args.link
+    (option_map (λ (g : Grown). g.points) c.args.so_far) c.args.link
     c.link.result here (same_some c.link.result here (sym c.link.ensures.link ∙ is)) c.link-2.inside.head
-        (ap (λ (l : Link). l.head) c.link-2.view_is) c.ne.result c.ne.ensures c.if-ne.true
+    (ap (λ (l : Link). l.head) c.link-2.view_is) c.ne.result c.ne.ensures c.if-ne.true
 
 pub returns-in_err-exit-clause-list : goal.returns-in_err-exit-clause-list
 returns-in_err-exit-clause-list c = λ here is.
     let p = err_from_is_err_and c.from_residual.result c.from_residual.ensures.1 in
     rw (p.1, p.2) (exit_stops passes_Q (labels_in c.args.worked.now) (loaded_in c.args.worked.now) c.args.worked.now.flow.now.reached c.args.node
-        (option_map (λ (g : Grown). g.points) c.args.so_far) c.args.link
+    (option_map (λ (g : Grown). g.points) c.args.so_far) c.args.link
     c.link.result here (same_some c.link.result here (sym c.link.ensures.link ∙ is)) c.link-2.inside.head
-        (ap (λ (l : Link). l.head) c.link-2.view_is) c.ne.result c.ne.ensures c.if-ne.false
+    (ap (λ (l : Link). l.head) c.link-2.view_is) c.ne.result c.ne.ensures c.if-ne.false
     c.in_err-exit.field-0.0 (c.in_err-exit.ensures c.link.result c.link.ensures.link))
 
 pub returns-in_err-keep-clause-list : goal.returns-in_err-keep-clause-list
@@ -35,18 +35,18 @@ pub returns-in_err-least-clause-list : goal.returns-in_err-least-clause-list
 returns-in_err-least-clause-list c = λ here is.
     let p = err_from_is_err_and c.from_residual-in_err-least.result c.from_residual-in_err-least.ensures.1 in
     let goes = exit_goes passes_Q (labels_in c.args.worked.now) (loaded_in c.args.worked.now) c.args.worked.now.flow.now.reached c.args.node
-        (option_map (λ (g : Grown). g.points) c.args.so_far) c.args.link
+    (option_map (λ (g : Grown). g.points) c.args.so_far) c.args.link
     c.link.result here (same_some c.link.result here (sym c.link.ensures.link ∙ is)) c.link-2.inside.head
-        (ap (λ (l : Link). l.head) c.link-2.view_is) c.ne.result c.ne.ensures c.if-ne.false
+    (ap (λ (l : Link). l.head) c.link-2.view_is) c.ne.result c.ne.ensures c.if-ne.false
     c.in_ok-exit.exit.points (c.in_ok-exit.ensures c.link.result c.link.ensures.link) in
     rw (p.1, p.2, goes) c.in_err-least.ensures
 
 pub returns-clause-list : goal.returns-clause-list
 returns-clause-list c = λ here is.
     exit_goes passes_Q (labels_in c.args.worked.now) (loaded_in c.args.worked.now) c.args.worked.now.flow.now.reached c.args.node
-        (option_map (λ (g : Grown). g.points) c.args.so_far) c.args.link
+    (option_map (λ (g : Grown). g.points) c.args.so_far) c.args.link
     c.link.result here (same_some c.link.result here (sym c.link.ensures.link ∙ is)) c.link-2.inside.head
-        (ap (λ (l : Link). l.head) c.link-2.view_is) c.ne.result c.ne.ensures c.if-ne.false
+    (ap (λ (l : Link). l.head) c.link-2.view_is) c.ne.result c.ne.ensures c.if-ne.false
     c.in_ok-exit.exit.points (c.in_ok-exit.ensures c.link.result c.link.ensures.link)
     ∙ c.in_ok-least.ensures
 

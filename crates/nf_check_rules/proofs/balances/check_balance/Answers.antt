@@ -25,7 +25,7 @@ returns-in_err-total c =
     rw (p.1, p.2) (ends_as (of_halt c.in_err-total.field-0.0) (in_view balance c.args.worked.now c.args.supplied.now.points c.args.node) _
     (part_goes Check (total_in passes_Q (loaded_in c.args.worked.now) c.args.worked.now.net.now.net.links c.args.node) _ c.in_ok-comes.comes.points c.in_ok-comes.ensures)
     (part_stops Check (with_supply_by passes_Q c.args.worked.now.net.now.net c.args.supplied.now.points c.args.node c.in_ok-comes.comes.points) _
-        c.in_err-total.field-0.0 c.in_err-total.ensures))
+    c.in_err-total.field-0.0 c.in_err-total.ensures))
 
 pub returns-in_err-goes : goal.returns-in_err-goes
 returns-in_err-goes c =
@@ -33,9 +33,9 @@ returns-in_err-goes c =
     rw (p.1, p.2) (ends_as (of_halt c.in_err-goes.field-0.0) (in_view balance c.args.worked.now c.args.supplied.now.points c.args.node) _
     (part_goes Check (total_in passes_Q (loaded_in c.args.worked.now) c.args.worked.now.net.now.net.links c.args.node) _ c.in_ok-comes.comes.points c.in_ok-comes.ensures
     ∙ part_goes Check (with_supply_by passes_Q c.args.worked.now.net.now.net c.args.supplied.now.points c.args.node c.in_ok-comes.comes.points) _
-        c.in_ok-total.total.points c.in_ok-total.ensures)
+    c.in_ok-total.total.points c.in_ok-total.ensures)
     (part_stops Check (total_out passes_Q (points_of (flow_in c.args.worked.now).inflows) c.args.worked.now.net.now.net.links c.args.node) _
-        c.in_err-goes.field-0.0 c.in_err-goes.ensures))
+    c.in_err-goes.field-0.0 c.in_err-goes.ensures))
 
 pub returns : goal.returns
 returns c =
@@ -43,7 +43,7 @@ returns c =
     (compared_by passes_Q C6 (Node c.args.node) c.in_ok-total.total.points c.in_ok-goes.goes.points c.end_at.result)
     (part_goes Check (total_in passes_Q (loaded_in c.args.worked.now) c.args.worked.now.net.now.net.links c.args.node) _ c.in_ok-comes.comes.points c.in_ok-comes.ensures
     ∙ part_goes Check (with_supply_by passes_Q c.args.worked.now.net.now.net c.args.supplied.now.points c.args.node c.in_ok-comes.comes.points) _
-        c.in_ok-total.total.points c.in_ok-total.ensures
+    c.in_ok-total.total.points c.in_ok-total.ensures
     ∙ part_goes Check (total_out passes_Q (points_of (flow_in c.args.worked.now).inflows) c.args.worked.now.net.now.net.links c.args.node) _ c.in_ok-goes.goes.points c.in_ok-goes.ensures
     ∙ ap (λ (t : ℚ). compared_by passes_Q C6 (Node c.args.node) c.in_ok-total.total.points c.in_ok-goes.goes.points t) (sym c.end_at.ensures.end))
     c.compare.ensures

@@ -12,8 +12,8 @@ returns-in_err-check_balance c =
     let inside : c.loop-number.number < c.args.worked.now.net.now.net.nodes = omega arith in
     let apart = is_other c.loop-number.number c.args.worked.now.net.now.net.sink c.sink.result c.sink.ensures.value (sym c.ne.ensures ∙ c.if-ne.true) in
     rw (p.1, p.2) (but_ends (in_view balance c.args.worked.now c.args.supplied.now.points) c.args.worked.now.net.now.net.sink
-        c.args.worked.now.net.now.net.nodes c.loop-number.number c.loop-number.invariant inside apart c.in_err-check_balance.field-0.0
-        c.in_err-check_balance.ensures)
+    c.args.worked.now.net.now.net.nodes c.loop-number.number c.loop-number.invariant inside apart c.in_err-check_balance.field-0.0
+    c.in_err-check_balance.ensures)
 
 pub loop-number-preserved : goal.loop-number-preserved
 loop-number-preserved c =
@@ -22,7 +22,7 @@ loop-number-preserved c =
       | then-ne+in_ok-check_balance w ↦
           let apart = is_other c.loop-number.number c.args.worked.now.net.now.net.sink c.sink.result c.sink.ensures.value (sym c.ne.ensures ∙ w.if-ne.true) in
           but_goes (in_view balance c.args.worked.now c.args.supplied.now.points) c.args.worked.now.net.now.net.sink c.args.worked.now.net.now.net.nodes
-              c.loop-number.number c.loop-number.invariant inside apart tt w.in_ok-check_balance.ensures
+          c.loop-number.number c.loop-number.invariant inside apart tt w.in_ok-check_balance.ensures
       | else-ne w ↦ but_skips (in_view balance c.args.worked.now c.args.supplied.now.points) c.args.worked.now.net.now.net.sink
           c.args.worked.now.net.now.net.nodes c.loop-number.number c.loop-number.invariant inside
           (is_one c.loop-number.number c.args.worked.now.net.now.net.sink c.sink.result c.sink.ensures.value (sym c.ne.ensures ∙ w.if-ne.false))

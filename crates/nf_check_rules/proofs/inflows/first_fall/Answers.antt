@@ -6,13 +6,13 @@ pub returns-then-is_below : goal.returns-then-is_below
 returns-then-is_below c =
     let some : 0 < c.loop-i.i = omega arith in
     sym (falls c.args.curve.now.points c.loop-i.i some c.loop-i.invariant c.point-time.result c.point-next.result c.point-time.ensures c.point-next.ensures
-        (sym c.is_below.ensures ∙ c.if-is_below.true))
+    (sym c.is_below.ensures ∙ c.if-is_below.true))
 
 pub loop-i-preserved : goal.loop-i-preserved
 loop-i-preserved c =
     let some : 0 < c.loop-i.i = omega arith in
     rises c.args.curve.now.points c.loop-i.i some c.loop-i.invariant c.point-time.result c.point-next.result c.point-time.ensures c.point-next.ensures
-        (sym c.is_below.ensures ∙ c.if-is_below.false)
+    (sym c.is_below.ensures ∙ c.if-is_below.false)
 
 pub returns : goal.returns
 returns c =

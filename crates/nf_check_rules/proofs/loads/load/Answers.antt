@@ -22,7 +22,7 @@ use Rattle.nf_check_rules.proofs.loads.load.Goals as goal
 pub load_link-requires-clause-capacity : goal.load_link-requires-clause-capacity
 load_link-requires-clause-capacity c =
     λ rate e. IsPositive-link c.args.net.now.net c.args.link c.link-here.result c.link-here.ensures.named.network c.link-here.ensures.link rate
-        (sym (ap (λ (l : Link). l.capacity) c.here.view_is) ∙ e)
+    (sym (ap (λ (l : Link). l.capacity) c.here.view_is) ∙ e)
 
 pub load_link-requires-clause-until : goal.load_link-requires-clause-until
 load_link-requires-clause-until c =
@@ -55,12 +55,12 @@ returns-in_err-loaded c = λ here is.
     c.trace_at.ensures.points ∙ ap (λ (l : List Trace). points_at (points_of (map trace_of l)) c.args.link) c.deref.ensures.value in
     let tail : c.greatest_value-tail.result ≡ greatest_value (points_at (curves_of c.args.labels.now) here.tail) =
     c.greatest_value-tail.ensures.value ∙ ap greatest_value (c.curve_at.ensures
-        ∙ ap (points_at (curves_of c.args.labels.now)) (c.index.ensures ∙ ap (λ (l : Link). l.tail) (c.here.view_is ∙ one))) in
+    ∙ ap (points_at (curves_of c.args.labels.now)) (c.index.ensures ∙ ap (λ (l : Link). l.tail) (c.here.view_is ∙ one))) in
     let head : c.greatest_value-head.result ≡ greatest_value (points_at (curves_of c.args.labels.now) here.head) =
     c.greatest_value-head.ensures.value ∙ ap greatest_value (c.curve_at-2.ensures
-        ∙ ap (points_at (curves_of c.args.labels.now)) (c.index-2.ensures ∙ ap (λ (l : Link). l.head) (c.here.view_is ∙ one))) in
+    ∙ ap (points_at (curves_of c.args.labels.now)) (c.index-2.ensures ∙ ap (λ (l : Link). l.head) (c.here.view_is ∙ one))) in
     let until : c.greater.result ≡ max_ℚ (greatest_value (points_at (curves_of c.args.labels.now) here.tail))
-        (greatest_value (points_at (curves_of c.args.labels.now) here.head)) = c.greater.ensures ∙ ap₂ max_ℚ tail head in
+    (greatest_value (points_at (curves_of c.args.labels.now) here.head)) = c.greater.ensures ∙ ap₂ max_ℚ tail head in
     rw (p.1, p.2) (part_ends Load c.in_err-loaded.field-0.0 _ (rw (sym transit, sym capacity, sym told, sym until) c.in_err-loaded.ensures.list))
 
 pub returns : goal.returns
@@ -72,12 +72,12 @@ returns c = λ here is.
     c.trace_at.ensures.points ∙ ap (λ (l : List Trace). points_at (points_of (map trace_of l)) c.args.link) c.deref.ensures.value in
     let tail : c.greatest_value-tail.result ≡ greatest_value (points_at (curves_of c.args.labels.now) here.tail) =
     c.greatest_value-tail.ensures.value ∙ ap greatest_value (c.curve_at.ensures
-        ∙ ap (points_at (curves_of c.args.labels.now)) (c.index.ensures ∙ ap (λ (l : Link). l.tail) (c.here.view_is ∙ one))) in
+    ∙ ap (points_at (curves_of c.args.labels.now)) (c.index.ensures ∙ ap (λ (l : Link). l.tail) (c.here.view_is ∙ one))) in
     let head : c.greatest_value-head.result ≡ greatest_value (points_at (curves_of c.args.labels.now) here.head) =
     c.greatest_value-head.ensures.value ∙ ap greatest_value (c.curve_at-2.ensures
-        ∙ ap (points_at (curves_of c.args.labels.now)) (c.index-2.ensures ∙ ap (λ (l : Link). l.head) (c.here.view_is ∙ one))) in
+    ∙ ap (points_at (curves_of c.args.labels.now)) (c.index-2.ensures ∙ ap (λ (l : Link). l.head) (c.here.view_is ∙ one))) in
     let until : c.greater.result ≡ max_ℚ (greatest_value (points_at (curves_of c.args.labels.now) here.tail))
-        (greatest_value (points_at (curves_of c.args.labels.now) here.head)) = c.greater.ensures ∙ ap₂ max_ℚ tail head in
+    (greatest_value (points_at (curves_of c.args.labels.now) here.head)) = c.greater.ensures ∙ ap₂ max_ℚ tail head in
     part_ok Load _ (loaded_of c.in_ok-loaded.loaded) (rw (sym transit, sym capacity, sym told, sym until) c.in_ok-loaded.ensures.list)
 
 pub curve_at-requires : goal.curve_at-requires

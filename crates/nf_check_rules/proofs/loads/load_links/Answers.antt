@@ -22,30 +22,30 @@ returns-in_err-one-clause-list c =
     let inside : c.loop-number.number < length c.args.net.now.net.links = omega arith in
     let there = link_there c.args.net.now.net.links c.loop-number.number inside in
     rw (p.1, p.2) (keep_ends (loading passes_Q c.args.net.now.net (flow_of c.args.flow.now) (curves_of c.args.labels.now)) c.args.net.now.net.links
-        c.loop-number.number (loadings_of c.loop-number.loaded.items) c.loop-number.invariant there.link there.is c.in_err-one.field-0.0
-        (c.in_err-one.ensures there.link there.is))
+    c.loop-number.number (loadings_of c.loop-number.loaded.items) c.loop-number.invariant there.link there.is c.in_err-one.field-0.0
+    (c.in_err-one.ensures there.link there.is))
 
 pub loop-number-preserved : goal.loop-number-preserved
 loop-number-preserved c =
     let inside : c.loop-number.number < length c.args.net.now.net.links = omega arith in
     let there = link_there c.args.net.now.net.links c.loop-number.number inside in
     keep_goes (loading passes_Q c.args.net.now.net (flow_of c.args.flow.now) (curves_of c.args.labels.now)) c.args.net.now.net.links c.loop-number.number
-        (loadings_of c.loop-number.loaded.items) c.loop-number.invariant there.link there.is (loaded_of c.in_ok-one.one) (loadings_of c.push.new.self.items)
-        (c.in_ok-one.ensures there.link there.is)
+    (loadings_of c.loop-number.loaded.items) c.loop-number.invariant there.link there.is (loaded_of c.in_ok-one.one) (loadings_of c.push.new.self.items)
+    (c.in_ok-one.ensures there.link there.is)
     (ap (λ (l : List Loaded). loadings_of l) c.in_ok-push.ensures.items ∙ map-append loaded_of c.loop-number.loaded.items _)
 
 pub returns-clause-list : goal.returns-clause-list
 returns-clause-list c =
     let past : length c.args.net.now.net.links ≤ c.loop-number.number = omega arith in
     keep_last (loading passes_Q c.args.net.now.net (flow_of c.args.flow.now) (curves_of c.args.labels.now)) c.args.net.now.net.links c.loop-number.number
-        (loadings_of c.loop-number.loaded.items) c.loop-number.invariant past
+    (loadings_of c.loop-number.loaded.items) c.loop-number.invariant past
 
 pub returns-clause-count : goal.returns-clause-count
 returns-clause-count c =
     let past : length c.args.net.now.net.links ≤ c.loop-number.number = omega arith in
     loaded_in_number passes_Q c.args.net.now.net (flow_of c.args.flow.now) (curves_of c.args.labels.now) c.loop-number.loaded.items
     (keep_last (loading passes_Q c.args.net.now.net (flow_of c.args.flow.now) (curves_of c.args.labels.now)) c.args.net.now.net.links c.loop-number.number
-        (loadings_of c.loop-number.loaded.items) c.loop-number.invariant past)
+    (loadings_of c.loop-number.loaded.items) c.loop-number.invariant past)
 
 pub load-requires-clause-inflow : goal.load-requires-clause-inflow
 load-requires-clause-inflow c =

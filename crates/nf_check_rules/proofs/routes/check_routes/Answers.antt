@@ -25,7 +25,7 @@ returns-in_err-check_route-clause-tries c =
     let inside : c.loop-number.number < length c.args.worked.now.net.now.net.links = omega arith in
     let there = link_there c.args.worked.now.net.now.net.links c.loop-number.number inside in
     rw (p.1, p.2) (links_end (in_view route c.args.worked.now) c.args.worked.now.net.now.net.links c.loop-number.number c.loop-number.invariant.left
-        there.link there.is c.in_err-check_route.field-0.0 (c.in_err-check_route.ensures there.link there.is))
+    there.link there.is c.in_err-check_route.field-0.0 (c.in_err-check_route.ensures there.link there.is))
 
 pub loop-number-preserved : goal.loop-number-preserved
 loop-number-preserved c =

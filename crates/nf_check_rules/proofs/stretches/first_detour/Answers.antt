@@ -22,7 +22,7 @@ loop-time-init c = record {
   left =
       let begun = three-begin c.args.sent.now.taken.points c.args.sent.now.exits.points c.args.sent.now.labels.points c.requires.taken c.requires.exits c.requires.labels in
       ap (λ (t : ℚ). stretches_from passes_Q c.args.sent.now.taken.points c.args.sent.now.exits.points c.args.sent.now.labels.points t
-          (three_after t c.args.sent.now.taken.points c.args.sent.now.exits.points c.args.sent.now.labels.points)) c.first_departure-here.ensures.time
+      (three_after t c.args.sent.now.taken.points c.args.sent.now.exits.points c.args.sent.now.labels.points)) c.first_departure-here.ensures.time
       ∙ sym (ap (all_stretches passes_Q c.args.sent.now.taken.points c.args.sent.now.exits.points c.args.sent.now.labels.points) begun);
 }
 
@@ -48,26 +48,26 @@ returns-in_err-there c =
     let p = err_from_is_err_and c.from_residual.result c.from_residual.ensures.1 in
     let next = some_next c.args.sent.now c.requires c.loop-time.here.places c.loop-time.here.time c.loop-time.invariant.here.places c.in-Some.time (sym c.in-Some.ensures) in
     rw (p.1, p.2) (sym (stretch_stops passes_Q c.args.sent.now.taken.points c.args.sent.now.exits.points c.args.sent.now.labels.points c.loop-time.here.time
-        c.in-Some.time _ _ (stretches_of c.args.sent.now) next.times c.loop-time.invariant.left c.in_err-there.field-0.0
+    c.in-Some.time _ _ (stretches_of c.args.sent.now) next.times c.loop-time.invariant.left c.in_err-there.field-0.0
     (next_passes passes_Q c.args.sent.now.taken.points c.args.sent.now.exits.points c.args.sent.now.labels.points c.loop-time.here.time c.in-Some.time
-        c.loop-time.here.taken c.loop-time.invariant.here.taken c.in_err-there.field-0.0 (sym c.in_err-there.ensures.taken))))
+    c.loop-time.here.taken c.loop-time.invariant.here.taken c.in_err-there.field-0.0 (sym c.in_err-there.ensures.taken))))
 
 pub returns-in_err-sides : goal.returns-in_err-sides
 returns-in_err-sides c =
     let p = err_from_is_err_and c.from_residual-in_err-sides.result c.from_residual-in_err-sides.ensures.1 in
     let next = some_next c.args.sent.now c.requires c.loop-time.here.places c.loop-time.here.time c.loop-time.invariant.here.places c.in_ok-there.there.time
-        (sym c.in-Some.ensures ∙ ap Some (sym c.in_ok-there.ensures.time)) in
+    (sym c.in-Some.ensures ∙ ap Some (sym c.in_ok-there.ensures.time)) in
     rw (p.1, p.2) (sym (stretch_stops passes_Q c.args.sent.now.taken.points c.args.sent.now.exits.points c.args.sent.now.labels.points c.loop-time.here.time
-        c.in_ok-there.there.time _ _ (stretches_of c.args.sent.now) next.times c.loop-time.invariant.left c.in_err-sides.field-0.0
-        (sym c.in_err-sides.ensures.list)))
+    c.in_ok-there.there.time _ _ (stretches_of c.args.sent.now) next.times c.loop-time.invariant.left c.in_err-sides.field-0.0
+    (sym c.in_err-sides.ensures.list)))
 
 pub returns-in-Some-2 : goal.returns-in-Some-2
 returns-in-Some-2 c =
     let next = some_next c.args.sent.now c.requires c.loop-time.here.places c.loop-time.here.time c.loop-time.invariant.here.places c.in_ok-there.there.time
-        (sym c.in-Some.ensures ∙ ap Some (sym c.in_ok-there.ensures.time)) in
+    (sym c.in-Some.ensures ∙ ap Some (sym c.in_ok-there.ensures.time)) in
     sym (stretch_found passes_Q c.args.sent.now.taken.points c.args.sent.now.exits.points c.args.sent.now.labels.points c.loop-time.here.time
-        c.in_ok-there.there.time _ _ (stretches_of c.args.sent.now) next.times c.loop-time.invariant.left (difference_of c.in-Some-2.sides)
-        (sym c.in_ok-sides.ensures.list ∙ ap (λ (o : Option Difference). Ok (option_map difference_of o)) c.in-Some-2.is))
+    c.in_ok-there.there.time _ _ (stretches_of c.args.sent.now) next.times c.loop-time.invariant.left (difference_of c.in-Some-2.sides)
+    (sym c.in_ok-sides.ensures.list ∙ ap (λ (o : Option Difference). Ok (option_map difference_of o)) c.in-Some-2.is))
 
 pub on_stretch-requires-clause-here : goal.on_stretch-requires-clause-here
 on_stretch-requires-clause-here c = c.loop-time.invariant.here
@@ -81,22 +81,22 @@ on_stretch-requires-clause-kept c = c.in_ok-there.ensures.kept
 pub loop-time-preserved : goal.loop-time-preserved
 loop-time-preserved c =
     let next = some_next c.args.sent.now c.requires c.loop-time.here.places c.loop-time.here.time c.loop-time.invariant.here.places c.in_ok-there.there.time
-        (sym c.in-Some.ensures ∙ ap Some (sym c.in_ok-there.ensures.time)) in
+    (sym c.in-Some.ensures ∙ ap Some (sym c.in_ok-there.ensures.time)) in
     record {
       kept = c.in_ok-sides.ensures.kept;
       here = c.in_ok-sides.ensures.there;
       left =
           ap (λ (t : ℚ). stretches_from passes_Q c.args.sent.now.taken.points c.args.sent.now.exits.points c.args.sent.now.labels.points t
-              (three_after t c.args.sent.now.taken.points c.args.sent.now.exits.points c.args.sent.now.labels.points)) c.in_ok-sides.ensures.time
+          (three_after t c.args.sent.now.taken.points c.args.sent.now.exits.points c.args.sent.now.labels.points)) c.in_ok-sides.ensures.time
           ∙ stretch_goes passes_Q c.args.sent.now.taken.points c.args.sent.now.exits.points c.args.sent.now.labels.points c.loop-time.here.time
-              c.in_ok-there.there.time _ _ (stretches_of c.args.sent.now) next.times c.loop-time.invariant.left
-              (sym c.in_ok-sides.ensures.list ∙ ap (λ (o : Option Difference). Ok (option_map difference_of o)) c.in_default-2.is);
+          c.in_ok-there.there.time _ _ (stretches_of c.args.sent.now) next.times c.loop-time.invariant.left
+          (sym c.in_ok-sides.ensures.list ∙ ap (λ (o : Option Difference). Ok (option_map difference_of o)) c.in_default-2.is);
     }
 
 pub loop-time-smaller : goal.loop-time-smaller
 loop-time-smaller c =
     let next = some_next c.args.sent.now c.requires c.loop-time.here.places c.loop-time.here.time c.loop-time.invariant.here.places c.in_ok-there.there.time
-        (sym c.in-Some.ensures ∙ ap Some (sym c.in_ok-there.ensures.time)) in
+    (sym c.in-Some.ensures ∙ ap Some (sym c.in_ok-there.ensures.time)) in
     rw c.in_ok-sides.ensures.time (fewer_after _ _ c.in_ok-there.there.time next.times)
 
 pub returns : goal.returns

@@ -14,14 +14,14 @@ returns-in_err-check_outflow c =
     let inside : c.loop-number.number < length c.args.worked.now.net.now.net.links = omega arith in
     let there = link_there c.args.worked.now.net.now.net.links c.loop-number.number inside in
     rw (p.1, p.2) (links_end (in_view outflow_rule c.args.worked.now) c.args.worked.now.net.now.net.links c.loop-number.number c.loop-number.invariant
-        there.link there.is c.in_err-check_outflow.field-0.0 (c.in_err-check_outflow.ensures there.link there.is))
+    there.link there.is c.in_err-check_outflow.field-0.0 (c.in_err-check_outflow.ensures there.link there.is))
 
 pub loop-number-preserved : goal.loop-number-preserved
 loop-number-preserved c =
     let inside : c.loop-number.number < length c.args.worked.now.net.now.net.links = omega arith in
     let there = link_there c.args.worked.now.net.now.net.links c.loop-number.number inside in
     links_go (in_view outflow_rule c.args.worked.now) c.args.worked.now.net.now.net.links c.loop-number.number c.loop-number.invariant there.link there.is
-        tt (c.in_ok-check_outflow.ensures there.link there.is)
+    tt (c.in_ok-check_outflow.ensures there.link there.is)
 
 pub returns : goal.returns
 returns c =

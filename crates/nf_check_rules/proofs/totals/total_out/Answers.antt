@@ -22,19 +22,19 @@ returns-in_err-total-2 c =
     let inside : c.loop-number.number < length c.args.net.now.net.links = omega arith in
     let there = link_there c.args.net.now.net.links c.loop-number.number inside in
     rw (p.1, p.2) (fold_stops (with_inflow passes_Q (points_of (flow_of c.args.flow.now).inflows) c.args.node) c.args.net.now.net.links no_amount
-        c.loop-number.total.points c.loop-number.number c.loop-number.invariant there.link there.is c.in_err-total-2.field-0.0
-        (c.in_err-total-2.ensures there.link there.is))
+    c.loop-number.total.points c.loop-number.number c.loop-number.invariant there.link there.is c.in_err-total-2.field-0.0
+    (c.in_err-total-2.ensures there.link there.is))
 
 pub loop-number-preserved : goal.loop-number-preserved
 loop-number-preserved c =
     let inside : c.loop-number.number < length c.args.net.now.net.links = omega arith in
     let there = link_there c.args.net.now.net.links c.loop-number.number inside in
     fold_goes (with_inflow passes_Q (points_of (flow_of c.args.flow.now).inflows) c.args.node) c.args.net.now.net.links no_amount c.loop-number.total.points
-        c.loop-number.number c.loop-number.invariant there.link there.is c.in_ok-total-2.total.points (c.in_ok-total-2.ensures there.link there.is)
+    c.loop-number.number c.loop-number.invariant there.link there.is c.in_ok-total-2.total.points (c.in_ok-total-2.ensures there.link there.is)
 
 pub returns : goal.returns
 unfolding total_out
 returns c =
     let past : length c.args.net.now.net.links ≤ c.loop-number.number = omega arith in
     fold_last (with_inflow passes_Q (points_of (flow_of c.args.flow.now).inflows) c.args.node) c.args.net.now.net.links no_amount c.loop-number.total.points
-        c.loop-number.number c.loop-number.invariant past
+    c.loop-number.number c.loop-number.invariant past

@@ -36,7 +36,7 @@ returns c = λ here is.
     let told : c.trace_at.result.now.curve.points ≡ points_at (points_of (flow_of c.args.flow.now).inflows) c.args.link =
     c.trace_at.ensures.points ∙ ap (λ (l : List Trace). points_at (points_of (map trace_of l)) c.args.link) c.deref.ensures.value in
     let summed : Gives (λ (g : Grown). g.points) (λ (q : ℚ). q) c.sum.result
-        (at_part Check (checked_sum passes_Q c.args.so_far.points (points_at (points_of (flow_of c.args.flow.now).inflows) c.args.link))) =
-        rw (sym told) c.sum.ensures.list in
+    (at_part Check (checked_sum passes_Q c.args.so_far.points (points_at (points_of (flow_of c.args.flow.now).inflows) c.args.link))) =
+    rw (sym told) c.sum.ensures.list in
     subst (λ (r : Checked (List Point)). Gives (λ (g : Grown). g.points) (λ (q : ℚ). q) c.sum.result (at_part Check r))
-        (sym (at_node here.tail c.args.node c.ne.result test c.if-ne.false sum stay)) summed
+    (sym (at_node here.tail c.args.node c.ne.result test c.if-ne.false sum stay)) summed

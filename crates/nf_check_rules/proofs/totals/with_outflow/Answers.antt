@@ -35,7 +35,7 @@ returns c = λ here is.
     let stay : Checked (List Point) = Ok c.args.so_far.points in
     let told : (loaded_of c.loaded_at.result.now).outflow ≡ (loaded_at (loadings_of c.args.loaded.now) c.args.link).outflow = ap (λ (l : lists.Loaded). l.outflow) c.loaded_at.ensures in
     let summed : Gives (λ (g : Grown). g.points) (λ (q : ℚ). q) c.sum.result
-        (at_part Check (checked_sum passes_Q c.args.so_far.points (loaded_at (loadings_of c.args.loaded.now) c.args.link).outflow)) =
-        rw (sym told) c.sum.ensures.list in
+    (at_part Check (checked_sum passes_Q c.args.so_far.points (loaded_at (loadings_of c.args.loaded.now) c.args.link).outflow)) =
+    rw (sym told) c.sum.ensures.list in
     subst (λ (r : Checked (List Point)). Gives (λ (g : Grown). g.points) (λ (q : ℚ). q) c.sum.result (at_part Check r))
-        (sym (at_node here.head c.args.node c.ne.result test c.if-ne.false sum stay)) summed
+    (sym (at_node here.head c.args.node c.ne.result test c.if-ne.false sum stay)) summed

@@ -60,16 +60,16 @@ returns-in_err-new-2 c = λ slopes t.
     let on = c.loop-new.invariant slopes t in
     let next : IsNextCycle c.args.net.now.net c.args.sets.now slopes c.loop-new.new.items c.in-Some.cycle.steps.items =
     (closes_at (λ cycle. cycle.last) (λ cycle. cycle.steps.items) c.args.net.now.net c.args.sets.now slopes c.deref.result.now c.loop-new.new.items
-        c.in_ok-cycle.field-0 c.in-Some.cycle c.deref.ensures.value c.in-Some.is
-        (interior_found passes_Q c.args.net.now.net c.args.sets.now slopes c.args.fulls.now t.filled c.deref.result.now
-        (ap length c.deref.ensures.value ∙ on.0.thin.flow_count) (λ cycle. cycle.last)
-        (λ cycle. cycle.steps.items) c.in_ok-cycle.field-0 c.in_ok-cycle.ensures)).is_next in
+    c.in_ok-cycle.field-0 c.in-Some.cycle c.deref.ensures.value c.in-Some.is
+    (interior_found passes_Q c.args.net.now.net c.args.sets.now slopes c.args.fulls.now t.filled c.deref.result.now
+    (ap length c.deref.ensures.value ∙ on.0.thin.flow_count) (λ cycle. cycle.last)
+    (λ cycle. cycle.steps.items) c.in_ok-cycle.field-0 c.in_ok-cycle.ensures)).is_next in
     let p = err_from_is_err_and c.from_residual-in_err-new-2.result c.from_residual-in_err-new-2.ensures.1 in
     rw (p.1, p.2) (halts_of (Cancels passes_Q c.args.net.now.net c.args.sets.now slopes c.args.fulls.now c.args.flows.now) (λ (v : Vec ℚ Global). v.items)
     (cancel_list passes_Q c.deref-in-Some.result.now c.args.fulls.now c.deref-in-Some-2.result.now) c.in_err-new-2.field-0.0
     (λ q e. cancels_stop passes_Q c.args.net.now.net c.args.sets.now t.rate slopes c.args.fulls.now c.args.flows.now c.loop-new.new.items on.0 c.in-Some.cycle.steps.items next q
     (sym (list_at passes_Q c.args.fulls.now c.deref-in-Some.result.now c.in-Some.cycle.steps.items c.deref-in-Some-2.result.now c.loop-new.new.items
-        c.deref-in-Some.ensures.value c.deref-in-Some-2.ensures.value) ∙ e))
+    c.deref-in-Some.ensures.value c.deref-in-Some-2.ensures.value) ∙ e))
     c.in_err-new-2.ensures)
 
 pub loop-new-preserved : goal.loop-new-preserved
@@ -77,20 +77,20 @@ loop-new-preserved c = λ slopes t.
     let on = c.loop-new.invariant slopes t in
     let next : IsNextCycle c.args.net.now.net c.args.sets.now slopes c.loop-new.new.items c.in-Some.cycle.steps.items =
     (closes_at (λ cycle. cycle.last) (λ cycle. cycle.steps.items) c.args.net.now.net c.args.sets.now slopes c.deref.result.now c.loop-new.new.items
-        c.in_ok-cycle.field-0 c.in-Some.cycle c.deref.ensures.value c.in-Some.is
-        (interior_found passes_Q c.args.net.now.net c.args.sets.now slopes c.args.fulls.now t.filled c.deref.result.now
-        (ap length c.deref.ensures.value ∙ on.0.thin.flow_count) (λ cycle. cycle.last)
-        (λ cycle. cycle.steps.items) c.in_ok-cycle.field-0 c.in_ok-cycle.ensures)).is_next in
+    c.in_ok-cycle.field-0 c.in-Some.cycle c.deref.ensures.value c.in-Some.is
+    (interior_found passes_Q c.args.net.now.net c.args.sets.now slopes c.args.fulls.now t.filled c.deref.result.now
+    (ap length c.deref.ensures.value ∙ on.0.thin.flow_count) (λ cycle. cycle.last)
+    (λ cycle. cycle.steps.items) c.in_ok-cycle.field-0 c.in_ok-cycle.ensures)).is_next in
     let worked : cancel_list passes_Q c.in-Some.cycle.steps.items c.args.fulls.now c.loop-new.new.items ≡ Ok c.in_ok-new-2.new.items =
     sym (list_at passes_Q c.args.fulls.now c.deref-in-Some.result.now c.in-Some.cycle.steps.items c.deref-in-Some-2.result.now c.loop-new.new.items
-        c.deref-in-Some.ensures.value c.deref-in-Some-2.ensures.value)
+    c.deref-in-Some.ensures.value c.deref-in-Some-2.ensures.value)
     ∙ value_of (cancel_list passes_Q c.deref-in-Some.result.now c.args.fulls.now c.deref-in-Some-2.result.now) c.in_ok-new-2.new.items (sym c.in_ok-new-2.ensures) in
     let closes : ClosesNext c.args.net.now.net c.args.sets.now slopes c.loop-new.new.items c.in-Some.cycle.last c.in-Some.cycle.steps.items =
     closes_at (λ cycle. cycle.last) (λ cycle. cycle.steps.items) c.args.net.now.net c.args.sets.now slopes c.deref.result.now c.loop-new.new.items
-        c.in_ok-cycle.field-0 c.in-Some.cycle c.deref.ensures.value c.in-Some.is
-        (interior_found passes_Q c.args.net.now.net c.args.sets.now slopes c.args.fulls.now t.filled c.deref.result.now
-        (ap length c.deref.ensures.value ∙ on.0.thin.flow_count) (λ cycle. cycle.last)
-        (λ cycle. cycle.steps.items) c.in_ok-cycle.field-0 c.in_ok-cycle.ensures) in (
+    c.in_ok-cycle.field-0 c.in-Some.cycle c.deref.ensures.value c.in-Some.is
+    (interior_found passes_Q c.args.net.now.net c.args.sets.now slopes c.args.fulls.now t.filled c.deref.result.now
+    (ap length c.deref.ensures.value ∙ on.0.thin.flow_count) (λ cycle. cycle.last)
+    (λ cycle. cycle.steps.items) c.in_ok-cycle.field-0 c.in_ok-cycle.ensures) in (
       cancels_more passes_Q c.args.net.now.net c.args.sets.now t.rate slopes c.args.fulls.now c.args.flows.now c.loop-new.new.items on.0
           c.in-Some.cycle.steps.items next c.requires.sets t.filled c.in_ok-new-2.new.items worked,
       known_on passes_Q c.args.net.now.net c.args.sets.now t.rate slopes c.args.fulls.now c.args.flows.now c.loop-new.new.items on.0
@@ -104,22 +104,22 @@ loop-new-smaller c =
     let on = c.loop-new.invariant slopes t in
     let next : IsNextCycle c.args.net.now.net c.args.sets.now slopes c.loop-new.new.items c.in-Some.cycle.steps.items =
     (closes_at (λ cycle. cycle.last) (λ cycle. cycle.steps.items) c.args.net.now.net c.args.sets.now slopes c.deref.result.now c.loop-new.new.items
-        c.in_ok-cycle.field-0 c.in-Some.cycle c.deref.ensures.value c.in-Some.is
-        (interior_found passes_Q c.args.net.now.net c.args.sets.now slopes c.args.fulls.now t.filled c.deref.result.now
-        (ap length c.deref.ensures.value ∙ on.0.thin.flow_count) (λ cycle. cycle.last)
-        (λ cycle. cycle.steps.items) c.in_ok-cycle.field-0 c.in_ok-cycle.ensures)).is_next in
+    c.in_ok-cycle.field-0 c.in-Some.cycle c.deref.ensures.value c.in-Some.is
+    (interior_found passes_Q c.args.net.now.net c.args.sets.now slopes c.args.fulls.now t.filled c.deref.result.now
+    (ap length c.deref.ensures.value ∙ on.0.thin.flow_count) (λ cycle. cycle.last)
+    (λ cycle. cycle.steps.items) c.in_ok-cycle.field-0 c.in_ok-cycle.ensures)).is_next in
     let worked : cancel_list passes_Q c.in-Some.cycle.steps.items c.args.fulls.now c.loop-new.new.items ≡ Ok c.in_ok-new-2.new.items =
     sym (list_at passes_Q c.args.fulls.now c.deref-in-Some.result.now c.in-Some.cycle.steps.items c.deref-in-Some-2.result.now c.loop-new.new.items
-        c.deref-in-Some.ensures.value c.deref-in-Some-2.ensures.value)
+    c.deref-in-Some.ensures.value c.deref-in-Some-2.ensures.value)
     ∙ value_of (cancel_list passes_Q c.deref-in-Some.result.now c.args.fulls.now c.deref-in-Some-2.result.now) c.in_ok-new-2.new.items (sym c.in_ok-new-2.ensures) in
     fewer_interior passes_Q c.args.net.now.net c.args.sets.now t.rate slopes c.args.fulls.now c.args.flows.now c.loop-new.new.items on.0
-        c.in-Some.cycle.steps.items next c.requires.sets t.filled c.in_ok-new-2.new.items worked
+    c.in-Some.cycle.steps.items next c.requires.sets t.filled c.in_ok-new-2.new.items worked
 
 pub returns : goal.returns
 returns c = λ slopes t.
     let on = c.loop-new.invariant slopes t in
     cancels_end passes_Q c.args.net.now.net c.args.sets.now t.rate slopes c.args.fulls.now c.args.flows.now c.loop-new.new.items on.0
     (none_at (λ cycle. cycle.last) (λ cycle. cycle.steps.items) c.args.net.now.net c.args.sets.now slopes c.deref.result.now c.loop-new.new.items
-        c.in_ok-cycle.field-0 c.deref.ensures.value c.in_default.is (interior_found passes_Q c.args.net.now.net c.args.sets.now slopes c.args.fulls.now
-        t.filled c.deref.result.now (ap length c.deref.ensures.value ∙ on.0.thin.flow_count) (λ cycle. cycle.last)
-        (λ cycle. cycle.steps.items) c.in_ok-cycle.field-0 c.in_ok-cycle.ensures))
+    c.in_ok-cycle.field-0 c.deref.ensures.value c.in_default.is (interior_found passes_Q c.args.net.now.net c.args.sets.now slopes c.args.fulls.now
+    t.filled c.deref.result.now (ap length c.deref.ensures.value ∙ on.0.thin.flow_count) (λ cycle. cycle.last)
+    (λ cycle. cycle.steps.items) c.in_ok-cycle.field-0 c.in_ok-cycle.ensures))

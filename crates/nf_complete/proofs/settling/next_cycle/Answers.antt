@@ -32,7 +32,7 @@ first_cycle-requires-clause-known c =
 pub returns : goal.returns
 returns c =
     subst (λ (f : List Bool). IfOk c.first_cycle.result (λ found. MatchOption found (IsForest (hops c.args.net.now.net) (Has f))
-        (λ cycle. ClosesFirst (hops c.args.net.now.net) f cycle.last cycle.steps.items)))
+    (λ cycle. ClosesFirst (hops c.args.net.now.net) f cycle.last cycle.steps.items)))
     (c.deref.ensures.value ∙ c.in_ok-interior.ensures)
     (subst (λ (h : List Hop). IfOk c.first_cycle.result (λ found. MatchOption found (IsForest h (Has c.deref.result.now))
-        (λ cycle. ClosesFirst h c.deref.result.now cycle.last cycle.steps.items))) c.hops.ensures.value c.first_cycle.ensures)
+    (λ cycle. ClosesFirst h c.deref.result.now cycle.last cycle.steps.items))) c.hops.ensures.value c.first_cycle.ensures)

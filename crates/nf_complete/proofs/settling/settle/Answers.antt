@@ -86,7 +86,7 @@ returns-in_err-flows-clause-list c =
     rw (p.1, p.2) (settles_on passes_Q c.args.net.now.net c.args.sets.now c.args.slopes.now c.args.flows.now (λ (v : Vec ℚ Global). v.items) c.deref.result.now
     (fulls_read passes_Q c.args.net.now.net c.args.sets.now c.args.slopes.now c.in_ok-fulls.fulls.items c.deref.result.now c.in_ok-fulls.ensures c.deref.ensures.value)
     c.in_err-flows.field-0.0 (c.in_err-flows.ensures c.args.slopes.now (with_fulls passes_Q c.args.net.now.net c.args.sets.now c.args.rate c.args.flows.now
-        c.args.slopes.now c.requires.thin c.in_ok-fulls.fulls.items c.deref.result.now
+    c.args.slopes.now c.requires.thin c.in_ok-fulls.fulls.items c.deref.result.now
     c.in_ok-fulls.ensures c.deref.ensures.value)) (λ (s : Settled). s.flows.items))
 
 pub cancelled-requires-clause-fewer : goal.cancelled-requires-clause-fewer
@@ -97,23 +97,23 @@ cancelled-requires-clause-fewer c =
 pub settled_pattern-requires-clause-flows : goal.settled_pattern-requires-clause-flows
 settled_pattern-requires-clause-flows c =
     let s = settled_by passes_Q c.args.net.now.net c.args.sets.now c.args.rate c.args.flows.now c.args.slopes.now
-        (good_sets c.args.net.now c.args.sets.now c.recall.ensures c.requires.sets) c.requires.thin c.in_ok-fulls.fulls.items c.deref.result.now
-        c.in_ok-fulls.ensures
+    (good_sets c.args.net.now c.args.sets.now c.recall.ensures c.requires.sets) c.requires.thin c.in_ok-fulls.fulls.items c.deref.result.now
+    c.in_ok-fulls.ensures
     c.deref.ensures.value c.in_ok-flows.flows.items c.in_ok-flows.ensures in
     ap length c.deref-3.ensures.value ∙ s.thin.flow_count
 
 pub returns-clause-list : goal.returns-clause-list
 returns-clause-list c =
     (settled_by passes_Q c.args.net.now.net c.args.sets.now c.args.rate c.args.flows.now c.args.slopes.now
-        (good_sets c.args.net.now c.args.sets.now c.recall.ensures c.requires.sets) c.requires.thin c.in_ok-fulls.fulls.items c.deref.result.now
-        c.in_ok-fulls.ensures
+    (good_sets c.args.net.now c.args.sets.now c.recall.ensures c.requires.sets) c.requires.thin c.in_ok-fulls.fulls.items c.deref.result.now
+    c.in_ok-fulls.ensures
     c.deref.ensures.value c.in_ok-flows.flows.items c.in_ok-flows.ensures).settles_it
 
 pub returns-clause-thin : goal.returns-clause-thin
 returns-clause-thin c =
     (settled_by passes_Q c.args.net.now.net c.args.sets.now c.args.rate c.args.flows.now c.args.slopes.now
-        (good_sets c.args.net.now c.args.sets.now c.recall.ensures c.requires.sets) c.requires.thin c.in_ok-fulls.fulls.items c.deref.result.now
-        c.in_ok-fulls.ensures
+    (good_sets c.args.net.now c.args.sets.now c.recall.ensures c.requires.sets) c.requires.thin c.in_ok-fulls.fulls.items c.deref.result.now
+    c.in_ok-fulls.ensures
     c.deref.ensures.value c.in_ok-flows.flows.items c.in_ok-flows.ensures).thin
 
 pub returns-clause-pattern : goal.returns-clause-pattern
@@ -124,19 +124,19 @@ returns-clause-pattern c =
 pub returns-clause-listed : goal.returns-clause-listed
 returns-clause-listed c =
     let s = settled_by passes_Q c.args.net.now.net c.args.sets.now c.args.rate c.args.flows.now c.args.slopes.now
-        (good_sets c.args.net.now c.args.sets.now c.recall.ensures c.requires.sets) c.requires.thin c.in_ok-fulls.fulls.items c.deref.result.now
-        c.in_ok-fulls.ensures
+    (good_sets c.args.net.now c.args.sets.now c.recall.ensures c.requires.sets) c.requires.thin c.in_ok-fulls.fulls.items c.deref.result.now
+    c.in_ok-fulls.ensures
     c.deref.ensures.value c.in_ok-flows.flows.items c.in_ok-flows.ensures in
     settled_listed passes_Q c.args.net.now.net c.args.sets.now c.args.rate c.args.flows.now c.args.slopes.now c.in_ok-flows.flows.items
-        (good_sets c.args.net.now c.args.sets.now c.recall.ensures c.requires.sets) c.requires.rate s c.in_ok-pattern.pattern
+    (good_sets c.args.net.now c.args.sets.now c.recall.ensures c.requires.sets) c.requires.rate s c.in_ok-pattern.pattern
     c.deref-3.result.now c.deref-3.ensures.value c.in_ok-pattern.ensures
 
 pub returns-clause-solution : goal.returns-clause-solution
 returns-clause-solution c =
     let s = settled_by passes_Q c.args.net.now.net c.args.sets.now c.args.rate c.args.flows.now c.args.slopes.now
-        (good_sets c.args.net.now c.args.sets.now c.recall.ensures c.requires.sets) c.requires.thin c.in_ok-fulls.fulls.items c.deref.result.now
-        c.in_ok-fulls.ensures
+    (good_sets c.args.net.now c.args.sets.now c.recall.ensures c.requires.sets) c.requires.thin c.in_ok-fulls.fulls.items c.deref.result.now
+    c.in_ok-fulls.ensures
     c.deref.ensures.value c.in_ok-flows.flows.items c.in_ok-flows.ensures in
     settled_solution passes_Q c.args.net.now.net c.args.sets.now c.args.rate c.args.flows.now c.args.slopes.now c.in_ok-flows.flows.items
-        (good_sets c.args.net.now c.args.sets.now c.recall.ensures c.requires.sets) c.requires.rate s c.in_ok-pattern.pattern
+    (good_sets c.args.net.now c.args.sets.now c.recall.ensures c.requires.sets) c.requires.rate s c.in_ok-pattern.pattern
     c.deref-3.result.now c.deref-3.ensures.value c.in_ok-pattern.ensures

@@ -14,9 +14,9 @@ pub returns-in_err-here : goal.returns-in_err-here
 returns-in_err-here c =
     let p = err_from_is_err_and c.from_residual.result c.from_residual.ensures.1 in
     rw (p.1, p.2) (told_stops (sums_at passes_Q c.args.net.now.net c.args.sets.now c.args.rate c.args.flows.now)
-        (IsBalanced c.args.net.now.net c.args.sets.now c.args.rate c.args.flows.now)
+    (IsBalanced c.args.net.now.net c.args.sets.now c.args.rate c.args.flows.now)
     (range_with_len 0 c.args.net.now.net.nodes) c.loop-v.v c.loop-v.v (node_at c.args.net.now.net.nodes c.loop-v.v (omega arith)) c.loop-v.all
-        c.loop-v.invariant c.in_err-here.field-0.0 c.in_err-here.ensures)
+    c.loop-v.invariant c.in_err-here.field-0.0 c.in_err-here.ensures)
 
 pub loop-v-preserved : goal.loop-v-preserved
 loop-v-preserved c = rw (c.both-all.ensures) (told_more (sums_at passes_Q c.args.net.now.net c.args.sets.now c.args.rate c.args.flows.now)

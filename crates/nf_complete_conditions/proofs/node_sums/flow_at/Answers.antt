@@ -12,7 +12,7 @@ pub returns-in_err-next : goal.returns-in_err-next
 returns-in_err-next c = λ rate.
     let p = err_from_is_err_and c.from_residual.result c.from_residual.ensures.1 in
     rw (p.1, p.2) (adding_stops (more_at passes_Q c.args.net.now.net c.args.sets.now rate c.args.flows.now c.args.end c.args.node) c.args.net.now.net 0ℚ
-        c.loop-e.so_far c.loop-e.e (omega arith)
+    c.loop-e.so_far c.loop-e.e (omega arith)
     (c.loop-e.invariant rate) c.in_err-next.field-0.0
     (more_told passes_Q c.args.net.now.net c.args.sets.now rate c.args.flows.now (Err c.in_err-next.field-0.0) c.args.end c.args.node c.loop-e.so_far c.loop-e.e c.is_at-at_node.result
     (c.in_err-next.ensures c.args.net.now.net rate) c.is_at-at_node.ensures))

@@ -15,4 +15,4 @@ loop-e-preserved c =
 pub returns : goal.returns
 returns c = IsSettledPattern-made c.args.net.now.net c.args.sets.now c.args.flows.now c.args.slopes.now c.loop-e.pattern
     (states_whole c.args.net.now.net c.args.sets.now c.args.flows.now c.args.slopes.now c.loop-e.e (length c.args.net.now.net.links) c.loop-e.pattern
-        (omega arith) c.loop-e.invariant) c.requires.sets
+    (omega arith) c.loop-e.invariant) c.requires.sets

@@ -16,7 +16,7 @@ is_taken-requires-clause-slopes c = c.requires.slopes
 pub returns-then-not-is_taken : goal.returns-then-not-is_taken
 returns-then-not-is_taken c = λ each.
     let other : c.loop-v.v ≢ c.args.net.now.net.source = (λ same. absurd (let e = c.ne.ensures in let f = c.if-ne.true in
-        let s = c.source-source.ensures.value in grind (arith, nat_tests))) in
+    let s = c.source-source.ensures.value in grind (arith, nat_tests))) in
     let t = each c.loop-v.v (let n = c.node_count-v-end.ensures in let i = c.loop-v-test.true in omega arith) other in
     c.if-not-is_taken.ensures t.0 t.1
 

@@ -62,7 +62,7 @@ returns-in-Some c =
     let p : IsHop c.args.hops.now c.loop-e.e c.index-hops-e.result = IsHop-read c.args.hops.now c.loop-e.e c.index-hops-e.result c.loop-e-test.true c.index-hops-e.is in
     let w : IsWay c.args.hops.now c.deref.result.now c.hop.inside.tail c.hop.inside.head c.in-Some.steps.items =
     subst (λ o. MatchOption o (AreApart c.args.hops.now c.deref.result.now c.hop.inside.tail c.hop.inside.head)
-        (λ steps. IsWay c.args.hops.now c.deref.result.now c.hop.inside.tail c.hop.inside.head steps.items)) c.in-Some.is c.in_ok-steps.ensures in
+    (λ steps. IsWay c.args.hops.now c.deref.result.now c.hop.inside.tail c.hop.inside.head steps.items)) c.in-Some.is c.in_ok-steps.ensures in
     record {
       is_first = c.in_ok-steps-in-Some.ensures c.args.hops.now c.args.chosen.now
           (subst (λ (s : List (ℕ × Bool)). IsClosedTrail c.args.hops.now c.args.chosen.now s) (sym c.in_ok-push-in-Some.ensures.items)
@@ -84,7 +84,7 @@ loop-e-preserved c =
       | else-chosen-e+then-chosen-e-2+in_ok-steps+in-None w ↦
           let a : AreApart c.args.hops.now w.deref.result.now c.hop.inside.tail c.hop.inside.head =
           subst (λ o. MatchOption o (AreApart c.args.hops.now w.deref.result.now c.hop.inside.tail c.hop.inside.head)
-              (λ steps. IsWay c.args.hops.now w.deref.result.now c.hop.inside.tail c.hop.inside.head steps.items)) w.in-None.is w.in_ok-steps.ensures in
+          (λ steps. IsWay c.args.hops.now w.deref.result.now c.hop.inside.tail c.hop.inside.head steps.items)) w.in-None.is w.in_ok-steps.ensures in
           subst (λ b. AreBefore c.args.hops.now c.args.chosen.now (c.loop-e.e + 1) b.items) (sym w.before-is)
           (before_more c.args.hops.now c.args.chosen.now c.loop-e.e c.loop-e.before.items c.loop-e.invariant c.index-hops-e.result c.loop-e.e refl p
           (Has_from_read c.args.chosen.now c.loop-e.e w.if-chosen-e-2.true)

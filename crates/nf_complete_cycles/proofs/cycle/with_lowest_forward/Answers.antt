@@ -9,13 +9,13 @@ returns-then-not-least c = λ hops chosen closed. if-ok c.rounded.result _ (λ a
     (λ all h. subst (λ (s : List (ℕ × Bool)). IsFirstCycle hops chosen s) (sym (h ∙ ap (round_onto []) c.deref-then-not-least.ensures.value))
     (turned-forward hops chosen c.args.steps.items c.in-Some.least closed
     (ap (lowest_from None) (sym c.deref.ensures.value) ∙ sym c.lowest.ensures ∙ c.in-Some.is)
-        (ap (λ (p : ℕ × Bool). p.1) (sym c.least.view_is) ∙ not_true c.least.inside.forward c.if-not-least.true)))
+    (ap (λ (p : ℕ × Bool). p.1) (sym c.least.view_is) ∙ not_true c.least.inside.forward c.if-not-least.true)))
     c.rounded.ensures
 
 pub returns : goal.returns
 returns c = λ hops chosen closed. elim c.match-lowest.branch [
   | in-Some+else-not-least w ↦ kept-forward hops chosen c.args.steps.items w.in-Some.least closed
       (ap (lowest_from None) (sym c.deref.ensures.value) ∙ sym c.lowest.ensures ∙ w.in-Some.is)
-          (ap (λ (p : ℕ × Bool). p.1) (sym w.least.view_is) ∙ not_false w.least.inside.forward w.if-not-least.false)
+      (ap (λ (p : ℕ × Bool). p.1) (sym w.least.view_is) ∙ not_false w.least.inside.forward w.if-not-least.false)
   | in_default w ↦ absurd (lowest-none hops chosen c.args.steps.items closed (ap (lowest_from None) (sym c.deref.ensures.value) ∙ sym c.lowest.ensures ∙ w.in_default.is))
 ]

@@ -21,7 +21,7 @@ pub loop-step-init : goal.loop-step-init
 loop-step-init c =
     let start : c.in_ok-flags.flags.items ≡ replicate c.args.nodes false = c.in_ok-flags.ensures.items_if_clones_equal (λ y e. e) in
     subst (λ (t : List (ℕ × Bool)). IsGrown c.args.hops.now c.args.chosen.now c.args.from c.args.nodes
-        (set c.in_ok-flags.flags.items c.index.result true) t) (sym c.new-tree.ensures.items)
+    (set c.in_ok-flags.flags.items c.index.result true) t) (sym c.new-tree.ensures.items)
     (grown_first c.args.hops.now c.args.chosen.now c.args.from c.args.nodes c.index.result c.in_ok-flags.flags.items (ap length start ∙ length-replicate c.args.nodes false)
     (λ v h. Has-replicate c.args.nodes v (subst (λ (f : List Bool). Has f v) start h)) c.requires.from c.index.ensures)
 
@@ -40,10 +40,10 @@ end_of-node-requires c = slice_get_within c.args.hops.now c.in-Some.step.0 c.in-
 pub index_mut-requires-in-Some : goal.index_mut-requires-in-Some
 index_mut-requires-in-Some c =
     let o : StepsOut c.args.hops.now c.args.chosen.now c.loop-step.flags.items c.in-Some.step =
-        subst (λ (f : List Bool). StepsOut c.args.hops.now c.args.chosen.now f c.in-Some.step) c.deref.ensures.value c.in-Some.ensures in
+    subst (λ (f : List Bool). StepsOut c.args.hops.now c.args.chosen.now f c.in-Some.step) c.deref.ensures.value c.in-Some.ensures in
     let e : c.index-in-Some.result ≡ end_at c.args.hops.now c.in-Some.step = c.index-in-Some.ensures ∙ c.end_of-node.ensures in
     let below : end_at c.args.hops.now c.in-Some.step < c.args.nodes = out_below c.args.hops.now c.args.chosen.now c.args.from c.args.nodes
-        c.loop-step.flags.items c.in-Some.step c.requires.ends o in
+    c.loop-step.flags.items c.in-Some.step c.requires.ends o in
     let n = c.loop-step.invariant.count in omega arith
 
 pub returns-in_err-insert : goal.returns-in_err-insert
@@ -58,21 +58,21 @@ returns-in_err-back c = IfOk-from_err c.from_residual-in_err-back.result _ c.fro
 pub loop-step-smaller : goal.loop-step-smaller
 loop-step-smaller c =
     let o : StepsOut c.args.hops.now c.args.chosen.now c.loop-step.flags.items c.in-Some.step =
-        subst (λ (f : List Bool). StepsOut c.args.hops.now c.args.chosen.now f c.in-Some.step) c.deref.ensures.value c.in-Some.ensures in
+    subst (λ (f : List Bool). StepsOut c.args.hops.now c.args.chosen.now f c.in-Some.step) c.deref.ensures.value c.in-Some.ensures in
     let e : c.index-in-Some.result ≡ end_at c.args.hops.now c.in-Some.step = c.index-in-Some.ensures ∙ c.end_of-node.ensures in
     subst (λ (i : ℕ). free (set c.loop-step.flags.items i true) < free c.loop-step.flags.items) (sym e)
     (fewer_free c.loop-step.flags.items (end_at c.args.hops.now c.in-Some.step)
     (subst (λ (n : ℕ). end_at c.args.hops.now c.in-Some.step < n) (sym c.loop-step.invariant.count)
-        (out_below c.args.hops.now c.args.chosen.now c.args.from c.args.nodes c.loop-step.flags.items c.in-Some.step c.requires.ends o))
+    (out_below c.args.hops.now c.args.chosen.now c.args.from c.args.nodes c.loop-step.flags.items c.in-Some.step c.requires.ends o))
     (out_free c.args.hops.now c.args.chosen.now c.args.from c.loop-step.flags.items c.in-Some.step o))
 
 pub loop-step-preserved : goal.loop-step-preserved
 loop-step-preserved c =
     let o : StepsOut c.args.hops.now c.args.chosen.now c.loop-step.flags.items c.in-Some.step =
-        subst (λ (f : List Bool). StepsOut c.args.hops.now c.args.chosen.now f c.in-Some.step) c.deref.ensures.value c.in-Some.ensures in
+    subst (λ (f : List Bool). StepsOut c.args.hops.now c.args.chosen.now f c.in-Some.step) c.deref.ensures.value c.in-Some.ensures in
     let e : c.index-in-Some.result ≡ end_at c.args.hops.now c.in-Some.step = c.index-in-Some.ensures ∙ c.end_of-node.ensures in
     subst (λ (t : List (ℕ × Bool)). IsGrown c.args.hops.now c.args.chosen.now c.args.from c.args.nodes
-        (set c.loop-step.flags.items c.index-in-Some.result true) t) (sym c.in_ok-insert.ensures.items)
+    (set c.loop-step.flags.items c.index-in-Some.result true) t) (sym c.in_ok-insert.ensures.items)
     (grown_more c.args.hops.now c.args.chosen.now c.args.from c.args.nodes c.index-in-Some.result c.loop-step.flags.items c.loop-step.tree.items c.in-Some.step c.loop-step.invariant o e
     (subst (λ (i : ℕ). i < c.args.nodes) (sym e) (out_below c.args.hops.now c.args.chosen.now c.args.from c.args.nodes c.loop-step.flags.items c.in-Some.step c.requires.ends o)))
 
@@ -80,7 +80,7 @@ pub returns-then-not-index : goal.returns-then-not-index
 returns-then-not-index c = apart_found c.args.hops.now c.args.chosen.now c.args.from c.args.nodes c.args.to c.loop-step.flags.items c.loop-step.tree.items c.loop-step.invariant
     (subst (λ (f : List Bool). NoneStepsOut c.args.hops.now c.args.chosen.now f) c.deref.ensures.value c.in_default.ensures)
     (not_Has_from_place c.loop-step.flags.items c.index-2.result c.args.to c.index-3.result.now c.if-not-index.true c.index-3.ensures c.index-2.ensures
-        (let n = c.loop-step.invariant.count in let t = c.requires.to in omega arith))
+    (let n = c.loop-step.invariant.count in let t = c.requires.to in omega arith))
 
 pub trace-requires : goal.trace-requires
 trace-requires c = subst (λ (t : List (ℕ × Bool)). AllByRecursion (λ (step : ℕ × Bool). step.0 < length c.args.hops.now) t) (sym c.deref-2.ensures.value)
@@ -89,7 +89,7 @@ trace-requires c = subst (λ (t : List (ℕ × Bool)). AllByRecursion (λ (step 
 pub returns : goal.returns
 returns c =
     let h : Has c.loop-step.flags.items c.args.to = Has_from_place c.loop-step.flags.items c.index-2.result c.args.to c.index-3.result.now
-        c.if-not-index.false c.index-3.ensures c.index-2.ensures (let n = c.loop-step.invariant.count in let t = c.requires.to in omega arith) in
+    c.if-not-index.false c.index-3.ensures c.index-2.ensures (let n = c.loop-step.invariant.count in let t = c.requires.to in omega arith) in
     subst (λ (s : List (ℕ × Bool)). IsWay c.args.hops.now c.args.chosen.now c.args.from c.args.to s)
-        (sym (c.in_ok-back.ensures ∙ ap (λ (t : List (ℕ × Bool)). way_back c.args.hops.now t c.args.to) c.deref-2.ensures.value))
+    (sym (c.in_ok-back.ensures ∙ ap (λ (t : List (ℕ × Bool)). way_back c.args.hops.now t c.args.to) c.deref-2.ensures.value))
     (way_found c.args.hops.now c.args.chosen.now c.args.from c.args.nodes c.args.to c.loop-step.flags.items c.loop-step.tree.items c.loop-step.invariant h)

@@ -22,20 +22,20 @@ at-requires-2 c = omega (arith, c.len.ensures, c.if-len-ne3.false)
 pub returns-in_default-clause-says : goal.returns-in_default-clause-says
 returns-in_default-clause-says c =
     not_named (λ place number. SlopeOf place number) c.args.net.now.node_names c.args.line.now.words (sym c.len.ensures ∙ c.if-len-ne3.false)
-        (ap (λ (w : List ℕ). has_name c.args.net.now.node_names w) (sym c.at.ensures) ∙ c.in_default.ensures)
+    (ap (λ (w : List ℕ). has_name c.args.net.now.node_names w) (sym c.at.ensures) ∙ c.in_default.ensures)
 
 pub returns-in_err-slope-clause-says : goal.returns-in_err-slope-clause-says
 returns-in_err-slope-clause-says c =
     let p = err_from_is_err_and c.from_residual.result c.from_residual.ensures.1 in
     rw (p.1, p.2) (named (λ place number. SlopeOf place number) c.args.net.now.node_names c.args.line.now.words c.in-Some.node
-        (sym c.len.ensures ∙ c.if-len-ne3.false) (subst (λ (w : List ℕ). IsNameAt c.args.net.now.node_names w c.in-Some.node) c.at.ensures
-        c.in-Some.ensures)
+    (sym c.len.ensures ∙ c.if-len-ne3.false) (subst (λ (w : List ℕ). IsNameAt c.args.net.now.node_names w c.in-Some.node) c.at.ensures
+    c.in-Some.ensures)
     ∙ ap (λ (w : List ℕ). number_entry (SlopeOf c.in-Some.node) (result_ok (number_of greatest w))) (sym c.at-2.ensures) ∙ c.in_err-slope.ensures (SlopeOf c.in-Some.node))
 
 pub returns-clause-says : goal.returns-clause-says
 returns-clause-says c =
     named (λ place number. SlopeOf place number) c.args.net.now.node_names c.args.line.now.words c.in-Some.node (sym c.len.ensures ∙ c.if-len-ne3.false)
-        (subst (λ (w : List ℕ). IsNameAt c.args.net.now.node_names w c.in-Some.node) c.at.ensures c.in-Some.ensures)
+    (subst (λ (w : List ℕ). IsNameAt c.args.net.now.node_names w c.in-Some.node) c.at.ensures c.in-Some.ensures)
     ∙ ap (λ (w : List ℕ). number_entry (SlopeOf c.in-Some.node) (result_ok (number_of greatest w))) (sym c.at-2.ensures) ∙ c.in_ok-slope.ensures (SlopeOf c.in-Some.node)
 
 pub returns-clause-node : goal.returns-clause-node

@@ -11,7 +11,7 @@ use Rattle.nf_curve.proofs.composed.add_corner_below.Goals as goal
 pub returns-then-not-is_below : goal.returns-then-not-is_below
 returns-then-not-is_below c =
     corner_fails (corner_at passes_Q c.args.p.now c.args.q.now) c.args.part c.args.composed.now.items
-        (λ (x : ℚ × ℚ). lt_ℚ x.0 c.args.bound) c.args.corner.now (sym c.is_below.ensures ∙ c.if-not-is_below.true)
+    (λ (x : ℚ × ℚ). lt_ℚ x.0 c.args.bound) c.args.corner.now (sym c.is_below.ensures ∙ c.if-not-is_below.true)
 
 pub returns-in_err-point : goal.returns-in_err-point
 returns-in_err-point c =

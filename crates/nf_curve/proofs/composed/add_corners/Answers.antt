@@ -15,7 +15,7 @@ add_corners_down-requires-clause-down c = less_of_test c.args.q.now.1 c.args.p.n
 pub slice_bounds-add_corners_up-count : goal.slice_bounds-add_corners_up-count
 slice_bounds-add_corners_up-count c =
     let h = place-rises c.args.p.now.1 c.args.q.now.1 c.args.outer.now (≤ℚ_of_lt _ _
-        (less_of_test c.args.p.now.1 c.args.q.now.1 (sym c.is_below.ensures ∙ c.if-is_below.true))) in omega arith
+    (less_of_test c.args.p.now.1 c.args.q.now.1 (sym c.is_below.ensures ∙ c.if-is_below.true))) in omega arith
 
 pub offset_bounds-outer-first : goal.offset_bounds-outer-first
 offset_bounds-outer-first c =
@@ -35,7 +35,7 @@ slice_bounds-add_corners_up-end c =
 pub slice_bounds-add_corners_down-count : goal.slice_bounds-add_corners_down-count
 slice_bounds-add_corners_down-count c =
     let h = place-rises c.args.q.now.1 c.args.p.now.1 c.args.outer.now (≤ℚ_of_lt _ _
-        (less_of_test c.args.q.now.1 c.args.p.now.1 (sym c.is_below-else-is_below.ensures ∙ c.if-is_below-2.true))) in omega arith
+    (less_of_test c.args.q.now.1 c.args.p.now.1 (sym c.is_below-else-is_below.ensures ∙ c.if-is_below-2.true))) in omega arith
 
 pub offset_bounds-outer-last : goal.offset_bounds-outer-last
 offset_bounds-outer-last c =
@@ -45,7 +45,7 @@ offset_bounds-outer-last c =
 pub slice_bounds-add_corners_down-start : goal.slice_bounds-add_corners_down-start
 slice_bounds-add_corners_down-start c =
     let h = place-rises c.args.q.now.1 c.args.p.now.1 c.args.outer.now (≤ℚ_of_lt _ _
-        (less_of_test c.args.q.now.1 c.args.p.now.1 (sym c.is_below-else-is_below.ensures ∙ c.if-is_below-2.true))) in
+    (less_of_test c.args.q.now.1 c.args.p.now.1 (sym c.is_below-else-is_below.ensures ∙ c.if-is_below-2.true))) in
     let o : c.args.places.1 ≤ c.args.places.0 = omega arith in search rules
 
 pub slice_bounds-add_corners_down-end : goal.slice_bounds-add_corners_down-end
@@ -63,7 +63,7 @@ pub returns-then-is_below-2 : goal.returns-then-is_below-2
 returns-then-is_below-2 c =
     let u = less_of_test c.args.q.now.1 c.args.p.now.1 (sym c.is_below-else-is_below.ensures ∙ c.if-is_below-2.true) in
     let e = along-down c.args.p.now.1 c.args.q.now.1 c.args.outer.now c.args.places.0 c.args.places.1
-        (curve-rises c.args.outer.now c.requires.outer) u c.requires.first c.requires.last in
+    (curve-rises c.args.outer.now c.requires.outer) u c.requires.first c.requires.last in
     rw e c.add_corners_down.ensures
 
 pub returns-else-is_below-2 : goal.returns-else-is_below-2

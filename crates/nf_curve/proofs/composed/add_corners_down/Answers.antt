@@ -28,10 +28,10 @@ returns-in_err-add_corner_below c =
     let g = slice_get_read c.args.between.now _ (c.loop-left.left - 1) c.index-between-left.result refl b c.index-between-left.is in
     let d = take-last c.args.between.now (c.loop-left.left - 1) c.loop-left.left c.index-between-left.result g (omega arith) in
     rw (p.1, p.2) (stops_on c.in_err-add_corner_below.field-0.0 (at_part c.args.part
-        (behind c.loop-left.composed.items (corners (c.index-between-left.result ∷ []))))
-        (at_part c.args.part (behind c.args.composed.now.items (corners (reverse c.args.between.now))))
+    (behind c.loop-left.composed.items (corners (c.index-between-left.result ∷ []))))
+    (at_part c.args.part (behind c.args.composed.now.items (corners (reverse c.args.between.now))))
     (corner_stops (corner_at passes_Q c.args.p.now c.args.q.now) c.args.part c.loop-left.composed.items _
-        (λ (x : ℚ × ℚ). lt_ℚ x.0 c.args.p.now.1) c.index-between-left.result (reverse (take (c.loop-left.left - 1) c.args.between.now))
+    (λ (x : ℚ × ℚ). lt_ℚ x.0 c.args.p.now.1) c.index-between-left.result (reverse (take (c.loop-left.left - 1) c.args.between.now))
     (ap (λ (l : List (ℚ × ℚ)). behind c.loop-left.composed.items (corners l)) (sym d) ∙ c.loop-left.invariant.so_far)) c.in_err-add_corner_below.ensures)
 
 pub loop-left-preserved : goal.loop-left-preserved
@@ -45,7 +45,7 @@ loop-left-preserved c =
       so_far = corner_goes (corner_at passes_Q c.args.p.now c.args.q.now) c.args.part c.loop-left.composed.items _
           (λ (x : ℚ × ℚ). lt_ℚ x.0 c.args.p.now.1) c.index-between-left.result (reverse (take (c.loop-left.left - 1) c.args.between.now))
           (ap (λ (l : List (ℚ × ℚ)). behind c.loop-left.composed.items (corners l)) (sym d) ∙ c.loop-left.invariant.so_far)
-              c.add_corner_below.new.composed.items c.in_ok-add_corner_below.ensures;
+          c.add_corner_below.new.composed.items c.in_ok-add_corner_below.ensures;
     }
 
 pub returns : goal.returns
@@ -53,5 +53,5 @@ returns c =
     let none : c.loop-left.left ≡ 0 = omega arith in
     ap (at_part c.args.part) (sym c.loop-left.invariant.so_far
     ∙ ap (λ (k : ℕ). behind c.loop-left.composed.items (each (corner_at passes_Q c.args.p.now c.args.q.now)
-        (filter (λ (x : ℚ × ℚ). lt_ℚ x.0 c.args.p.now.1) (reverse (take k c.args.between.now))))) none
+    (filter (λ (x : ℚ × ℚ). lt_ℚ x.0 c.args.p.now.1) (reverse (take k c.args.between.now))))) none
     ∙ ap Ok (append-nil c.loop-left.composed.items))

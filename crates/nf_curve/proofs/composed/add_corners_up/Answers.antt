@@ -32,10 +32,10 @@ returns-in_err-add_corner_below c =
     let g = slice_get_read c.args.between.now _ c.loop-corner.corner-index c.corner-item.result refl c.loop-corner-test.true c.corner-item.is in
     let d = drop-at c.args.between.now c.loop-corner.corner-index c.corner-item.result g in
     rw (p.1, p.2) (stops_on c.in_err-add_corner_below.field-0.0 (at_part c.args.part
-        (behind c.loop-corner.composed.items (corners (c.corner-item.result ∷ []))))
-        (at_part c.args.part (behind c.args.composed.now.items (corners c.args.between.now)))
+    (behind c.loop-corner.composed.items (corners (c.corner-item.result ∷ []))))
+    (at_part c.args.part (behind c.args.composed.now.items (corners c.args.between.now)))
     (corner_stops (corner_at passes_Q c.args.p.now c.args.q.now) c.args.part c.loop-corner.composed.items _
-        (λ (x : ℚ × ℚ). lt_ℚ x.0 c.args.q.now.1) c.corner-item.result (drop (suc c.loop-corner.corner-index) c.args.between.now)
+    (λ (x : ℚ × ℚ). lt_ℚ x.0 c.args.q.now.1) c.corner-item.result (drop (suc c.loop-corner.corner-index) c.args.between.now)
     (ap (λ (l : List (ℚ × ℚ)). behind c.loop-corner.composed.items (corners l)) (sym d) ∙ c.loop-corner.invariant)) c.in_err-add_corner_below.ensures)
 
 pub loop-corner-preserved : goal.loop-corner-preserved
@@ -45,7 +45,7 @@ loop-corner-preserved c =
     let d = drop-at c.args.between.now c.loop-corner.corner-index c.corner-item.result g in
     ap (λ (k : ℕ). behind c.add_corner_below.new.composed.items (corners (drop k c.args.between.now))) (add-one c.loop-corner.corner-index)
     ∙ corner_goes (corner_at passes_Q c.args.p.now c.args.q.now) c.args.part c.loop-corner.composed.items _
-        (λ (x : ℚ × ℚ). lt_ℚ x.0 c.args.q.now.1) c.corner-item.result (drop (suc c.loop-corner.corner-index) c.args.between.now)
+    (λ (x : ℚ × ℚ). lt_ℚ x.0 c.args.q.now.1) c.corner-item.result (drop (suc c.loop-corner.corner-index) c.args.between.now)
     (ap (λ (l : List (ℚ × ℚ)). behind c.loop-corner.composed.items (corners l)) (sym d) ∙ c.loop-corner.invariant) c.add_corner_below.new.composed.items c.in_ok-add_corner_below.ensures
 
 pub returns : goal.returns

@@ -25,17 +25,17 @@ pub returns-in_err-add_corners-clause-points : goal.returns-in_err-add_corners-c
 returns-in_err-add_corners-clause-points c =
     let p = err_from_is_err_and c.from_residual-in_err-add_corners.result c.from_residual-in_err-add_corners.ensures.1 in
     let corners : Checked (List (ℚ × ℚ)) = each (corner_at passes_Q c.args.p.now c.args.q.now)
-        (points_along (lt_ℚ c.args.p.now.1 c.args.q.now.1) c.args.p.now.1 c.args.q.now.1 c.args.outer.now) in
+    (points_along (lt_ℚ c.args.p.now.1 c.args.q.now.1) c.args.p.now.1 c.args.q.now.1 c.args.outer.now) in
     let begun = piece_begun c.args.part c.args.composed.now.items c.push.new.self.items c.args.p.now.0 c.in_ok-value.value
-        (checked_value passes_Q c.args.outer.now c.args.p.now.1) corners (sym c.in_ok-value.ensures.value) c.in_ok-push.ensures.items in
+    (checked_value passes_Q c.args.outer.now c.args.p.now.1) corners (sym c.in_ok-value.ensures.value) c.in_ok-push.ensures.items in
     rw (p.1, p.2, begun) c.in_err-add_corners.ensures
 
 pub returns-clause-points : goal.returns-clause-points
 returns-clause-points c =
     let corners : Checked (List (ℚ × ℚ)) = each (corner_at passes_Q c.args.p.now c.args.q.now)
-        (points_along (lt_ℚ c.args.p.now.1 c.args.q.now.1) c.args.p.now.1 c.args.q.now.1 c.args.outer.now) in
+    (points_along (lt_ℚ c.args.p.now.1 c.args.q.now.1) c.args.p.now.1 c.args.q.now.1 c.args.outer.now) in
     piece_begun c.args.part c.args.composed.now.items c.push.new.self.items c.args.p.now.0 c.in_ok-value.value
-        (checked_value passes_Q c.args.outer.now c.args.p.now.1) corners (sym c.in_ok-value.ensures.value) c.in_ok-push.ensures.items
+    (checked_value passes_Q c.args.outer.now c.args.p.now.1) corners (sym c.in_ok-value.ensures.value) c.in_ok-push.ensures.items
     ∙ c.in_ok-add_corners.ensures
 
 pub add_corners-requires-clause-outer : goal.add_corners-requires-clause-outer

@@ -44,10 +44,10 @@ returns-in_err-add_piece c =
     let g = slice_get_read c.args.inner.now _ (c.loop-i.i - 1) c.index-inner-i.result refl a c.index-inner-i.is in
     let k = slice_get_read c.args.inner.now _ c.loop-i.i c.index-inner-i-in-loop-i.result refl c.loop-i-test.true c.index-inner-i-in-loop-i.is in
     rw (p.1, p.2) (stops_on c.in_err-add_piece.field-0.0 (at_part c.args.part
-        (behind c.loop-i.composed.items (composed_piece passes_Q c.args.outer.now c.index-inner-i.result c.index-inner-i-in-loop-i.result)))
+    (behind c.loop-i.composed.items (composed_piece passes_Q c.args.outer.now c.index-inner-i.result c.index-inner-i-in-loop-i.result)))
     (at_part c.args.part (composed_all passes_Q c.args.outer.now c.args.inner.now))
     (pieces_stop passes_Q c.args.part c.args.outer.now c.args.inner.now c.loop-i.composed.items _
-        (c.loop-i.i - 1) c.loop-i.i c.index-inner-i.result c.index-inner-i-in-loop-i.result (omega arith) g k
+    (c.loop-i.i - 1) c.loop-i.i c.index-inner-i.result c.index-inner-i-in-loop-i.result (omega arith) g k
     c.loop-i.invariant.so_far) c.in_err-add_piece.ensures.points)
 
 pub loop-i-preserved : goal.loop-i-preserved
@@ -62,7 +62,7 @@ loop-i-preserved c =
           (let h : slice_get c.args.inner.now c.loop-i.i ≡ Some p = ap (slice_get c.args.inner.now) (sym n) ∙ e in same_Some _ _ (sym k ∙ h));
       so_far = ap (λ (m : ℕ). behind c.add_piece.new.composed.items (composed_all passes_Q c.args.outer.now (drop m c.args.inner.now))) n
           ∙ pieces_go passes_Q c.args.part c.args.outer.now c.args.inner.now c.loop-i.composed.items _
-              (c.loop-i.i - 1) c.loop-i.i c.index-inner-i.result c.index-inner-i-in-loop-i.result (omega arith) g k
+          (c.loop-i.i - 1) c.loop-i.i c.index-inner-i.result c.index-inner-i-in-loop-i.result (omega arith) g k
           c.loop-i.invariant.so_far c.add_piece.new.composed.items c.in_ok-add_piece.ensures.points;
     }
 
@@ -71,7 +71,7 @@ value_with-requires-clause-time c =
     let some = points_there c.args.inner.now c.requires.inner in
     let a : length c.args.inner.now - 1 < length c.args.inner.now = last_there _ some in
     c.requires.values (length c.args.inner.now - 1) c.index-inner-inner.result
-        (slice_get_read c.args.inner.now _ (length c.args.inner.now - 1) c.index-inner-inner.result refl a c.index-inner-inner.is)
+    (slice_get_read c.args.inner.now _ (length c.args.inner.now - 1) c.index-inner-inner.result refl a c.index-inner-inner.is)
 
 pub value_with-requires-clause-place : goal.value_with-requires-clause-place
 value_with-requires-clause-place c =
@@ -79,7 +79,7 @@ value_with-requires-clause-place c =
     let a : length c.args.inner.now - 1 < length c.args.inner.now = last_there _ some in
     let i : c.loop-i.i - 1 ≡ length c.args.inner.now - 1 = omega arith in
     c.loop-i.invariant.place c.index-inner-inner.result (ap (slice_get c.args.inner.now) i
-        ∙ slice_get_read c.args.inner.now _ (length c.args.inner.now - 1) c.index-inner-inner.result refl a c.index-inner-inner.is)
+    ∙ slice_get_read c.args.inner.now _ (length c.args.inner.now - 1) c.index-inner-inner.result refl a c.index-inner-inner.is)
 
 pub returns-in_err-value : goal.returns-in_err-value
 returns-in_err-value c =
@@ -90,7 +90,7 @@ returns-in_err-value c =
     let g = slice_get_read c.args.inner.now _ (length c.args.inner.now - 1) c.index-inner-inner.result refl a c.index-inner-inner.is in
     rw (p.1, p.2) (last_stops passes_Q c.args.part c.args.outer.now c.args.inner.now c.loop-i.composed.items _ (length c.args.inner.now - 1) c.index-inner-inner.result g (omega arith)
     (ap (λ (m : ℕ). behind c.loop-i.composed.items (composed_all passes_Q c.args.outer.now (drop m c.args.inner.now))) (sym i) ∙ c.loop-i.invariant.so_far)
-        c.in_err-value.field-0.0 (sym c.in_err-value.ensures.value))
+    c.in_err-value.field-0.0 (sym c.in_err-value.ensures.value))
 
 pub returns-in_err-push : goal.returns-in_err-push
 returns-in_err-push c =
@@ -104,7 +104,7 @@ returns c =
     let g = slice_get_read c.args.inner.now _ (length c.args.inner.now - 1) c.index-inner-inner.result refl a c.index-inner-inner.is in
     last_goes passes_Q c.args.part c.args.outer.now c.args.inner.now c.loop-i.composed.items _ (length c.args.inner.now - 1) c.index-inner-inner.result g (omega arith)
     (ap (λ (m : ℕ). behind c.loop-i.composed.items (composed_all passes_Q c.args.outer.now (drop m c.args.inner.now))) (sym i) ∙ c.loop-i.invariant.so_far)
-        c.in_ok-value.value (sym c.in_ok-value.ensures.value)
+    c.in_ok-value.value (sym c.in_ok-value.ensures.value)
     ∙ ap Ok (sym c.in_ok-push.ensures.items)
 
 pub add_piece-requires-clause-outer : goal.add_piece-requires-clause-outer

@@ -18,7 +18,7 @@ pub returns-in_err-cut : goal.returns-in_err-cut
 returns-in_err-cut c =
     let p = err_from_is_err_and c.from_residual.result c.from_residual.ensures.1 in
     rw (p.1, p.2) (stops_on c.in_err-cut.field-0.0 (at_part c.args.part (checked_cut passes_Q c.args.inner.now c.args.last))
-        (at_part c.args.part (checked_composed passes_Q c.args.outer.now c.args.inner.now c.args.last))
+    (at_part c.args.part (checked_composed passes_Q c.args.outer.now c.args.inner.now c.args.last))
     (λ a e. cut_stops passes_Q c.args.part c.args.outer.now c.args.inner.now c.args.last a e) c.in_err-cut.ensures)
 
 pub composed_points-requires-2-clause-inner : goal.composed_points-requires-2-clause-inner
@@ -47,5 +47,5 @@ composed_points-requires-clause-values c = λ i p e.
 pub returns-then-ends_at : goal.returns-then-ends_at
 returns-then-ends_at c =
     let e = cut_goes passes_Q c.args.part c.args.outer.now c.args.inner.now c.args.last c.args.inner.now c.args.inner.now
-        (ap (at_part c.args.part) (c.ends_at.ensures.whole c.if-ends_at.true)) refl in
+    (ap (at_part c.args.part) (c.ends_at.ensures.whole c.if-ends_at.true)) refl in
     rw e c.composed_points.ensures

@@ -17,7 +17,7 @@ pub returns : goal.returns
 unfolding checked_cut
 returns c = after_ok c.args.part (checked_value passes_Q c.args.points.now c.args.last) _ c.in_ok-value.value (sym c.in_ok-value.ensures)
     ∙ ap (λ (l : List (ℚ × ℚ)). Ok l) (sym (c.in_ok-push.ensures.items ∙ ap (λ (l : List (ℚ × ℚ)). l ++ (c.args.last, c.in_ok-value.value) ∷ [])
-        (c.in_ok-add_before.ensures ∙ ap (λ (l : List (ℚ × ℚ)). l ++ points_before c.args.last c.args.points.now) c.in_ok-cut.ensures.items)))
+    (c.in_ok-add_before.ensures ∙ ap (λ (l : List (ℚ × ℚ)). l ++ points_before c.args.last c.args.points.now) c.in_ok-cut.ensures.items)))
 
 pub returns-in_err-cut : goal.returns-in_err-cut
 returns-in_err-cut c =

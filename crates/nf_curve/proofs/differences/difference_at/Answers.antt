@@ -16,10 +16,10 @@ returns-in_err-is_corner-clause-found c =
     let p = err_from_is_err_and c.from_residual-in_err-is_corner.result c.from_residual-in_err-is_corner.ensures.1 in
     rw (p.1, p.2) (sym (after_ok c.args.part (sides_at passes_Q c.args.left.now c.args.right.now c.args.now.now.time) _ (sides_of c.in_ok-sides.sides) (sym c.in_ok-sides.ensures.list)
     ∙ ap (λ (b : Bool). at_part c.args.part (differ_at passes_Q b c.args.now.now.time c.args.left.now c.args.right.now >>= λ ends. Ok
-        (if ends then Some (sides_of c.in_ok-sides.sides) else None)))
+    (if ends then Some (sides_of c.in_ok-sides.sides) else None)))
     (sym c.do_differ.ensures ∙ c.if-do_differ.true)
     ∙ after_err c.args.part (differ_at passes_Q true c.args.now.now.time c.args.left.now c.args.right.now)
-        (λ ends. Ok (if ends then Some (sides_of c.in_ok-sides.sides) else None)) c.in_err-is_corner.field-0.0 (sym c.in_err-is_corner.ensures)))
+    (λ ends. Ok (if ends then Some (sides_of c.in_ok-sides.sides) else None)) c.in_err-is_corner.field-0.0 (sym c.in_err-is_corner.ensures)))
 
 pub returns-then-branch-clause-found : goal.returns-then-branch-clause-found
 returns-then-branch-clause-found c =

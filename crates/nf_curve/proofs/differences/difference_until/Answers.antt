@@ -33,7 +33,7 @@ pub returns-in_err-sides : goal.returns-in_err-sides
 returns-in_err-sides c =
     let p = err_from_is_err_and c.from_residual.result c.from_residual.ensures.1 in
     rw (p.1, p.2) (sym (step_stops passes_Q c.args.left.now c.args.right.now c.args.last c.args.part c.in-Some.moment.time
-        (times_after c.in-Some.moment.time c.args.left.now c.args.right.now) _
+    (times_after c.in-Some.moment.time c.args.left.now c.args.right.now) _
     (rw c.in-Some.is at c.loop-now.invariant.before) (rw c.in-Some.is at c.loop-now.invariant.so_far) c.in_err-sides.field-0.0 (sym c.in_err-sides.ensures.found)))
 
 pub returns-in-Some-2 : goal.returns-in-Some-2
@@ -49,11 +49,11 @@ loop-now-smaller c =
     kept-before c.args.last c.args.left.now c.args.right.now c.next_moment.result c.only_before-now-in-Some.result c.only_before-now-in-Some.ensures c.next_moment.ensures.there in
     let f = k.fewer in
     let e : length (times_after c.in-Some.moment.time c.args.left.now c.args.right.now) ≡ length
-        (times_left c.args.left.now c.args.right.now c.next_moment.result) = ap length c.next_moment.ensures.times in
+    (times_left c.args.left.now c.args.right.now c.next_moment.result) = ap length c.next_moment.ensures.times in
     let h : length (times_left c.args.left.now c.args.right.now c.only_before-now-in-Some.result) < length
-        (times_left c.args.left.now c.args.right.now (Some c.in-Some.moment)) = omega arith in
+    (times_left c.args.left.now c.args.right.now (Some c.in-Some.moment)) = omega arith in
     subst (λ (o : Option Moment). length (times_left c.args.left.now c.args.right.now c.only_before-now-in-Some.result) < length
-        (times_left c.args.left.now c.args.right.now o)) (sym c.in-Some.is) h
+    (times_left c.args.left.now c.args.right.now o)) (sym c.in-Some.is) h
 
 pub loop-now-preserved : goal.loop-now-preserved
 loop-now-preserved c =
@@ -113,7 +113,7 @@ pub returns-in_err-sides-2 : goal.returns-in_err-sides-2
 returns-in_err-sides-2 c =
     let p = err_from_is_err_and c.from_residual-in_err-sides-2.result c.from_residual-in_err-sides-2.ensures.1 in
     rw (p.1, p.2) (sym (last_stops passes_Q c.args.left.now c.args.right.now c.args.last c.args.part _
-        (rw c.in_default.is at c.loop-now.invariant.so_far) c.in_err-sides-2.field-0.0 (sym c.in_err-sides-2.ensures.list)))
+    (rw c.in_default.is at c.loop-now.invariant.so_far) c.in_err-sides-2.field-0.0 (sym c.in_err-sides-2.ensures.list)))
 
 pub returns : goal.returns
 returns c = elim c.if-do_differ.branch [

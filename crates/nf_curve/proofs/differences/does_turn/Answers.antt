@@ -14,8 +14,8 @@ returns-then-place-lt2 c = elim c.then-place-lt2.branch [
       let a : c.args.place - 2 < length c.args.points.now = omega (arith, w.if-place-lt2.false) in
       let b : c.args.place - 1 < length c.args.points.now = omega (arith, w.if-place-lt2.false) in
       sym (ap (at_part c.args.part) (turn-apart passes_Q c.args.time c.args.points.now c.args.place
-          (get_or c.args.points.now (c.args.place - 2) w.index-points-place.result)
-          (get_or c.args.points.now (c.args.place - 1) w.index-points-place.result)
+      (get_or c.args.points.now (c.args.place - 2) w.index-points-place.result)
+      (get_or c.args.points.now (c.args.place - 1) w.index-points-place.result)
       c.requires.curve c.requires.time c.requires.place w.if-place-lt2.false (slice_get-get_or c.args.points.now (c.args.place - 2) w.index-points-place.result a)
       (slice_get-get_or c.args.points.now (c.args.place - 1) w.index-points-place.result b) (sym w.is_same.ensures ∙ w.if-not-is_same.true)))
 ]
@@ -26,6 +26,6 @@ returns c =
     let b : c.args.place - 1 < length c.args.points.now = omega (arith, c.if-place-lt2.false) in
     c.turns_before.ensures
     ∙ sym (ap (at_part c.args.part) (turn-there passes_Q c.args.time c.args.points.now c.args.place
-        (get_or c.args.points.now (c.args.place - 2) c.index-points-place.result) (get_or c.args.points.now (c.args.place - 1) c.index-points-place.result)
+    (get_or c.args.points.now (c.args.place - 2) c.index-points-place.result) (get_or c.args.points.now (c.args.place - 1) c.index-points-place.result)
     c.requires.curve c.requires.time c.requires.place c.if-place-lt2.false (slice_get-get_or c.args.points.now (c.args.place - 2) c.index-points-place.result a)
     (slice_get-get_or c.args.points.now (c.args.place - 1) c.index-points-place.result b) (sym c.is_same.ensures ∙ c.if-not-is_same.false)))

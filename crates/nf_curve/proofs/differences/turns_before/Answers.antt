@@ -48,7 +48,7 @@ returns-else-place-points c =
     let d : c.args.place < length c.args.points.now = omega (arith, c.if-place-points.false) in
     c.turns_inside.ensures
     ∙ sym (ap (at_part c.args.part) (turn-by passes_Q c.args.points.now c.args.place c.index-points-place.result c.index-points-place-2.result
-        (Some c.index-points-place-else-place-points.result)
+    (Some c.index-points-place-else-place-points.result)
     (slice_get_read c.args.points.now _ (c.args.place - 2) c.index-points-place.result refl a c.index-points-place.is)
     (slice_get_read c.args.points.now _ (c.args.place - 1) c.index-points-place-2.result refl b c.index-points-place-2.is)
     (slice_get_read c.args.points.now _ c.args.place c.index-points-place-else-place-points.result refl d c.index-points-place-else-place-points.is)))

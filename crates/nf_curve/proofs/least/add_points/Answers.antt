@@ -10,7 +10,7 @@ pub returns-in_err-point : goal.returns-in_err-point
 returns-in_err-point c =
     let p = err_from_is_err_and c.from_residual.result c.from_residual.ensures.1 in
     rw (p.1, p.2) (after_err c.args.part (crossing passes_Q (is_crossed (sides_of c.args.before.now) (sides_of c.args.now.now)) (sides_of c.args.before.now)
-        (sides_of c.args.now.now)) _ c.in_err-point.field-0.0 (sym c.in_err-point.ensures))
+    (sides_of c.args.now.now)) _ c.in_err-point.field-0.0 (sym c.in_err-point.ensures))
 
 pub returns-in_err-push : goal.returns-in_err-push
 returns-in_err-push c =

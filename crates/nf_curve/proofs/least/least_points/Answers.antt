@@ -21,20 +21,20 @@ unfolding checked_least
 returns-in_err-before c =
     let p = err_from_is_err_and c.from_residual.result c.from_residual.ensures.1 in
     rw (p.1, p.2) (first_stops passes_Q c.args.part c.args.left.now c.args.right.now c.first_moment-first.result.time _ _ c.first_moment-first.ensures.times
-        c.in_err-before.field-0.0 (sym c.in_err-before.ensures.list))
+    c.in_err-before.field-0.0 (sym c.in_err-before.ensures.list))
 
 pub loop-now-init : goal.loop-now-init
 loop-now-init c =
     let one : c.push.new.self.items ≡ least_point (sides_of c.in_ok-before.before) ∷ [] =
     c.in_ok-push.ensures.items ∙ ap (λ (l : List (ℚ × ℚ)). l ++ c.least_point.result ∷ []) c.in_ok-points.ensures.items ∙ ap (λ (p : ℚ × ℚ). p ∷ []) c.least_point.ensures in
     let w : with_front c.push.new.self.items (least_after passes_Q c.args.left.now c.args.right.now (sides_of c.in_ok-before.before)
-        (times_after c.first_moment-first.result.time c.args.left.now c.args.right.now))
+    (times_after c.first_moment-first.result.time c.args.left.now c.args.right.now))
     ≡ least_from passes_Q c.args.left.now c.args.right.now (both_times c.args.left.now c.args.right.now) =
     ap (λ (l : List (ℚ × ℚ)). with_front l (least_after passes_Q c.args.left.now c.args.right.now (sides_of c.in_ok-before.before)
-        (times_after c.first_moment-first.result.time c.args.left.now c.args.right.now)))
+    (times_after c.first_moment-first.result.time c.args.left.now c.args.right.now)))
     one
     ∙ first_goes passes_Q c.args.part c.args.left.now c.args.right.now c.first_moment-first.result.time _ _ c.first_moment-first.ensures.times
-        (sides_of c.in_ok-before.before) (sym c.in_ok-before.ensures.list) in
+    (sides_of c.in_ok-before.before) (sym c.in_ok-before.ensures.list) in
     record {
       kept = c.in_ok-before.ensures.kept;
       there = c.next_moment-now.ensures.there;
@@ -61,7 +61,7 @@ returns-in_err-add_points c =
 pub loop-now-preserved : goal.loop-now-preserved
 loop-now-preserved c =
     let w : with_front c.add_points.new.points.items (least_after passes_Q c.args.left.now c.args.right.now (sides_of c.in_ok-sides.sides)
-        (times_after c.in-Some.moment.time c.args.left.now c.args.right.now))
+    (times_after c.in-Some.moment.time c.args.left.now c.args.right.now))
     ≡ least_from passes_Q c.args.left.now c.args.right.now (both_times c.args.left.now c.args.right.now) =
     step_goes passes_Q c.args.part c.args.left.now c.args.right.now c.loop-now.points.items (sides_of c.loop-now.before) c.in-Some.moment.time _ _
     (rw c.in-Some.is at c.loop-now.invariant.so_far) (sides_of c.in_ok-sides.sides) (sym c.in_ok-sides.ensures.list) c.add_points.new.points.items c.in_ok-add_points.ensures in

@@ -37,7 +37,7 @@ loop-now-preserved c =
     let w : with_front c.push.new.self.items (each (sum_at passes_Q c.args.left.now c.args.right.now) (times_after c.in-Some.moment.time c.args.left.now c.args.right.now))
     ≡ each (sum_at passes_Q c.args.left.now c.args.right.now) (both_times c.args.left.now c.args.right.now) =
     ap (λ (l : List (ℚ × ℚ)). with_front l (each (sum_at passes_Q c.args.left.now c.args.right.now)
-        (times_after c.in-Some.moment.time c.args.left.now c.args.right.now))) c.in_ok-push.ensures.items
+    (times_after c.in-Some.moment.time c.args.left.now c.args.right.now))) c.in_ok-push.ensures.items
     ∙ each_goes c.args.part (sum_at passes_Q c.args.left.now c.args.right.now) c.loop-now.points.items _ c.in-Some.moment.time _
     (rw c.in-Some.is at c.loop-now.invariant.so_far) c.in_ok-point.point (sym c.in_ok-point.ensures.point) in
     record { kept = c.in_ok-point.ensures.kept; there = c.next_moment-now.ensures.there; so_far = rw c.next_moment-now.ensures.times at w }

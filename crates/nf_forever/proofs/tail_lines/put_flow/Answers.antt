@@ -14,6 +14,6 @@ pub returns : goal.returns
 returns g c =
     let name : c.as_bytes-name.result.now ≡ name_at c.args.net.now.link_names c.args.link = c.as_bytes-name.ensures.value ∙ c.link_name.ensures in
     let number : c.at_place-flow.result ≡ number_at c.args.tail.now.flows.items c.args.link = c.at_place-flow.ensures
-        ∙ ap (λ (l : List ℚ). number_at l c.args.link) c.deref.ensures.value in
+    ∙ ap (λ (l : List ℚ). number_at l c.args.link) c.deref.ensures.value in
     same_gathered ((codes "flow" ∷ c.as_bytes-name.result.now ∷ printed c.at_place-flow.result ∷ []) ∷ []) (flow_line c.args.net.now (tail_in c.args.tail.now) c.args.link)
     (ap₂ (λ (m : List ℕ) (x : ℚ). (codes "flow" ∷ m ∷ printed x ∷ []) ∷ []) name number) c.put_named.ensures

@@ -33,4 +33,4 @@ returns g c =
     let second : List Line = tail_lines c.args.net.now (forever_in c.args.forever.now).tail in
     let third : List Line = (codes "end" ∷ []) ∷ [] in
     gathered_next (first ++ second) third (first ++ second ++ third) refl
-        (gathered_next first second (first ++ second) refl c.in_ok-put_states.ensures c.in_ok-put_tail_of.ensures) c.put_line.ensures
+    (gathered_next first second (first ++ second) refl c.in_ok-put_states.ensures c.in_ok-put_tail_of.ensures) c.put_line.ensures

@@ -54,4 +54,4 @@ returns g c =
     let same : head_lines f.flow.reached (option_copied c.as_ref.result) ≡ first = ap (head_lines f.flow.reached) stop in
     gathered_next (first ++ second) third (forever_lines c.args.net.now told) (whole c.args.net.now told)
     (gathered_next first second (first ++ second) refl (same_gathered (head_lines f.flow.reached (option_copied c.as_ref.result)) first same
-        c.in_ok-put_head.ensures) c.in_ok-put_flow.ensures) c.put_end.ensures
+    c.in_ok-put_head.ensures) c.in_ok-put_flow.ensures) c.put_end.ensures

@@ -27,4 +27,4 @@ returns g c =
     let second : List Line = (codes "reached" ∷ printed c.args.reached ∷ []) ∷ [] in
     let third : List Line = (codes "cause" ∷ cause_words (option_copied c.args.stopped)) ∷ [] in
     gathered_next (first ++ second) third (first ++ second ++ third) refl
-        (gathered_next first second (first ++ second) refl c.in_ok-put_line.ensures c.in_ok-put_number.ensures) c.put_cause.ensures
+    (gathered_next first second (first ++ second) refl c.in_ok-put_line.ensures c.in_ok-put_number.ensures) c.put_cause.ensures

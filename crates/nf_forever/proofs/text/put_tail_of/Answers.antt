@@ -14,7 +14,7 @@ returns-in-None g c =
 pub put_tail-requires : goal.put_tail-requires
 put_tail-requires g c =
     let counts = subst (λ (t : Option Tail). IfSome (option_map tail_in t)
-        (λ tail. (length tail.slopes ≡ c.args.net.now.net.nodes) × (length tail.flows ≡ length c.args.net.now.net.links))) c.in-Some.is c.requires in
+    (λ tail. (length tail.slopes ≡ c.args.net.now.net.nodes) × (length tail.flows ≡ length c.args.net.now.net.links))) c.in-Some.is c.requires in
     record { slopes = counts.0; flows = counts.1 }
 
 pub returns-in-Some : goal.returns-in-Some

@@ -9,7 +9,7 @@ returns-then-whole-other_whole c =
 pub returns-then-rest-eq0 : goal.returns-then-rest-eq0
 returns-then-rest-eq0 c =
     c.cmp-then-rest-eq0.ensures ∙ ended _ _ _ _ c.loop-whole.invariant.left c.loop-whole.invariant.right c.if-whole-other_whole.false
-        (one_of c.then-rest-eq0.either) ∙ c.loop-whole.invariant.same
+    (one_of c.then-rest-eq0.either) ∙ c.loop-whole.invariant.same
 
 pub loop-whole-preserved : goal.loop-whole-preserved
 loop-whole-preserved c = record {

@@ -9,5 +9,5 @@ returns c =
     let found = subst (λ (m : ℕ). IsGcd c.odd_part.result c.odd_part-2.result m) (sym c.gcd_odd.ensures) (IsGcd-gcd c.odd_part.result c.odd_part-2.result) in
     shifted_back c.args.a c.args.b _ _ c.gcd_odd.result c.min-twos.ensures
     (whole_gcd c.args.a c.args.b _ _ c.odd_part.result c.odd_part-2.result c.gcd_odd.result c.odd_part.ensures.power c.odd_part-2.ensures.power
-        c.odd_part.ensures.odd c.odd_part-2.ensures.odd found)
+    c.odd_part.ensures.odd c.odd_part-2.ensures.odd found)
     c.requires.right c.ranges.b.fits

@@ -16,4 +16,4 @@ returns c =
     let up_to = c.loop-index.auto.index-end c.requires.some in
     let last : c.loop-index.index ≡ c.args.rungs = omega arith in
     subst (λ (n : ℕ). WritesLinks (flat_map rails_on (range_with_len 1 (n - 1))) c.args.out.now.items c.loop-index.out.items c.args.draws.now
-        c.loop-index.draws) last c.loop-index.invariant
+    c.loop-index.draws) last c.loop-index.invariant

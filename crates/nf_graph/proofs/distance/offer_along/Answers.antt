@@ -10,7 +10,7 @@ pub returns-in_err-sum-clause-passed : goal.returns-in_err-sum-clause-passed
 returns-in_err-sum-clause-passed c =
     let seen : Hop = record { tail = c.hop.inside.tail; head = c.hop.inside.head; transit = c.hop.inside.transit } in
     let here : IsHop c.args.hops.now c.args.link seen = IsHop-read_at c.args.hops.now c.index.result c.args.link c.index-hops-index.result seen
-        c.requires.link c.index.ensures c.index-hops-index.is c.hop.view_is in
+    c.requires.link c.index.ensures c.index-hops-index.is c.hop.view_is in
     let p = err_from_is_err_and c.from_residual.result c.from_residual.ensures.1 in
     rw (p.1, p.2) (passes_from c.args.hops.now c.args.step.now c.args.link seen c.in_err-sum.field-0.0 here (same_from_test _ _ c.if-eq.ensures) c.in_err-sum.ensures.passed)
 
@@ -18,13 +18,13 @@ pub offer-requires : goal.offer-requires
 offer-requires c =
     let seen : Hop = record { tail = c.hop.inside.tail; head = c.hop.inside.head; transit = c.hop.inside.transit } in
     c.requires.ends.heads c.args.link seen (IsHop-read_at c.args.hops.now c.index.result c.args.link c.index-hops-index.result seen c.requires.link
-        c.index.ensures c.index-hops-index.is c.hop.view_is)
+    c.index.ensures c.index-hops-index.is c.hop.view_is)
 
 pub returns-clause-offered : goal.returns-clause-offered
 returns-clause-offered c =
     let seen : Hop = record { tail = c.hop.inside.tail; head = c.hop.inside.head; transit = c.hop.inside.transit } in
     let here : IsHop c.args.hops.now c.args.link seen = IsHop-read_at c.args.hops.now c.index.result c.args.link c.index-hops-index.result seen
-        c.requires.link c.index.ensures c.index-hops-index.is c.hop.view_is in
+    c.requires.link c.index.ensures c.index-hops-index.is c.hop.view_is in
     elim c.if-eq.branch [
       | then-eq+in_ok-sum w ↦ offered_along c.args.hops.now c.args.step.now c.args.link seen w.in_ok-sum.sum c.args.offers.now c.if-eq.offers here (same_from_test _ _ w.if-eq.ensures)
           (w.in_ok-sum.ensures.sum seen here) (λ known k. w.offers-is ∙ w.offer.ensures known k)

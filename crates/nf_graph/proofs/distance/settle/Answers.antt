@@ -25,9 +25,9 @@ loop-e-preserved c =
     let sums : List (Option ℚ) = set c.args.sums.now c.index.result (Some c.args.step.now.sum) in
     let here : (hop : Hop) × IsHop c.args.hops.now c.loop-e.e hop = hop_at c.args.hops.now c.loop-e.e c.loop-e-test.true in
     let below : here.0.head < length sums = subst (λ (n : ℕ). here.0.head < n) (sym (length-set c.args.sums.now c.index.result (Some c.args.step.now.sum)))
-        (c.requires.ends.heads c.loop-e.e here.0 here.1) in
+    (c.requires.ends.heads c.loop-e.e here.0 here.1) in
     offers_next c.args.hops.now sums c.loop-e.e here.0 here.1 c.args.step.now
-        (settled c.args.sums.now c.index.result c.args.step.now.node c.args.step.now.sum c.index.ensures c.requires.unsettled)
+    (settled c.args.sums.now c.index.result c.args.step.now.node c.args.step.now.sum c.index.ensures c.requires.unsettled)
     c.loop-e.offers c.offer_along.new.offers c.in_ok-offer_along.ensures.offered c.loop-e.invariant (subst (λ (n : ℕ). here.0.head < n) (sym c.loop-e.invariant.count) below)
 
 pub returns-in_err-offer_along-clause-passed : goal.returns-in_err-offer_along-clause-passed

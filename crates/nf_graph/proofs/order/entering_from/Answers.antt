@@ -24,7 +24,7 @@ loop-e-preserved c = none_more c.args.hops.now c.args.chosen.now c.args.placed.n
     (elim c.if-chosen-e.branch [
       | then-chosen-e+else-leads_in w ↦ λ x.
           let same : x.hop ≡ c.index-hops-e.result = IsHop-unique c.args.hops.now c.loop-e.e _ _ x.is_hop
-              (IsHop-read c.args.hops.now c.loop-e.e c.index-hops-e.result c.loop-e-test.true c.index-hops-e.is) in
+          (IsHop-read c.args.hops.now c.loop-e.e c.index-hops-e.result c.loop-e-test.true c.index-hops-e.is) in
           x.free (subst (λ (h : Hop). Has c.args.placed.now h.tail) (sym same) (w.if-leads_in.ensures (subst (λ (h : Hop). h.head ≡ c.args.node) same x.head)))
       | else-chosen-e w ↦ λ x. not_Has_from_read c.args.chosen.now c.loop-e.e w.if-chosen-e.false x.chosen_too
     ])

@@ -26,21 +26,21 @@ next_ready-requires-clause-searched c = subst (λ (f : List Bool). AreSearched c
 pub loop-node-smaller : goal.loop-node-smaller
 loop-node-smaller c =
     let ready : IsReady c.args.hops.now c.args.chosen.now c.loop-node.placed.items c.in-Some.node =
-        subst (λ (f : List Bool). IsReady c.args.hops.now c.args.chosen.now f c.in-Some.node) c.deref.ensures.value c.in-Some.ensures.ready in
+    subst (λ (f : List Bool). IsReady c.args.hops.now c.args.chosen.now f c.in-Some.node) c.deref.ensures.value c.in-Some.ensures.ready in
     subst (λ (i : ℕ). free (set c.loop-node.placed.items i true) < free c.loop-node.placed.items) (sym c.index.ensures)
-        (fewer_free c.loop-node.placed.items c.in-Some.node ready.below ready.free)
+    (fewer_free c.loop-node.placed.items c.in-Some.node ready.below ready.free)
 
 pub loop-node-preserved : goal.loop-node-preserved
 loop-node-preserved c =
     let ready : IsReady c.args.hops.now c.args.chosen.now c.loop-node.placed.items c.in-Some.node =
-        subst (λ (f : List Bool). IsReady c.args.hops.now c.args.chosen.now f c.in-Some.node) c.deref.ensures.value c.in-Some.ensures.ready in
+    subst (λ (f : List Bool). IsReady c.args.hops.now c.args.chosen.now f c.in-Some.node) c.deref.ensures.value c.in-Some.ensures.ready in
     let searched : AreSearched c.args.hops.now c.args.chosen.now c.loop-node.placed.items c.next_ready.new.searched =
     subst (λ (f : List Bool). AreSearched c.args.hops.now c.args.chosen.now f c.next_ready.new.searched) c.deref.ensures.value c.in-Some.ensures.searched in
     record {
       placed = subst (λ (order : List ℕ). ArePlaced c.args.nodes c.args.hops.now c.args.chosen.now (set c.loop-node.placed.items c.index.result true) order)
           (sym c.in_ok-push.ensures.items)
           (placed_next c.args.nodes c.args.hops.now c.args.chosen.now c.loop-node.placed.items c.loop-node.order.items c.in-Some.node c.index.result
-              c.requires.ends c.index.ensures ready c.loop-node.invariant.placed);
+          c.requires.ends c.index.ensures ready c.loop-node.invariant.placed);
       searched = subst (AreSearched c.args.hops.now c.args.chosen.now (set c.loop-node.placed.items c.index.result true))
           (sym (with_items_is c.loop-node.searched c.next_ready.new.searched (c.next_ready.auto.searched ∙ c.deref_mut.ensures.len)))
           (searched_placed c.args.hops.now c.args.chosen.now c.loop-node.placed.items c.next_ready.new.searched c.index.result searched);

@@ -13,8 +13,8 @@ returns-then-eq c = record {
   at_place = slice_get_read c.args.walk.now (length c.args.walk.now) c.loop-place.place c.index-walk-place.result refl c.loop-place-test.true c.index-walk-place.is;
   is_hop = subst (λ (n : ℕ). IsHop c.args.hops.now n c.index-hops-index.result) c.index.ensures (IsHop-read c.args.hops.now c.index.result c.index-hops-index.result
       (subst (λ (n : ℕ). n < length c.args.hops.now) (sym c.index.ensures)
-          (c.requires c.loop-place.place c.index-walk-place.result (slice_get_read c.args.walk.now
-          (length c.args.walk.now) c.loop-place.place c.index-walk-place.result refl c.loop-place-test.true c.index-walk-place.is))) c.index-hops-index.is);
+      (c.requires c.loop-place.place c.index-walk-place.result (slice_get_read c.args.walk.now
+      (length c.args.walk.now) c.loop-place.place c.index-walk-place.result refl c.loop-place-test.true c.index-walk-place.is))) c.index-hops-index.is);
   head = ap (λ (h : Hop). h.head) (sym c.hop.view_is) ∙ same_from_test _ _ c.if-eq.ensures;
   is_count = add-one c.loop-place.place;
 }
@@ -25,8 +25,8 @@ loop-place-preserved c =
     c.loop-place.place c.loop-place.invariant
     (λ e hop p q h.
     let read : slice_get c.args.walk.now c.loop-place.place ≡ Some c.index-walk-place.result =
-        slice_get_read c.args.walk.now (length c.args.walk.now) c.loop-place.place c.index-walk-place.result refl c.loop-place-test.true
-        c.index-walk-place.is in
+    slice_get_read c.args.walk.now (length c.args.walk.now) c.loop-place.place c.index-walk-place.result refl c.loop-place-test.true
+    c.index-walk-place.is in
     let number : e ≡ c.index.result = cc in
     let within : e < length c.args.hops.now = slice_get_within c.args.hops.now e hop q in
     let same : hop ≡ c.index-hops-index.result = IsHop-unique c.args.hops.now c.index.result _ _ (subst (λ (n : ℕ). IsHop c.args.hops.now n hop) number q)
@@ -42,7 +42,7 @@ pub bounds-hops-index : goal.bounds-hops-index
 bounds-hops-index c =
     subst (λ (n : ℕ). n < length c.args.hops.now) (sym c.index.ensures)
     (c.requires c.loop-place.place c.index-walk-place.result (slice_get_read c.args.walk.now
-        (length c.args.walk.now) c.loop-place.place c.index-walk-place.result refl c.loop-place-test.true c.index-walk-place.is))
+    (length c.args.walk.now) c.loop-place.place c.index-walk-place.result refl c.loop-place-test.true c.index-walk-place.is))
 
 pub offset_bounds-hops-index : goal.offset_bounds-hops-index
 offset_bounds-hops-index c =

@@ -12,9 +12,11 @@ pub returns-in-Order-clause-none : goal.returns-in-Order-clause-none
 returns-in-Order-clause-none c =
     let flags : c.deref.result.now ≡ zero_flags c.args.hops.now = c.deref.ensures.value ∙ c.in_ok-chosen.ensures in
     let order : IsOrder c.args.nodes c.args.hops.now c.deref.result.now c.in-Order.field-0.items =
-        subst (λ (f : OrderOrCycle). IsFound c.args.nodes c.args.hops.now c.deref.result.now f) c.in-Order.is c.in_ok-order_or_cycle.ensures in
-    (λ _ cycle x. IsOrder-no_cycle c.args.nodes c.args.hops.now c.deref.result.now c.in-Order.field-0.items cycle c.requires.ends order
-        (chosen_of_zero c.args.hops.now c.deref.result.now cycle flags x), λ _. refl)
+    subst (λ (f : OrderOrCycle). IsFound c.args.nodes c.args.hops.now c.deref.result.now f) c.in-Order.is c.in_ok-order_or_cycle.ensures in (
+      λ _ cycle x. IsOrder-no_cycle c.args.nodes c.args.hops.now c.deref.result.now c.in-Order.field-0.items cycle c.requires.ends order
+          (chosen_of_zero c.args.hops.now c.deref.result.now cycle flags x),
+      λ _. refl,
+    )
 
 pub returns-clause-cycle : goal.returns-clause-cycle
 returns-clause-cycle c = zero_of_chosen c.args.hops.now c.deref.result.now c.in-Cycle.cycle.items (c.deref.ensures.value ∙ c.in_ok-chosen.ensures)
@@ -23,7 +25,7 @@ returns-clause-cycle c = zero_of_chosen c.args.hops.now c.deref.result.now c.in-
 pub returns-clause-none : goal.returns-clause-none
 returns-clause-none c =
     let cycle : IsZeroCycle c.args.hops.now c.in-Cycle.cycle.items = zero_of_chosen c.args.hops.now c.deref.result.now c.in-Cycle.cycle.items
-        (c.deref.ensures.value ∙ c.in_ok-chosen.ensures)
+    (c.deref.ensures.value ∙ c.in_ok-chosen.ensures)
     (subst (λ (f : OrderOrCycle). IsFound c.args.nodes c.args.hops.now c.deref.result.now f) c.in-Cycle.is c.in_ok-order_or_cycle.ensures) in
     (λ e. absurd (true≢false e), λ none. absurd (none c.in-Cycle.cycle.items cycle))
 

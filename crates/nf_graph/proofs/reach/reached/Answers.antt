@@ -10,8 +10,8 @@ pub loop-node-smaller : goal.loop-node-smaller
 loop-node-smaller c =
     let l : Leaves c.args.hops.now c.loop-node.flags.items c.in-Some.node = subst (λ (f : List Bool). Leaves c.args.hops.now f c.in-Some.node) c.deref.ensures.value c.in-Some.ensures in
     subst (λ (i : ℕ). free (set c.loop-node.flags.items i true) < free c.loop-node.flags.items) (sym c.index-in-Some.ensures)
-        (fewer_free c.loop-node.flags.items c.in-Some.node (subst (λ (n : ℕ). c.in-Some.node < n) (sym c.loop-node.invariant.count)
-        (Leaves-below _ _ _ _ c.requires.ends l)) l.free)
+    (fewer_free c.loop-node.flags.items c.in-Some.node (subst (λ (n : ℕ). c.in-Some.node < n) (sym c.loop-node.invariant.count)
+    (Leaves-below _ _ _ _ c.requires.ends l)) l.free)
 
 pub loop-node-preserved : goal.loop-node-preserved
 loop-node-preserved c =

@@ -50,7 +50,7 @@ returns-clause-list g c =
     let found = sym (c.pivot_of.ensures (take c.args.column c.args.pivots.now) c.requires.taken) ∙ c.in-Some.is in
     let here : c.args.column < length c.args.pivots.now = lt_of_lt_of_le c.requires.column c.requires.count in
     sym (column_cleared c.args.rows.now (take c.args.column c.args.pivots.now) c.args.column c.in-Some.pivot found g.C.Number.Scalar.passes
-        c.eliminate.new.rows _ (sym c.in_ok-eliminate.ensures.list)
+    c.eliminate.new.rows _ (sym c.in_ok-eliminate.ensures.list)
     (take_more_set c.args.pivots.now c.args.column c.in-Some.pivot here))
 
 pub returns-clause-taken : goal.returns-clause-taken
@@ -58,7 +58,7 @@ returns-clause-taken g c =
     let found = sym (c.pivot_of.ensures (take c.args.column c.args.pivots.now) c.requires.taken) ∙ c.in-Some.is in
     let here : c.args.column < length c.args.pivots.now = lt_of_lt_of_le c.requires.column c.requires.count in
     let flag : c.in-Some.pivot < length c.args.taken.now = lt_of_lt_of_le
-        (pivot_within c.args.rows.now (take c.args.column c.args.pivots.now) c.args.column c.in-Some.pivot found) c.requires.flags in
+    (pivot_within c.args.rows.now (take c.args.column c.args.pivots.now) c.args.column c.in-Some.pivot found) c.requires.flags in
     λ _. taken_more c.args.taken.now (take c.args.column c.args.pivots.now) c.in-Some.pivot _ flag (take_more_set c.args.pivots.now c.args.column c.in-Some.pivot here) c.requires.taken
 
 pub returns-in_err-eliminate-clause-list : goal.returns-in_err-eliminate-clause-list
@@ -66,4 +66,4 @@ returns-in_err-eliminate-clause-list g c =
     let found = sym (c.pivot_of.ensures (take c.args.column c.args.pivots.now) c.requires.taken) ∙ c.in-Some.is in
     let p = err_from_is_err_and c.from_residual.result c.from_residual.ensures.1 in
     rw (p.1, p.2) (sym (column_stops c.args.rows.now (take c.args.column c.args.pivots.now) c.args.column c.in-Some.pivot found g.C.Number.Scalar.passes
-        g.C.Number.Scalar.means (Halt.Passed c.in_err-eliminate.field-0.0) (sym c.in_err-eliminate.ensures.list)))
+    g.C.Number.Scalar.means (Halt.Passed c.in_err-eliminate.field-0.0) (sym c.in_err-eliminate.ensures.list)))

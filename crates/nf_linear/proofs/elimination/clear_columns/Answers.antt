@@ -42,7 +42,7 @@ loop-column-preserved g c =
       stage_more g.C.Number.Scalar.passes c.args.rows.now c.loop-column.rows (take c.loop-column.column c.loop-column.pivots) c.loop-column.column c.loop-column.invariant.0 here
           c.clear_column.new.rows (take (c.loop-column.column + 1) c.clear_column.new.pivots)
           (sym c.in_ok-clear_column.ensures.list ∙ ap (λ (b : Bool). Ok (if b then Some
-              (eliminated c.clear_column.new.rows (take (c.loop-column.column + 1) c.clear_column.new.pivots)) else None)) found),
+          (eliminated c.clear_column.new.rows (take (c.loop-column.column + 1) c.clear_column.new.pivots)) else None)) found),
       cleared.taken found,
       c.clear_column.auto.entries ∙ c.loop-column.invariant.2,
       c.clear_column.auto.taken ∙ c.loop-column.invariant.3,
@@ -56,7 +56,7 @@ returns-in_err-clear_column-clause-list g c =
     let p = err_from_is_err_and c.from_residual.result c.from_residual.ensures.1 in
     let here : c.loop-column.column < length c.args.rows.now = c.loop-column-test.true in
     rw (p.1, p.2) (sym (stage_stops g.C.Number.Scalar.passes c.args.rows.now c.loop-column.rows
-        (take c.loop-column.column c.loop-column.pivots) c.loop-column.column c.loop-column.invariant.0 here
+    (take c.loop-column.column c.loop-column.pivots) c.loop-column.column c.loop-column.invariant.0 here
     g.C.Number.Scalar.means (Halt.Passed c.in_err-clear_column.field-0.0) (sym c.in_err-clear_column.ensures.list)))
 
 pub returns-in_err-clear_column-clause-pivots : goal.returns-in_err-clear_column-clause-pivots
@@ -68,7 +68,7 @@ returns-then-not-branch-clause-list g c =
     let not_found : c.in_ok-clear_column.field-0 ≡ false = c.if-not-branch.true in
     sym (stage_none g.C.Number.Scalar.passes c.args.rows.now c.loop-column.rows (take c.loop-column.column c.loop-column.pivots) c.loop-column.column c.loop-column.invariant.0 here
     (sym c.in_ok-clear_column.ensures.list ∙ ap (λ (b : Bool). Ok (if b then Some
-        (eliminated c.clear_column.new.rows (take (c.loop-column.column + 1) c.clear_column.new.pivots)) else None)) not_found))
+    (eliminated c.clear_column.new.rows (take (c.loop-column.column + 1) c.clear_column.new.pivots)) else None)) not_found))
 
 pub returns-then-not-branch-clause-pivots : goal.returns-then-not-branch-clause-pivots
 returns-then-not-branch-clause-pivots g c = λ e. absurd (false≢true e)
@@ -82,8 +82,8 @@ returns-clause-list g c =
     let count = c.requires.count in
     let whole = whole_front c.loop-column.pivots c.loop-column.column (omega arith) in
     ap (λ (all : List ℕ). Ok (Some (eliminated c.loop-column.rows all))) (sym whole)
-        ∙ sym (stage_all g.C.Number.Scalar.passes c.args.rows.now c.loop-column.rows
-        (take c.loop-column.column c.loop-column.pivots) c.loop-column.column c.loop-column.invariant.0 end)
+    ∙ sym (stage_all g.C.Number.Scalar.passes c.args.rows.now c.loop-column.rows
+    (take c.loop-column.column c.loop-column.pivots) c.loop-column.column c.loop-column.invariant.0 end)
 
 pub returns-clause-pivots : goal.returns-clause-pivots
 returns-clause-pivots g c =
@@ -94,4 +94,4 @@ returns-clause-pivots g c =
     let count = c.requires.count in
     let whole = whole_front c.loop-column.pivots c.loop-column.column (omega arith) in
     λ _. subst (HasPivots c.loop-column.rows) whole (stage_pivots g.C.Number.Scalar.passes c.args.rows.now c.loop-column.rows
-        (take c.loop-column.column c.loop-column.pivots) c.loop-column.column c.loop-column.invariant.0 end c.loop-column.auto.column-end)
+    (take c.loop-column.column c.loop-column.pivots) c.loop-column.column c.loop-column.invariant.0 end c.loop-column.auto.column-end)

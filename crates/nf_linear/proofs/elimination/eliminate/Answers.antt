@@ -16,16 +16,16 @@ use Rattle.nf_linear.proofs.elimination.eliminate.Goals as goal
 pub clear_rows-requires : goal.clear_rows-requires
 clear_rows-requires g c =
     let first : get_or c.args.rows.now c.args.pivot c.index-rows-pivot.result ≡ row_at c.args.rows.now c.args.pivot =
-        row_got c.args.rows.now c.args.pivot c.index-rows-pivot.result c.requires.pivot in
+    row_got c.args.rows.now c.args.pivot c.index-rows-pivot.result c.requires.pivot in
     let row : get_or c.args.rows.now c.args.pivot c.index-rows-pivot-2.result ≡ row_at c.args.rows.now c.args.pivot =
-        row_got c.args.rows.now c.args.pivot c.index-rows-pivot-2.result c.requires.pivot in
+    row_got c.args.rows.now c.args.pivot c.index-rows-pivot-2.result c.requires.pivot in
     let items : meant g.C.Number.Scalar.means (take c.later-count.result c.later-count.new.entries) ≡ some_from (c.args.column + 1)
-        (drop (c.args.column + 1) (get_or c.args.rows.now c.args.pivot c.index-rows-pivot-2.result)) = c.later-count.ensures.value in
+    (drop (c.args.column + 1) (get_or c.args.rows.now c.args.pivot c.index-rows-pivot-2.result)) = c.later-count.ensures.value in
     let same : meant g.C.Number.Scalar.means (take c.later-count.result c.later-count.new.entries) ≡ some_from (c.args.column + 1)
-        (drop (c.args.column + 1) (row_at c.args.rows.now c.args.pivot)) =
+    (drop (c.args.column + 1) (row_at c.args.rows.now c.args.pivot)) =
     items ∙ ap (λ (r : List ℚ). some_from (c.args.column + 1) (drop (c.args.column + 1) r)) row in
     let own : g.C.Number.Scalar.means c.at-own.result ≡ number_at (row_at c.args.rows.now c.args.pivot) c.args.column = c.at-own.ensures
-        ∙ ap (λ (r : List ℚ). number_at r c.args.column) first in
+    ∙ ap (λ (r : List ℚ). number_at r c.args.column) first in
     let here : c.args.column < length c.args.columns.now = lt_of_lt_of_le c.requires.column c.requires.sets in
     record {
       own = λ zero. c.requires.some (sym own ∙ zero);
@@ -40,16 +40,16 @@ clear_rows-requires g c =
 pub returns-clause-list : goal.returns-clause-list
 returns-clause-list g c =
     let first : get_or c.args.rows.now c.args.pivot c.index-rows-pivot.result ≡ row_at c.args.rows.now c.args.pivot =
-        row_got c.args.rows.now c.args.pivot c.index-rows-pivot.result c.requires.pivot in
+    row_got c.args.rows.now c.args.pivot c.index-rows-pivot.result c.requires.pivot in
     let row : get_or c.args.rows.now c.args.pivot c.index-rows-pivot-2.result ≡ row_at c.args.rows.now c.args.pivot =
-        row_got c.args.rows.now c.args.pivot c.index-rows-pivot-2.result c.requires.pivot in
+    row_got c.args.rows.now c.args.pivot c.index-rows-pivot-2.result c.requires.pivot in
     let items : meant g.C.Number.Scalar.means (take c.later-count.result c.later-count.new.entries) ≡ some_from (c.args.column + 1)
-        (drop (c.args.column + 1) (get_or c.args.rows.now c.args.pivot c.index-rows-pivot-2.result)) = c.later-count.ensures.value in
+    (drop (c.args.column + 1) (get_or c.args.rows.now c.args.pivot c.index-rows-pivot-2.result)) = c.later-count.ensures.value in
     let same : meant g.C.Number.Scalar.means (take c.later-count.result c.later-count.new.entries) ≡ some_from (c.args.column + 1)
-        (drop (c.args.column + 1) (row_at c.args.rows.now c.args.pivot)) =
+    (drop (c.args.column + 1) (row_at c.args.rows.now c.args.pivot)) =
     items ∙ ap (λ (r : List ℚ). some_from (c.args.column + 1) (drop (c.args.column + 1) r)) row in
     let own : g.C.Number.Scalar.means c.at-own.result ≡ number_at (row_at c.args.rows.now c.args.pivot) c.args.column = c.at-own.ensures
-        ∙ ap (λ (r : List ℚ). number_at r c.args.column) first in
+    ∙ ap (λ (r : List ℚ). number_at r c.args.column) first in
     c.in_ok-cleared.ensures.list
     ∙ ap (at_part Part.Table) (eliminated c.args.rows.now c.args.pivot c.args.column c.requires.square c.requires.pivot c.requires.column (g.C.Number.Scalar.means c.at-own.result)
     (meant g.C.Number.Scalar.means (take c.later-count.result c.later-count.new.entries)) same g.C.Number.Scalar.passes own)
@@ -57,16 +57,16 @@ returns-clause-list g c =
 pub returns-in_err-cleared-clause-list : goal.returns-in_err-cleared-clause-list
 returns-in_err-cleared-clause-list g c =
     let first : get_or c.args.rows.now c.args.pivot c.index-rows-pivot.result ≡ row_at c.args.rows.now c.args.pivot =
-        row_got c.args.rows.now c.args.pivot c.index-rows-pivot.result c.requires.pivot in
+    row_got c.args.rows.now c.args.pivot c.index-rows-pivot.result c.requires.pivot in
     let row : get_or c.args.rows.now c.args.pivot c.index-rows-pivot-2.result ≡ row_at c.args.rows.now c.args.pivot =
-        row_got c.args.rows.now c.args.pivot c.index-rows-pivot-2.result c.requires.pivot in
+    row_got c.args.rows.now c.args.pivot c.index-rows-pivot-2.result c.requires.pivot in
     let items : meant g.C.Number.Scalar.means (take c.later-count.result c.later-count.new.entries) ≡ some_from (c.args.column + 1)
-        (drop (c.args.column + 1) (get_or c.args.rows.now c.args.pivot c.index-rows-pivot-2.result)) = c.later-count.ensures.value in
+    (drop (c.args.column + 1) (get_or c.args.rows.now c.args.pivot c.index-rows-pivot-2.result)) = c.later-count.ensures.value in
     let same : meant g.C.Number.Scalar.means (take c.later-count.result c.later-count.new.entries) ≡ some_from (c.args.column + 1)
-        (drop (c.args.column + 1) (row_at c.args.rows.now c.args.pivot)) =
+    (drop (c.args.column + 1) (row_at c.args.rows.now c.args.pivot)) =
     items ∙ ap (λ (r : List ℚ). some_from (c.args.column + 1) (drop (c.args.column + 1) r)) row in
     let own : g.C.Number.Scalar.means c.at-own.result ≡ number_at (row_at c.args.rows.now c.args.pivot) c.args.column = c.at-own.ensures
-        ∙ ap (λ (r : List ℚ). number_at r c.args.column) first in
+    ∙ ap (λ (r : List ℚ). number_at r c.args.column) first in
     let p = err_from_is_err_and c.from_residual.result c.from_residual.ensures.1 in
     rw (p.1, p.2)
     (c.in_err-cleared.ensures.list
@@ -103,7 +103,7 @@ pub returns-clause-covers : goal.returns-clause-covers
 returns-clause-covers g c =
     subst (λ (columns : List ℕ). Covers columns c.clear_rows.new.rows) (sym c.spread.ensures)
     (covered_after g.C.Number.Scalar.passes c.args.column c.args.pivot (g.C.Number.Scalar.means c.at-own.result)
-        (meant g.C.Number.Scalar.means (take c.later-count.result c.later-count.new.entries))
+    (meant g.C.Number.Scalar.means (take c.later-count.result c.later-count.new.entries))
     c.in_ok-cleared.cleared c.args.columns.now c.args.rows.now c.clear_rows.new.rows c.requires.covers
     (ok_of_part Part.Table _ c.clear_rows.new.rows c.in_ok-cleared.ensures.list) c.in_ok-cleared.ensures.kept)
 

@@ -20,7 +20,7 @@ returns-then-is_candidate g c =
     let here : c.loop-i.i < length c.args.taken.now = lt_of_lt_of_le c.loop-i-test.true c.requires.taken in
     λ pivots noted. pivot_here c.args.rows.now pivots c.args.column c.loop-i.i c.is_candidate.result c.loop-i-test.true
     (candidate_read c.args.rows.now pivots c.args.taken.now c.args.column c.loop-i.i c.index-rows-i.result false c.is_candidate.result noted here row
-        c.is_candidate.ensures) c.if-is_candidate.true
+    c.is_candidate.ensures) c.if-is_candidate.true
     ∙ c.loop-i.invariant.0 pivots noted
 
 pub loop-i-preserved : goal.loop-i-preserved
@@ -33,7 +33,7 @@ loop-i-preserved g c =
           (λ k after before. c.requires.marked k (c.next-i-in-loop-i.ensures.free k after before))
           ∙ pivot_later c.args.rows.now pivots c.args.column c.loop-i.i c.is_candidate.result c.loop-i-test.true
           (candidate_read c.args.rows.now pivots c.args.taken.now c.args.column c.loop-i.i c.index-rows-i.result false c.is_candidate.result noted here row
-              c.is_candidate.ensures) c.if-is_candidate.false
+          c.is_candidate.ensures) c.if-is_candidate.false
           ∙ c.loop-i.invariant.0 pivots noted,
       end,
     )

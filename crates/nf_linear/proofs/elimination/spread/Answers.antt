@@ -11,9 +11,9 @@ loop-entry-preserved g c =
     ap (λ (columns : List ℕ). spread c.args.rows (drop (c.loop-entry.entry-index + 1) (meant g.S.Scalar.means c.args.entries.now)) columns) c.join_at.ensures
     ∙ sym (ap (λ (others : List (ℕ × ℚ)). spread c.args.rows others c.loop-entry.columns)
     (next_other (meant g.S.Scalar.means c.args.entries.now) c.loop-entry.entry-index
-        (c.entry-item.result.0, g.S.Scalar.means c.entry-item.result.1) c.entry-item.result.0 (g.S.Scalar.means c.entry-item.result.1)
+    (c.entry-item.result.0, g.S.Scalar.means c.entry-item.result.1) c.entry-item.result.0 (g.S.Scalar.means c.entry-item.result.1)
     (meant_below g.S.Scalar.means c.args.entries.now c.loop-entry.entry-index c.loop-entry-test.true)
-        (meant_read g.S.Scalar.means c.args.entries.now c.loop-entry.entry-index c.entry-item.result c.entry-item.is) refl))
+    (meant_read g.S.Scalar.means c.args.entries.now c.loop-entry.entry-index c.entry-item.result c.entry-item.is) refl))
     ∙ c.loop-entry.invariant
 
 pub returns : goal.returns

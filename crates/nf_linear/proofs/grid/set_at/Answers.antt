@@ -7,7 +7,7 @@ use Rattle.nf_linear.proofs.grid.set_at.Goals as goal
 pub returns : goal.returns
 returns g c =
     ap (λ (r : Row). set c.args.rows.now c.args.row r) (c.set.ensures ∙ ap (λ (r : Row). set r c.args.column c.args.value)
-        (row_got c.args.rows.now c.args.row c.index-rows-row.result c.requires.row))
+    (row_got c.args.rows.now c.args.row c.index-rows-row.result c.requires.row))
 
 pub bounds-rows-row : goal.bounds-rows-row
 bounds-rows-row g c = c.requires.row

@@ -31,9 +31,12 @@ pub invariant_of-grid : goal.invariant_of-grid
 invariant_of-grid g c =
     let within = c.grid.invariant.1 in
     let told = c.grid.told in
-    let long : c.grid.inside.size ≤ length c.grid.inside.rows = omega arith in
-    (c.grid.invariant.0, within, zeros_square c.grid.inside.size _ c.wipe.new.rows _
-        (still_long c.grid.inside.rows c.grid.inside.size c.solve_in_place-solved.new.rows long c.solve_in_place-solved.auto.rows) c.wipe.ensures)
+    let long : c.grid.inside.size ≤ length c.grid.inside.rows = omega arith in (
+      c.grid.invariant.0,
+      within,
+      zeros_square c.grid.inside.size _ c.wipe.new.rows _
+          (still_long c.grid.inside.rows c.grid.inside.size c.solve_in_place-solved.new.rows long c.solve_in_place-solved.auto.rows) c.wipe.ensures,
+    )
 
 pub returns-clause-list : goal.returns-clause-list
 returns-clause-list g c = c.solve_in_place-solved.ensures.list ∙ ap (λ (l : List Row). at_part Part.Table (table_list passes_Q l)) c.grid.view_is
@@ -54,5 +57,5 @@ returns-clause-zero g c =
     let told = c.grid.told in
     let long : c.grid.inside.size ≤ length c.grid.inside.rows = omega arith in
     zero_seen c.grid.inside.size _ c.wipe.new.rows _ (still_long c.grid.inside.rows c.grid.inside.size c.solve_in_place-solved.new.rows long
-        c.solve_in_place-solved.auto.rows) c.wipe.ensures
+    c.solve_in_place-solved.auto.rows) c.wipe.ensures
     ∙ ap (λ (k : ℕ). replicate k (replicate (k + 1) 0ℚ)) (sym (seen_long c.grid.inside.rows c.args.grid.now c.grid.inside.size long c.grid.view_is))

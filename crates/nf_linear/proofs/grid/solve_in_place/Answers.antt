@@ -62,7 +62,7 @@ pub copy_from_slice-requires : goal.copy_from_slice-requires
 copy_from_slice-requires g c =
     c.requires.values
     ∙ sym (c.solve_rows.auto.found ∙ length-take-le (length c.args.rows.now) (replicate g.row.N c.zero-found.result)
-        (subst (λ (k : ℕ). length c.args.rows.now ≤ k) (sym (length-replicate g.row.N c.zero-found.result)) c.requires.room))
+    (subst (λ (k : ℕ). length c.args.rows.now ≤ k) (sym (length-replicate g.row.N c.zero-found.result)) c.requires.room))
 
 pub returns-in-One-clause-list : goal.returns-in-One-clause-list
 returns-in-One-clause-list g c =

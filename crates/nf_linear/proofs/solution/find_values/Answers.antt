@@ -14,24 +14,24 @@ returns-in_err-value g c =
     let p = err_from_is_err_and c.from_residual.result c.from_residual.ensures.1 in
     let inside : c.loop-column.column < length c.args.pivots.now = c.loop-column-test.true in
     let below : get_or c.args.pivots.now c.loop-column.column 0 < length c.args.rows.now =
-        c.requires.pivots.within c.loop-column.column (subst (λ (n : ℕ). c.loop-column.column < n) c.requires.pivots.count c.loop-column-test.true) in
+    c.requires.pivots.within c.loop-column.column (subst (λ (n : ℕ). c.loop-column.column < n) c.requires.pivots.count c.loop-column-test.true) in
     let row = row_read c.args.rows.now (get_or c.args.pivots.now c.loop-column.column 0) c.index-rows-pivot.result below c.index-rows-pivot.is in
     rw (p.1, p.2) (sym (values_stop g.C.Number.Scalar.passes c.args.rows.now c.args.pivots.now
-        (map g.C.Number.Scalar.means (take c.loop-column.column c.loop-column.found)) c.loop-column.column inside c.loop-column.invariant.0
+    (map g.C.Number.Scalar.means (take c.loop-column.column c.loop-column.found)) c.loop-column.column inside c.loop-column.invariant.0
     c.index-rows-pivot.result (length c.args.rows.now) row refl (seen_passed_at g.C.Number.Scalar.means c.in_err-value.field-0.0) c.in_err-value.ensures))
 
 pub loop-column-preserved : goal.loop-column-preserved
 loop-column-preserved g c =
     let inside : c.loop-column.column < length c.args.pivots.now = c.loop-column-test.true in
     let below : get_or c.args.pivots.now c.loop-column.column 0 < length c.args.rows.now =
-        c.requires.pivots.within c.loop-column.column (subst (λ (n : ℕ). c.loop-column.column < n) c.requires.pivots.count c.loop-column-test.true) in
+    c.requires.pivots.within c.loop-column.column (subst (λ (n : ℕ). c.loop-column.column < n) c.requires.pivots.count c.loop-column-test.true) in
     let row = row_read c.args.rows.now (get_or c.args.pivots.now c.loop-column.column 0) c.index-rows-pivot.result below c.index-rows-pivot.is in
     let room = subst (λ (n : ℕ). c.loop-column.column < n) (sym (c.loop-column.invariant.1 ∙ c.requires.room)) c.loop-column-test.true in (
       subst (λ (xs : List ℚ). ValuesSoFar g.C.Number.Scalar.passes c.args.rows.now c.args.pivots.now xs (c.loop-column.column + 1))
           (sym (ap (map g.C.Number.Scalar.means) (take_more_set c.loop-column.found c.loop-column.column c.in_ok-value.value room)
           ∙ map-append g.C.Number.Scalar.means (take c.loop-column.column c.loop-column.found) (c.in_ok-value.value ∷ [])))
           (values_more g.C.Number.Scalar.passes c.args.rows.now c.args.pivots.now
-              (map g.C.Number.Scalar.means (take c.loop-column.column c.loop-column.found)) c.loop-column.column inside c.loop-column.invariant.0
+          (map g.C.Number.Scalar.means (take c.loop-column.column c.loop-column.found)) c.loop-column.column inside c.loop-column.invariant.0
           c.index-rows-pivot.result (length c.args.rows.now) row refl (g.C.Number.Scalar.means c.in_ok-value.value) c.in_ok-value.ensures),
       length-set c.loop-column.found c.loop-column.column c.in_ok-value.value ∙ c.loop-column.invariant.1,
     )
@@ -57,8 +57,8 @@ bounds-found-column g c = subst (λ (n : ℕ). c.loop-column.column < n) (sym (c
 pub returns : goal.returns
 returns g c =
     let whole = whole_front c.loop-column.found c.loop-column.column (subst (λ (n : ℕ). n ≤ c.loop-column.column)
-        (sym (c.loop-column.invariant.1 ∙ c.requires.room)) c.loop-column-test.false) in
+    (sym (c.loop-column.invariant.1 ∙ c.requires.room)) c.loop-column-test.false) in
     ap (λ found. Ok (map g.C.Number.Scalar.means found)) (sym whole)
     ∙ sym (values_all g.C.Number.Scalar.passes c.args.rows.now c.args.pivots.now
-        (map g.C.Number.Scalar.means (take c.loop-column.column c.loop-column.found)) c.loop-column.column c.loop-column-test.false
-        c.loop-column.invariant.0)
+    (map g.C.Number.Scalar.means (take c.loop-column.column c.loop-column.found)) c.loop-column.column c.loop-column-test.false
+    c.loop-column.invariant.0)

@@ -10,7 +10,7 @@ pub returns-in_err-clear_columns-clause-list : goal.returns-in_err-clear_columns
 returns-in_err-clear_columns-clause-list g c =
     let p = err_from_is_err_and c.from_residual.result c.from_residual.ensures.1 in
     rw (p.1, p.2) (sym (columns_stop g.C.Number.Scalar.passes c.args.rows.now g.C.Number.Scalar.means (Halt.Passed c.in_err-clear_columns.field-0.0)
-        (sym c.in_err-clear_columns.ensures.list)))
+    (sym c.in_err-clear_columns.ensures.list)))
 
 pub returns-then-not-branch-clause-list : goal.returns-then-not-branch-clause-list
 returns-then-not-branch-clause-list g c =
@@ -38,7 +38,7 @@ returns-in_err-find_values-clause-list g c =
     let found : c.in_ok-clear_columns.field-0 ≡ true = c.if-not-branch.false in
     let some = sym c.in_ok-clear_columns.ensures.list ∙ ap (λ (b : Bool). Ok (if b then Some (eliminated c.clear_columns.new.rows c.clear_columns.new.pivots) else None)) found in
     rw (p.1, p.2) (sym (values_stop g.C.Number.Scalar.passes c.args.rows.now c.clear_columns.new.rows c.clear_columns.new.pivots some
-        g.C.Number.Scalar.means (Halt.Passed c.in_err-find_values.field-0.0)
+    g.C.Number.Scalar.means (Halt.Passed c.in_err-find_values.field-0.0)
     (sym c.in_err-find_values.ensures)))
 
 pub returns-clause-list : goal.returns-clause-list
@@ -46,11 +46,11 @@ returns-clause-list g c =
     let found : c.in_ok-clear_columns.field-0 ≡ true = c.if-not-branch.false in
     let some = sym c.in_ok-clear_columns.ensures.list ∙ ap (λ (b : Bool). Ok (if b then Some (eliminated c.clear_columns.new.rows c.clear_columns.new.pivots) else None)) found in
     sym (one_listed g.C.Number.Scalar.passes c.args.rows.now c.clear_columns.new.rows c.clear_columns.new.pivots some
-        (map g.C.Number.Scalar.means c.find_values.new.found) (sym c.in_ok-find_values.ensures))
+    (map g.C.Number.Scalar.means c.find_values.new.found) (sym c.in_ok-find_values.ensures))
 
 pub returns-clause-solution : goal.returns-clause-solution
 returns-clause-solution g c =
     let found : c.in_ok-clear_columns.field-0 ≡ true = c.if-not-branch.false in
     let some = sym c.in_ok-clear_columns.ensures.list ∙ ap (λ (b : Bool). Ok (if b then Some (eliminated c.clear_columns.new.rows c.clear_columns.new.pivots) else None)) found in
     one g.C.Number.Scalar.passes c.args.rows.now c.clear_columns.new.rows c.clear_columns.new.pivots some
-        (map g.C.Number.Scalar.means c.find_values.new.found) (sym c.in_ok-find_values.ensures) c.requires.square
+    (map g.C.Number.Scalar.means c.find_values.new.found) (sym c.in_ok-find_values.ensures) c.requires.square

@@ -33,7 +33,7 @@ returns-then-not-is_below-clause-list c =
     let late : lt_ℚ c.index-pieces-index.result.start c.args.last ≡ false =
     sym (c.is_below.ensures ∙ ap (λ (p : Piece). lt_ℚ p.start c.args.last) c.piece.view_is) ∙ c.if-not-is_below.true in
     ends_before_at passes_Q Load c.loop-index.supply.points.items c.loop-index.so_far c.args.last c.args.pieces.now c.loop-index.index
-        (c.loop-index.index + 1) c.index-pieces-index.result
+    (c.loop-index.index + 1) c.index-pieces-index.result
     g (one_on c.loop-index.index) c.loop-index.invariant.points late ∙ ap Ok (sym c.in_ok-ended.ensures.points)
 
 pub returns-then-not-is_below-clause-rates : goal.returns-then-not-is_below-clause-rates
@@ -45,7 +45,7 @@ returns-then-not-is_below-clause-rates c =
     are_rates _ _ _ (pushed_rates c.loop-index.supply.points.items _ c.loop-index.supply.rates.items _ c.loop-index.so_far c.loop-index.rate c.args.last c.recall.ensures
     c.in_ok-ended.ensures.points c.in_ok-ended.ensures.rates
     (up_to_late c.loop-index.supply.points.items c.loop-index.supply.rates.items c.loop-index.so_far c.loop-index.rate c.args.last c.args.pieces.now
-        c.loop-index.index c.loop-index.invariant.rates
+    c.loop-index.index c.loop-index.invariant.rates
     c.index-pieces-index.result g late))
 
 pub returns-then-not-is_below-clause-all : goal.returns-then-not-is_below-clause-all
@@ -57,7 +57,7 @@ returns-then-not-is_below-clause-all c =
     as_many _ _ _ (pushed_rates c.loop-index.supply.points.items _ c.loop-index.supply.rates.items _ c.loop-index.so_far c.loop-index.rate c.args.last c.recall.ensures
     c.in_ok-ended.ensures.points c.in_ok-ended.ensures.rates
     (up_to_late c.loop-index.supply.points.items c.loop-index.supply.rates.items c.loop-index.so_far c.loop-index.rate c.args.last c.args.pieces.now
-        c.loop-index.index c.loop-index.invariant.rates
+    c.loop-index.index c.loop-index.invariant.rates
     c.index-pieces-index.result g late))
 
 pub loop-index-preserved : goal.loop-index-preserved
@@ -69,30 +69,30 @@ loop-index-preserved c =
     let end : c.end_of.result ≡ end_of (drop (c.loop-index.index + 1) c.args.pieces.now) c.args.last =
     c.end_of.ensures ∙ ap (λ (l : List Piece). end_of l c.args.last) (take_rest c.args.pieces.now (c.loop-index.index + 1)) in
     let sum : at_part Load (with_piece passes_Q c.loop-index.so_far c.index-pieces-index.result
-        (end_of (drop (c.loop-index.index + 1) c.args.pieces.now) c.args.last)) ≡ Ok c.in_ok-sum.sum =
+    (end_of (drop (c.loop-index.index + 1) c.args.pieces.now) c.args.last)) ≡ Ok c.in_ok-sum.sum =
     ap (λ (z : ℚ). at_part Load (with_piece passes_Q c.loop-index.so_far c.index-pieces-index.result z)) (sym end) ∙ sym c.in_ok-sum.ensures in
     record {
       points =
           ap (λ (l : List (ℚ × ℚ)). with_front l (cumulative_from passes_Q c.in_ok-sum.sum (drop (c.loop-index.index + 1) c.args.pieces.now) c.args.last))
           (c.in_ok-push.ensures.points ∙ ap (λ (p : Piece). c.loop-index.supply.points.items ++ point_if_after_0 p.start c.loop-index.so_far) c.piece.view_is)
           ∙ goes_on_at passes_Q Load c.loop-index.supply.points.items c.loop-index.so_far c.args.last c.args.pieces.now c.loop-index.index
-              (c.loop-index.index + 1) c.index-pieces-index.result
+          (c.loop-index.index + 1) c.index-pieces-index.result
           g (one_on c.loop-index.index) c.loop-index.invariant.points c.in_ok-sum.sum below sum;
       rates = subst (λ (p : Piece). RatesSoFar c.push.new.self.points.items c.push.new.self.rates.items c.in_ok-sum.sum p.rate
           (end_of (drop (c.loop-index.index + 1) c.args.pieces.now) c.args.last))
           (sym c.piece.view_is) (next_rates c.args.pieces.now c.loop-index.index
-              (c.loop-index.index + 1) c.index-pieces-index.result c.args.last c.loop-index.so_far c.in_ok-sum.sum _ _ c.requires g
-              (one_on c.loop-index.index)
+          (c.loop-index.index + 1) c.index-pieces-index.result c.args.last c.loop-index.so_far c.in_ok-sum.sum _ _ c.requires g
+          (one_on c.loop-index.index)
           below (subst (λ (p : Piece). is_wide (bound_of 127) p.rate ≡ false) c.piece.view_is c.recall-in-loop-index-2.ensures)
-              (was_ok Load (with_piece passes_Q c.loop-index.so_far c.index-pieces-index.result
-              (end_of (drop (c.loop-index.index + 1) c.args.pieces.now) c.args.last)) c.in_ok-sum.sum sum)
+          (was_ok Load (with_piece passes_Q c.loop-index.so_far c.index-pieces-index.result
+          (end_of (drop (c.loop-index.index + 1) c.args.pieces.now) c.args.last)) c.in_ok-sum.sum sum)
           (pushed_rates c.loop-index.supply.points.items _ c.loop-index.supply.rates.items _ c.loop-index.so_far c.loop-index.rate
-              c.index-pieces-index.result.start (subst (λ (p : Piece). is_wide (bound_of 127) p.start ≡ false) c.piece.view_is
-              c.recall-in-loop-index.ensures)
+          c.index-pieces-index.result.start (subst (λ (p : Piece). is_wide (bound_of 127) p.start ≡ false) c.piece.view_is
+          c.recall-in-loop-index.ensures)
           (c.in_ok-push.ensures.points ∙ ap (λ (p : Piece). c.loop-index.supply.points.items ++ point_if_after_0 p.start c.loop-index.so_far) c.piece.view_is)
           (c.in_ok-push.ensures.rates ∙ ap (λ (p : Piece). c.loop-index.supply.rates.items ++ rate_if_after_0 p.start c.loop-index.rate) c.piece.view_is)
           (up_to_start c.loop-index.supply.points.items c.loop-index.supply.rates.items c.loop-index.so_far c.loop-index.rate c.args.last c.args.pieces.now
-              c.loop-index.index c.loop-index.invariant.rates
+          c.loop-index.index c.loop-index.invariant.rates
           c.index-pieces-index.result g below)));
     }
 
@@ -101,7 +101,7 @@ returns-clause-list c =
     let past : length c.args.pieces.now ≤ c.loop-index.index = omega arith in
     ends_there passes_Q Load c.loop-index.supply.points.items c.loop-index.so_far c.args.last (checked_cumulative passes_Q c.args.pieces.now c.args.last)
     (ap (λ (l : List Piece). with_front c.loop-index.supply.points.items (cumulative_from passes_Q c.loop-index.so_far l c.args.last))
-        (sym (drop_all c.loop-index.index c.args.pieces.now past)) ∙ c.loop-index.invariant.points)
+    (sym (drop_all c.loop-index.index c.args.pieces.now past)) ∙ c.loop-index.invariant.points)
     ∙ ap Ok (sym c.in_ok-ended-2.ensures.points)
 
 pub returns-clause-rates : goal.returns-clause-rates
@@ -110,7 +110,7 @@ returns-clause-rates c =
     are_rates _ _ _ (pushed_rates c.loop-index.supply.points.items _ c.loop-index.supply.rates.items _ c.loop-index.so_far c.loop-index.rate c.args.last c.recall.ensures
     c.in_ok-ended-2.ensures.points c.in_ok-ended-2.ensures.rates
     (up_to_last c.loop-index.supply.points.items c.loop-index.supply.rates.items c.loop-index.so_far c.loop-index.rate c.args.last c.args.pieces.now
-        c.loop-index.index c.loop-index.invariant.rates
+    c.loop-index.index c.loop-index.invariant.rates
     (drop_all c.loop-index.index c.args.pieces.now past)))
 
 pub returns-clause-all : goal.returns-clause-all
@@ -119,7 +119,7 @@ returns-clause-all c =
     as_many _ _ _ (pushed_rates c.loop-index.supply.points.items _ c.loop-index.supply.rates.items _ c.loop-index.so_far c.loop-index.rate c.args.last c.recall.ensures
     c.in_ok-ended-2.ensures.points c.in_ok-ended-2.ensures.rates
     (up_to_last c.loop-index.supply.points.items c.loop-index.supply.rates.items c.loop-index.so_far c.loop-index.rate c.args.last c.args.pieces.now
-        c.loop-index.index c.loop-index.invariant.rates
+    c.loop-index.index c.loop-index.invariant.rates
     (drop_all c.loop-index.index c.args.pieces.now past)))
 
 pub returns-in_err-sum-clause-list : goal.returns-in_err-sum-clause-list
@@ -132,7 +132,7 @@ returns-in_err-sum-clause-list c =
     let end : c.end_of.result ≡ end_of (drop (c.loop-index.index + 1) c.args.pieces.now) c.args.last =
     c.end_of.ensures ∙ ap (λ (l : List Piece). end_of l c.args.last) (take_rest c.args.pieces.now (c.loop-index.index + 1)) in
     rw (p.1, p.2) (stops_at passes_Q Load c.loop-index.supply.points.items c.loop-index.so_far c.args.last c.args.pieces.now c.loop-index.index
-        (c.loop-index.index + 1) c.index-pieces-index.result
+    (c.loop-index.index + 1) c.index-pieces-index.result
     g (one_on c.loop-index.index) c.loop-index.invariant.points c.in_err-sum.field-0.0 below
     (ap (λ (z : ℚ). at_part Load (with_piece passes_Q c.loop-index.so_far c.index-pieces-index.result z)) (sym end) ∙ sym c.in_err-sum.ensures))
 

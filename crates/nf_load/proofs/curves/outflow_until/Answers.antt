@@ -12,5 +12,5 @@ returns-clause-slopes c =
     let cut : checked_cut passes_Q c.in_ok-points.field-0.points.items c.args.end ≡ Ok c.in_ok-curve.curve.points =
     was_ok Load (checked_cut passes_Q c.in_ok-points.field-0.points.items c.args.end) c.in_ok-curve.curve.points (rw c.of_points-whole.ensures at c.in_ok-curve.ensures.list) in
     cut_slopes c.in_ok-points.field-0.points.items c.in_ok-points.field-0.slopes.items c.truncate.new.self.items c.args.end c.in_ok-curve.curve.points
-        c.saturating_sub.result cut c.in_ok-points.ensures.slopes
+    c.saturating_sub.result cut c.in_ok-points.ensures.slopes
     (c.saturating_sub.ensures ∙ ap (λ (k : ℕ). k - 2) c.len.ensures.count) c.truncate.ensures.items

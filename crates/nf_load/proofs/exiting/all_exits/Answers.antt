@@ -17,7 +17,7 @@ returns-in_err-one c =
     let g = slice_get_read c.args.waits.now _ c.loop-moment.moment-index c.moment-item.result refl c.loop-moment-test.true c.moment-item.is in
     let d = drop-at c.args.waits.now c.loop-moment.moment-index c.moment-item.result g in
     rw (p.1, p.2) (each_stops Load (exit_of passes_Q c.args.capacity.now c.args.transit) c.loop-moment.all.items _ c.moment-item.result
-        (drop (suc c.loop-moment.moment-index) c.args.waits.now)
+    (drop (suc c.loop-moment.moment-index) c.args.waits.now)
     (ap (λ (l : List Waits). with_front c.loop-moment.all.items (each (exit_of passes_Q c.args.capacity.now c.args.transit) l)) (sym d) ∙ c.loop-moment.invariant)
     c.in_err-one.field-0.0 (sym c.in_err-one.ensures))
 
@@ -26,7 +26,7 @@ loop-moment-preserved c =
     let g = slice_get_read c.args.waits.now _ c.loop-moment.moment-index c.moment-item.result refl c.loop-moment-test.true c.moment-item.is in
     let d = drop-at c.args.waits.now c.loop-moment.moment-index c.moment-item.result g in
     rw (c.in_ok-push.ensures.items, add-one) (each_goes Load (exit_of passes_Q c.args.capacity.now c.args.transit) c.loop-moment.all.items _
-        c.moment-item.result (drop (suc c.loop-moment.moment-index) c.args.waits.now)
+    c.moment-item.result (drop (suc c.loop-moment.moment-index) c.args.waits.now)
     (ap (λ (l : List Waits). with_front c.loop-moment.all.items (each (exit_of passes_Q c.args.capacity.now c.args.transit) l)) (sym d) ∙ c.loop-moment.invariant)
     c.in_ok-one.one (sym c.in_ok-one.ensures))
 
@@ -35,4 +35,4 @@ returns c =
     let f = exit_of passes_Q c.args.capacity.now c.args.transit in
     each_ends f c.loop-moment.all.items _ Load
     (ap (λ (l : List Waits). with_front c.loop-moment.all.items (each f l))
-        (sym (drop_all c.loop-moment.moment-index c.args.waits.now c.loop-moment-test.false)) ∙ c.loop-moment.invariant)
+    (sym (drop_all c.loop-moment.moment-index c.args.waits.now c.loop-moment-test.false)) ∙ c.loop-moment.invariant)

@@ -53,5 +53,5 @@ loop-i-preserved c =
           (along_push IsLeavingIf c.args.all.now old slopes c.loop-i.invariant.leaving (λ x y at there.
           subst (λ (a : Exit). IsLeavingIf slopes a y) (same_Some c.index-all-i.result x (sym e ∙ ap (slice_get c.args.all.now) first ∙ at))
           (subst (λ (b : Exit). IsLeavingIf slopes c.index-all-i.result b) (same_Some c.index-all-i-in-loop-i.result y
-              (sym g ∙ ap (slice_get c.args.all.now) second ∙ there)) c.leaves-slopes.ensures)));
+          (sym g ∙ ap (slice_get c.args.all.now) second ∙ there)) c.leaves-slopes.ensures)));
     }

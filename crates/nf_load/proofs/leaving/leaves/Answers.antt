@@ -34,5 +34,5 @@ returns-in-Some-capacity c =
     busy_if c.args.capacity.now before after c.in-Some.pace pace c.requires.exits step.0 step.1 c.in-Some-capacity.capacity c.in-Some-capacity.is
     (capacity_apart c.args.capacity.now c.in-Some-capacity.capacity c.requires.capacity c.in-Some-capacity.is)
     (changes_if c.args.capacity.now before.waits after.waits c.in-Some.pace c.in-Some-capacity.capacity pace c.in-Some-capacity.is
-        (sym c.is_level.ensures ∙ c.if-is_level.false) (same_test 0ℚ 0ℚ refl))
+    (sym c.is_level.ensures ∙ c.if-is_level.false) (same_test 0ℚ 0ℚ refl))
     c.busy.result c.busy.ensures

@@ -38,7 +38,7 @@ short_curves-requires-clause-curves c = c.requires.curves
 pub returns : goal.returns
 returns c =
     let e = whole_goes passes_Q Load c.args.transit c.args.moments.now.waits.items c.args.all.now c.args.until c.in_ok-end.end
-        (sym c.in_ok-end.ensures) c.in_ok-whole_outflow.whole_outflow.curve.points c.in_ok-whole_outflow.ensures.list in
+    (sym c.in_ok-end.ensures) c.in_ok-whole_outflow.whole_outflow.curve.points c.in_ok-whole_outflow.ensures.list in
     rw e c.short_curves.ensures
 
 pub all_leaving-requires-clause-exits : goal.all_leaving-requires-clause-exits

@@ -23,21 +23,21 @@ returns-in_err-exits c =
     rw (p.1, p.2) (stops_on c.in_err-exits.field-0.0 (at_part Load (each (exit_of passes_Q c.args.capacity c.args.transit) c.in_ok-moments.moments.waits.items))
     (at_part Load (behind_cut passes_Q c.args.transit c.args.capacity c.args.cut.now.points c.args.until))
     (exits_stop passes_Q Load c.args.transit c.args.capacity c.args.cut.now.points c.args.until c.in_ok-moments.moments.waits.items
-        c.in_ok-moments.ensures.list) (rw c.deref.ensures.value at c.in_err-exits.ensures))
+    c.in_ok-moments.ensures.list) (rw c.deref.ensures.value at c.in_err-exits.ensures))
 
 pub curves_until-requires-clause-curves : goal.curves_until-requires-clause-curves
 curves_until-requires-clause-curves c =
     let all_are : at_part Load (each (exit_of passes_Q c.args.capacity c.args.transit) c.in_ok-moments.moments.waits.items) ≡ Ok c.in_ok-exits.exits.items =
     ap (λ (l : List Waits). at_part Load (each (exit_of passes_Q c.args.capacity c.args.transit) l)) (sym c.deref.ensures.value) ∙ c.in_ok-exits.ensures in
     rw (c.deref-2.ensures.value) (are_curves passes_Q Load c.args.transit c.args.capacity c.args.cut.now.points c.args.until
-        c.in_ok-moments.moments.waits.items c.in_ok-moments.ensures.list c.in_ok-exits.exits.items all_are c.requires.curves)
+    c.in_ok-moments.moments.waits.items c.in_ok-moments.ensures.list c.in_ok-exits.exits.items all_are c.requires.curves)
 
 pub returns : goal.returns
 returns c =
     let all_are : at_part Load (each (exit_of passes_Q c.args.capacity c.args.transit) c.in_ok-moments.moments.waits.items) ≡ Ok c.in_ok-exits.exits.items =
     ap (λ (l : List Waits). at_part Load (each (exit_of passes_Q c.args.capacity c.args.transit) l)) (sym c.deref.ensures.value) ∙ c.in_ok-exits.ensures in
     let e = exits_go passes_Q Load c.args.transit c.args.capacity c.args.cut.now.points c.args.until c.in_ok-moments.moments.waits.items
-        c.in_ok-moments.ensures.list c.in_ok-exits.exits.items all_are in
+    c.in_ok-moments.ensures.list c.in_ok-exits.exits.items all_are in
     rw e (rw (c.deref-2.ensures.value) at c.curves_until.ensures)
 
 pub curves_until-requires-clause-exits : goal.curves_until-requires-clause-exits

@@ -21,7 +21,7 @@ load_cut-requires-clause-curves c =
     loaded_curves passes_Q c.args.transit c.args.capacity c.args.inflow.now.points c.args.until c.recall.ensures.curve c.requires.until
     c.in_ok-cut.cut.points
     (was_ok Load (checked_cut passes_Q c.args.inflow.now.points c.args.until) c.in_ok-cut.cut.points c.in_ok-cut.ensures.list) c.requires.begins
-        c.requires.rises c.requires.transit c.requires.capacity
+    c.requires.rises c.requires.transit c.requires.capacity
 
 pub returns-clause-list : goal.returns-clause-list
 returns-clause-list c =

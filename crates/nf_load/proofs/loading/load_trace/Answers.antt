@@ -22,7 +22,7 @@ load_cut-requires-clause-rates c = subst (λ (l : List ℚ). AreRates c.args.inf
 pub returns-then-ends_at-clause-list : goal.returns-then-ends_at-clause-list
 returns-then-ends_at-clause-list c =
     let whole : checked_cut passes_Q c.args.inflow.now.curve.points c.args.until ≡ Ok c.args.inflow.now.curve.points =
-        rw c.as_points.ensures.points at c.ends_at.ensures.whole c.if-ends_at.true in
+    rw c.as_points.ensures.points at c.ends_at.ensures.whole c.if-ends_at.true in
     let e = cut_goes passes_Q Load c.args.transit c.args.capacity c.args.inflow.now.curve.points c.args.until c.args.inflow.now.curve.points (ap (at_part Load) whole) in
     rw e c.load_cut.ensures
 

@@ -39,7 +39,7 @@ returns-in_err-outflow c =
     rw (p.1, p.2) (stops_on c.in_err-outflow.field-0.0 (at_part Load (checked_short passes_Q c.args.whole_outflow.now.curve.points))
     (at_part Load (in_short_form passes_Q c.args.moments.now.waits.items c.args.all.now c.args.whole_outflow.now.curve.points))
     (outflow_stops passes_Q Load c.args.moments.now.waits.items c.args.all.now c.args.whole_outflow.now.curve.points c.in_ok-queue.queue.points
-        c.in_ok-queue.ensures) c.in_err-outflow.ensures)
+    c.in_ok-queue.ensures) c.in_err-outflow.ensures)
 
 pub returns-in_err-exit : goal.returns-in_err-exit
 returns-in_err-exit c =

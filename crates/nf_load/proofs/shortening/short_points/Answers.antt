@@ -20,7 +20,7 @@ returns-then-points-eq1 c =
     let b : 0 < length c.args.points.now = omega arith in
     let g = slice_get_read c.args.points.now _ 0 c.index-points-0.result refl b c.index-points-0.is in
     let one : c.push.new.self.items ≡ c.index-points-0.result ∷ [] = c.in_ok-push.ensures.items
-        ∙ ap (λ (l : List (ℚ × ℚ)). l ++ c.index-points-0.result ∷ []) c.in_ok-short.ensures.items in
+    ∙ ap (λ (l : List (ℚ × ℚ)). l ++ c.index-points-0.result ∷ []) c.in_ok-short.ensures.items in
     rw one (short_alone passes_Q c.args.part c.args.points.now c.index-points-0.result g c.if-points-eq1.true)
 
 pub bounds-points-0-2 : goal.bounds-points-0-2
@@ -35,7 +35,7 @@ slope_or-requires-clause-later c =
     let b : 1 < length c.args.points.now = omega arith in
     rise-pairs c.args.points.now 0 1 c.index-points-0-2.result c.index-points-1.result (curve-rises c.args.points.now c.requires.curve)
     (slice_get_read c.args.points.now _ 0 c.index-points-0-2.result refl a c.index-points-0-2.is)
-        (slice_get_read c.args.points.now _ 1 c.index-points-1.result refl b c.index-points-1.is) (omega arith)
+    (slice_get_read c.args.points.now _ 1 c.index-points-1.result refl b c.index-points-1.is) (omega arith)
 
 pub slope_or-requires-clause-known : goal.slope_or-requires-clause-known
 slope_or-requires-clause-known c =
@@ -44,7 +44,7 @@ slope_or-requires-clause-known c =
     subst (λ (k : Option ℚ). IsRate k c.index-points-0-2.result c.index-points-1.result) (sym c.known_at.ensures)
     (slope_at c.args.points.now c.args.slopes.now 0 1 c.index-points-0-2.result c.index-points-1.result c.requires.slopes
     (slice_get_read c.args.points.now _ 0 c.index-points-0-2.result refl a c.index-points-0-2.is)
-        (slice_get_read c.args.points.now _ 1 c.index-points-1.result refl b c.index-points-1.is) (omega arith))
+    (slice_get_read c.args.points.now _ 1 c.index-points-1.result refl b c.index-points-1.is) (omega arith))
 
 pub returns-in_err-before : goal.returns-in_err-before
 returns-in_err-before c =
@@ -53,7 +53,7 @@ returns-in_err-before c =
     let b : 1 < length c.args.points.now = omega arith in
     rw (p.1, p.2) (begin_stops passes_Q c.args.part c.args.points.now c.index-points-0-2.result c.index-points-1.result
     (slice_get_read c.args.points.now _ 0 c.index-points-0-2.result refl a c.index-points-0-2.is)
-        (slice_get_read c.args.points.now _ 1 c.index-points-1.result refl b c.index-points-1.is)
+    (slice_get_read c.args.points.now _ 1 c.index-points-1.result refl b c.index-points-1.is)
     c.in_err-before.field-0.0 (sym c.in_err-before.ensures))
 
 pub overflow_sub-i-end : goal.overflow_sub-i-end
@@ -67,7 +67,7 @@ loop-i-init c =
     let k = slice_get_read c.args.points.now _ 0 c.index-points-0.result refl a c.index-points-0.is in
     let same : c.index-points-0.result ≡ c.index-points-0-2.result = same_Some _ _ (sym k ∙ g) in
     let one : c.push.new.self.items ≡ c.index-points-0-2.result ∷ [] = c.in_ok-push.ensures.items
-        ∙ ap (λ (l : List (ℚ × ℚ)). l ++ c.index-points-0.result ∷ []) c.in_ok-short.ensures.items
+    ∙ ap (λ (l : List (ℚ × ℚ)). l ++ c.index-points-0.result ∷ []) c.in_ok-short.ensures.items
     ∙ ap (λ (x : ℚ × ℚ). x ∷ []) same in
     rw one (begin_goes passes_Q c.args.part c.args.points.now c.index-points-0-2.result c.index-points-1.result
     g (slice_get_read c.args.points.now _ 1 c.index-points-1.result refl b c.index-points-1.is)
@@ -96,7 +96,7 @@ returns-in_err-after c =
     let a : c.loop-i.i < length c.args.points.now = before_last c.loop-i.i _ c.loop-i-test.true in
     let b : c.loop-i.i + 1 < length c.args.points.now = next_there c.loop-i.i _ c.loop-i-test.true in
     rw (p.1, p.2) (step_stops passes_Q c.args.part c.args.points.now c.loop-i.short.items c.loop-i.before c.loop-i.i
-        (c.loop-i.i + 1) c.index-points-i.result c.index-points-i-in-loop-i.result (omega arith)
+    (c.loop-i.i + 1) c.index-points-i.result c.index-points-i-in-loop-i.result (omega arith)
     (slice_get_read c.args.points.now _ c.loop-i.i c.index-points-i.result refl a c.index-points-i.is)
     (slice_get_read c.args.points.now _ (c.loop-i.i + 1) c.index-points-i-in-loop-i.result refl b c.index-points-i-in-loop-i.is)
     c.loop-i.invariant c.in_err-after.field-0.0 (sym c.in_err-after.ensures))
@@ -109,7 +109,7 @@ loop-i-preserved c =
     let k = slice_get_read c.args.points.now _ c.loop-i.i c.index-points-i-in-loop-i-2.result refl a c.index-points-i-in-loop-i-2.is in
     let same : c.index-points-i-in-loop-i-2.result ≡ c.index-points-i.result = same_Some _ _ (sym k ∙ g) in
     step_goes passes_Q c.args.part c.args.points.now c.loop-i.short.items c.loop-i.before c.loop-i.i
-        (c.loop-i.i + 1) c.index-points-i.result c.index-points-i-in-loop-i.result (omega arith)
+    (c.loop-i.i + 1) c.index-points-i.result c.index-points-i-in-loop-i.result (omega arith)
     g (slice_get_read c.args.points.now _ (c.loop-i.i + 1) c.index-points-i-in-loop-i.result refl b c.index-points-i-in-loop-i.is)
     c.loop-i.invariant c.in_ok-after.after c.keep_if_turning.new.short.items (sym c.in_ok-after.ensures)
     (c.in_ok-keep_if_turning.ensures ∙ ap (λ (x : ℚ × ℚ). if is_same c.loop-i.before c.in_ok-after.after then c.loop-i.short.items else c.loop-i.short.items ++ x ∷ []) same)
@@ -127,7 +127,7 @@ returns c =
     let i : c.loop-i.i ≡ length c.args.points.now - 1 = omega arith in
     let g = slice_get_read c.args.points.now _ (length c.args.points.now - 1) c.index-points-points.result refl b c.index-points-points.is in
     rw (c.shrink_to_fit.ensures.items ∙ c.in_ok-push-2.ensures.items) (short_ends passes_Q c.args.part c.args.points.now c.loop-i.short.items
-        c.loop-i.before c.loop-i.i c.index-points-points.result
+    c.loop-i.before c.loop-i.i c.index-points-points.result
     (ap (slice_get c.args.points.now) i ∙ g) (omega arith) c.loop-i.invariant)
 
 pub returns-in_err-short : goal.returns-in_err-short

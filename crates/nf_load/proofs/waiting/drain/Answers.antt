@@ -14,7 +14,7 @@ pub returns-then-is_below-clause-list : goal.returns-then-is_below-clause-list
 returns-then-is_below-clause-list c =
     c.drain_at.ensures.list c.args.capacity c.args.rate
     ∙ ap (λ (b : Bool). at_part Load (lists.drains_at passes_Q b c.args.capacity c.args.rate c.args.before.now c.args.end.now c.in_ok-time.time))
-        (sym (sym c.is_below.ensures ∙ c.if-is_below.true))
+    (sym (sym c.is_below.ensures ∙ c.if-is_below.true))
     ∙ sym (after_ok Load (lists.drained passes_Q c.args.capacity c.args.rate c.args.before.now.queue c.args.before.now.time)
     (λ (time : ℚ). lists.drains_at passes_Q (lt_ℚ time c.args.end.now.0) c.args.capacity c.args.rate c.args.before.now c.args.end.now time) c.in_ok-time.time
     (sym (c.in_ok-time.ensures ∙ ap (λ (w : lists.Waits). at_part Load (lists.drained passes_Q c.args.capacity c.args.rate w.queue w.time)) c.before-2.view_is)))
@@ -29,7 +29,7 @@ pub returns-clause-list : goal.returns-clause-list
 returns-clause-list c =
     c.grow.ensures.list
     ∙ ap (λ (b : Bool). at_part Load (lists.drains_at passes_Q b c.args.capacity c.args.rate c.args.before.now c.args.end.now c.in_ok-time.time))
-        (sym (sym c.is_below.ensures ∙ c.if-is_below.false))
+    (sym (sym c.is_below.ensures ∙ c.if-is_below.false))
     ∙ sym (after_ok Load (lists.drained passes_Q c.args.capacity c.args.rate c.args.before.now.queue c.args.before.now.time)
     (λ (time : ℚ). lists.drains_at passes_Q (lt_ℚ time c.args.end.now.0) c.args.capacity c.args.rate c.args.before.now c.args.end.now time) c.in_ok-time.time
     (sym (c.in_ok-time.ensures ∙ ap (λ (w : lists.Waits). at_part Load (lists.drained passes_Q c.args.capacity c.args.rate w.queue w.time)) c.before-2.view_is)))

@@ -8,4 +8,4 @@ pub returns-in-None-clause-pace : goal.returns-in-None-clause-pace
 returns-in-None-clause-pace c =
     subst (λ (o : Over). IsPaced c.args.capacity.now c.args.before.now o) (sym c.empty_at.ensures.over)
     (level_paced c.args.capacity.now c.args.before.now c.args.end.now c.rate_if_empty.result c.requires.later
-        (c.rate_if_empty.ensures.rate _ _ c.requires.known) c.rate_if_empty.ensures.empty)
+    (c.rate_if_empty.ensures.rate _ _ c.requires.known) c.rate_if_empty.ensures.empty)

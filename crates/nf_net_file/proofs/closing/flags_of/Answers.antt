@@ -21,5 +21,5 @@ reached-requires-clause-ends c =
 pub reached-requires-clause-from : goal.reached-requires-clause-from
 reached-requires-clause-from c =
     let below : place_of c.args.draft.now.nodes (unwrap_or c.args.draft.now.source []) < length c.args.draft.now.nodes =
-        source_below (seen_draft c.args.draft.now) c.requires.read c.requires.ends in
+    source_below (seen_draft c.args.draft.now) c.requires.read c.requires.ends in
     omega (arith, c.place_in-source.ensures, c.len.ensures)

@@ -21,7 +21,7 @@ distances-requires-clause-ends c =
 pub distances-requires-clause-from : goal.distances-requires-clause-from
 distances-requires-clause-from c =
     let below : place_of c.args.draft.now.nodes (unwrap_or c.args.draft.now.source []) < length c.args.draft.now.nodes =
-        source_below (seen_draft c.args.draft.now) c.requires.read c.requires.ends in
+    source_below (seen_draft c.args.draft.now) c.requires.read c.requires.ends in
     omega (arith, c.place_in-source.ensures, c.len.ensures)
 
 pub distances-requires-clause-fewer : goal.distances-requires-clause-fewer
@@ -37,4 +37,4 @@ returns-in-Ok c = has_no_passing (seen_draft c.args.draft.now) c.args.hops.now c
 pub returns : goal.returns
 returns c =
     passing_by_fault (seen_draft c.args.draft.now) c.args.hops.now c.requires.hops c.place_in-source.result c.place_in-source.ensures _ c.is_passing.result
-        c.in-Err.ensures.passed c.is_passing.ensures
+    c.in-Err.ensures.passed c.is_passing.ensures

@@ -18,4 +18,4 @@ zero_cycle-requires-clause-fewer c =
 pub returns : goal.returns
 returns c =
     cycle_by_option (seen_draft c.args.draft.now) c.args.hops.now c.requires.hops c.in_ok-cycle.cycle c.in_ok-cycle.ensures.cycle c.in_ok-cycle.ensures.none
-        c.is_some-there.result c.is_some-there.ensures
+    c.is_some-there.result c.is_some-there.ensures

@@ -13,7 +13,7 @@ place_in-sink-requires-clause-given c = sink_given (seen_draft c.args.draft.now)
 pub leaves_unreached-requires : goal.leaves_unreached-requires
 leaves_unreached-requires c =
     let below : place_of c.args.draft.now.nodes (unwrap_or c.args.draft.now.sink []) < length c.args.draft.now.nodes =
-        sink_below (seen_draft c.args.draft.now) c.requires.read c.requires.ends in
+    sink_below (seen_draft c.args.draft.now) c.requires.read c.requires.ends in
     omega (arith, c.place_in-sink.ensures, c.requires.flags.count)
 
 pub returns : goal.returns

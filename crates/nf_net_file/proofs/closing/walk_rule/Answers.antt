@@ -13,9 +13,9 @@ returns-then-cycle c =
 pub returns-then-passing : goal.returns-then-passing
 returns-then-passing c =
     first_passing (seen_draft c.args.draft.now) c.requires.ends c.if-leaves_nodes.ensures (when_false _ _ _ c.if-cycle.false c.in_ok-cycle.ensures)
-        (when_true _ _ _ c.if-passing.true c.in_ok-passing.ensures)
+    (when_true _ _ _ c.if-passing.true c.in_ok-passing.ensures)
 
 pub returns : goal.returns
 returns c =
     none_broken (seen_draft c.args.draft.now) c.requires.ends c.if-leaves_nodes.ensures (when_false _ _ _ c.if-cycle.false c.in_ok-cycle.ensures)
-        (when_false _ _ _ c.if-passing.false c.in_ok-passing.ensures)
+    (when_false _ _ _ c.if-passing.false c.in_ok-passing.ensures)

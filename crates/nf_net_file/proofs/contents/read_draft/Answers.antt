@@ -9,7 +9,7 @@ pub returns-in_err-add_lines : goal.returns-in_err-add_lines
 returns-in_err-add_lines c =
     let p = err_from_is_err_and c.from_residual.result c.from_residual.ensures.1 in
     let rest = version_then c.args.lines.now c.first-item.result c.in-len1-up.len_at_least c.first-item.is c.in-Some.version
-        (seen_draft c.new-draft.result) c.new-draft.ensures c.in-Some.ensures in
+    (seen_draft c.new-draft.result) c.new-draft.ensures c.in-Some.ensures in
     rw (p.1, p.2) (broken_more _ _ (λ broken. draft_from c.args.lines.now ≡ Err broken) (λ broken h. rest ∙ h) c.in_err-add_lines.ensures)
 
 pub returns : goal.returns

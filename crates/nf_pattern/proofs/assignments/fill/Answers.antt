@@ -16,16 +16,16 @@ loop-i-init c = record {
 pub loop-i-preserved : goal.loop-i-preserved
 loop-i-preserved c =
     let less : c.saturating_sub-later.result ≡ c.loop-i.later - change None (get_or c.args.base.now c.loop-i.i None) =
-        (let v = c.change.ensures.value in let s = c.saturating_sub-later.ensures in omega arith) in
+    (let v = c.change.ensures.value in let s = c.saturating_sub-later.ensures in omega arith) in
     let below : c.loop-i.i < length c.args.base.now = omega arith in
     let is_more : c.saturating_sub-later.result ≡ free (drop (suc c.loop-i.i) c.args.base.now) =
     rest_free c.args.base.now c.args.unbounded.now c.args.changes c.loop-i.states c.loop-i.i c.loop-i.left c.loop-i.later _ _ c.loop-i.invariant.filled
-        below c.requires.unbounded None refl false refl c.saturating_sub-later.result less in
+    below c.requires.unbounded None refl false refl c.saturating_sub-later.result less in
     let small : c.saturating_sub-later.result ≤ c.args.more = (let s = c.loop-i.invariant.small in omega arith) in
     let chosen : c.first_choice.result ≡ first_good (fits (get_or c.args.base.now c.loop-i.i None) c.loop-i.left
-        (free (drop (suc c.loop-i.i) c.args.base.now))) (choices (get_or c.args.base.now c.loop-i.i None) (get_or c.args.unbounded.now c.loop-i.i false)) =
+    (free (drop (suc c.loop-i.i) c.args.base.now))) (choices (get_or c.args.base.now c.loop-i.i None) (get_or c.args.unbounded.now c.loop-i.i false)) =
     subst (λ (m : ℕ). c.first_choice.result ≡ first_good (fits (get_or c.args.base.now c.loop-i.i None) c.loop-i.left m)
-        (choices (get_or c.args.base.now c.loop-i.i None) (get_or c.args.unbounded.now c.loop-i.i false))) is_more c.first_choice.ensures in
+    (choices (get_or c.args.base.now c.loop-i.i None) (get_or c.args.unbounded.now c.loop-i.i false))) is_more c.first_choice.ensures in
     record {
       filled = elim c.match-first_choice.branch [
         | in-Some w ↦ rw w.states-is (more_filled c.args.base.now c.args.unbounded.now c.args.changes c.loop-i.states c.loop-i.i c.loop-i.left

@@ -20,7 +20,7 @@ loop-e-preserved c =
       count = ap (λ (os : List (Option ℕ)). length os) c.in_ok-push.ensures.items ∙ length_pushed c.loop-e.chain.items c.chain_link-before.result c.loop-e.e c.loop-e.invariant.count;
       chain = subst (AreChained c.args.hops.now) (sym c.in_ok-push.ensures.items)
           (each_pushed (λ (e : ℕ) (found : Option ℕ). (hop : Hop) → IsHop c.args.hops.now e hop → IsLastInto c.args.hops.now e hop.head found)
-              c.loop-e.chain.items c.chain_link-before.result c.loop-e.e
+          c.loop-e.chain.items c.chain_link-before.result c.loop-e.e
           c.loop-e.invariant.count c.loop-e.invariant.chain c.chain_link-before.ensures.before);
     }
 

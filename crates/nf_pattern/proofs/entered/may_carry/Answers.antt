@@ -9,14 +9,14 @@ pub returns-in_default : goal.returns-in_default
 returns-in_default c =
     let at = entry_at c.args.states.now None _ c.args.link c.index-2.result c.requires.states c.index-2.ensures c.in_default.is in
     carries_not c.args.resetting.now c.args.states.now c.args.link (entry_at c.args.resetting.now false false c.args.link c.index.result
-        c.requires.resetting c.index.ensures c.if-resetting-index.false)
+    c.requires.resetting c.index.ensures c.if-resetting-index.false)
     (other_state c.args.states.now c.args.link Tight c.in_default.field-0 at (search rules)) (other_state c.args.states.now c.args.link Full c.in_default.field-0 at (search rules))
 
 pub returns-in_default-2 : goal.returns-in_default-2
 returns-in_default-2 c =
     let at = entry_at c.args.states.now None _ c.args.link c.index-2.result c.requires.states c.index-2.ensures c.in_default.is in
     carries_not c.args.resetting.now c.args.states.now c.args.link (entry_at c.args.resetting.now false false c.args.link c.index.result
-        c.requires.resetting c.index.ensures c.if-resetting-index.false)
+    c.requires.resetting c.index.ensures c.if-resetting-index.false)
     (no_state c.args.states.now c.args.link Tight at) (no_state c.args.states.now c.args.link Full at)
 
 pub returns-in-Some-Tight : goal.returns-in-Some-Tight

@@ -25,7 +25,7 @@ loop-e-preserved c = record {
   count = ap (λ (flags : List Bool). length flags) c.mark.ensures ∙ (length-set c.loop-e.firm.flags.items c.loop-e.e c.is_tight.result ∙ c.loop-e.invariant.count);
   marked = subst (λ (flags : List Bool). AreMarked c.args.base.now (c.loop-e.e + 1) flags) (sym c.mark.ensures)
       (marked_set c.args.base.now c.loop-e.e c.loop-e.e c.loop-e.firm.flags.items c.is_tight.result refl
-          (let n = c.loop-e.invariant.count in omega arith) c.is_tight.ensures c.loop-e.invariant.marked);
+      (let n = c.loop-e.invariant.count in omega arith) c.is_tight.ensures c.loop-e.invariant.marked);
 }
 
 pub mark-requires : goal.mark-requires

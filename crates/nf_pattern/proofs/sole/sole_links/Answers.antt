@@ -43,7 +43,7 @@ loop-e-preserved c =
     let len = c.note_end.auto.ends ∙ c.deref_mut.ensures.len in
     let after = with_items_is c.loop-e.before c.note_end.new.ends len in
     let here : c.is_sole-flag.result ≡ true → EntersAlone c.args.source c.args.hops.now c.args.resetting.now c.args.base.now c.loop-e.e =
-        λ flagged. c.is_sole-flag.ensures flagged c.args.resetting.now
+    λ flagged. c.is_sole-flag.ensures flagged c.args.resetting.now
     (subst (λ (ns : List ℕ). AreEndsBefore c.args.hops.now c.args.resetting.now c.args.base.now c.loop-e.e ns) (sym c.deref.ensures.value) c.loop-e.invariant.before)
     (subst (λ (ns : List ℕ). AreEnds c.args.hops.now c.args.resetting.now c.args.base.now ns) (sym c.deref-in-loop-e.ensures.value) c.in_ok-all.ensures.ends) in
     record {

@@ -7,7 +7,7 @@ returns c =
     record {
       solution =
           solved c.args.net.now.net c.recall.ensures.network (bounds_of c.args.horizon c.args.budgets) c.in_ok-run.run' c.in_ok-run.ensures.starts
-              c.finish.result c.finish.ensures.finished;
+          c.finish.result c.finish.ensures.finished;
     }
 
 pub finish-requires-clause-reaches : goal.finish-requires-clause-reaches

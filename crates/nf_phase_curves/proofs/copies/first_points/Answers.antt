@@ -13,6 +13,8 @@ push-requires c =
 
 pub loop-i-preserved : goal.loop-i-preserved
 loop-i-preserved c =
-    let some : 0 < c.loop-i.i + 1 = omega arith in
-    (take_pushed c.args.curve.now.points c.loop-i.points.points c.push.new.self.points c.loop-i.i c.point-time.result c.point-time.ensures
-        c.loop-i.invariant.0 c.in_ok-push.ensures.ok, some)
+    let some : 0 < c.loop-i.i + 1 = omega arith in (
+      take_pushed c.args.curve.now.points c.loop-i.points.points c.push.new.self.points c.loop-i.i c.point-time.result c.point-time.ensures
+          c.loop-i.invariant.0 c.in_ok-push.ensures.ok,
+      some,
+    )

@@ -26,4 +26,4 @@ pub returns : goal.returns
 returns c =
     c.loop-curves.invariant
     ∙ ap (λ (l : List (Roomy LinkCurves)). flow_so_far c.args.reached (all_grown c.args.labels.now) (all_grown l))
-        (take_all c.loop-curves.curves-index c.args.links.now c.loop-curves-test.false)
+    (take_all c.loop-curves.curves-index c.args.links.now c.loop-curves-test.false)

@@ -27,7 +27,7 @@ loop-v-preserved c =
     let inside : c.loop-v.v < length c.loop-v.curves = omega arith in
     one_grown (label_curves_after c.args.time c.args.labels.now c.args.slopes.now (all_grown c.args.curves.now)) c.args.curves.now c.loop-v.curves c.loop-v.v c.extend.new.self inside
     (label_after_at c.args.time c.args.labels.now c.args.slopes.now (all_grown c.args.curves.now) c.loop-v.v c.index-labels-v.result c.index-slopes-v.result
-        (get_or c.loop-v.curves c.loop-v.v c.index-curves-v.result).grown
+    (get_or c.loop-v.curves c.loop-v.v c.index-curves-v.result).grown
     (slice_get_read c.args.labels.now (length c.args.labels.now) c.loop-v.v c.index-labels-v.result refl (omega arith) c.index-labels-v.is)
     (slice_get_read c.args.slopes.now (length c.args.slopes.now) c.loop-v.v c.index-slopes-v.result refl (omega arith) c.index-slopes-v.is)
     (grown_before _ c.args.curves.now c.loop-v.curves c.loop-v.v _ (slice_get-get_or c.loop-v.curves c.loop-v.v c.index-curves-v.result inside) c.loop-v.invariant)

@@ -26,9 +26,9 @@ returns-in_err-next c =
     let g = slice_get_read c.args.curves.now _ c.loop-curve.curve-index c.curve-item.result refl c.loop-curve-test.true c.curve-item.is in
     let at = slice_get-image (λ (g : Grown). g.points) c.args.curves.now c.loop-curve.curve-index c.curve-item.result g in
     rw (p.1, p.2) (stops_on c.in_err-next.field-0.0 (at_part Curve (growing passes_Q c.curve-item.result.points))
-        (at_part Curve (each (growing passes_Q) (map (λ (g : Grown). g.points) c.args.curves.now)))
+    (at_part Curve (each (growing passes_Q) (map (λ (g : Grown). g.points) c.args.curves.now)))
     (one_passes (growing passes_Q) (map (λ (g : Grown). g.points) c.args.curves.now)
-        (all_grown c.loop-curve.grown.items) c.loop-curve.curve-index c.curve-item.result.points at c.loop-curve.invariant) c.in_err-next.ensures)
+    (all_grown c.loop-curve.grown.items) c.loop-curve.curve-index c.curve-item.result.points at c.loop-curve.invariant) c.in_err-next.ensures)
 
 pub loop-curve-preserved : goal.loop-curve-preserved
 loop-curve-preserved c =
@@ -37,7 +37,7 @@ loop-curve-preserved c =
     subst (λ (l : List GrowingCurve). SoFar (growing passes_Q) (map (λ (g : Grown). g.points) c.args.curves.now) l (c.loop-curve.curve-index + 1))
     (sym (ap all_grown c.in_ok-push.ensures.items ∙ grown_pushed c.loop-curve.grown.items c.in_ok-next.next))
     (one_more (growing passes_Q) (map (λ (g : Grown). g.points) c.args.curves.now)
-        (all_grown c.loop-curve.grown.items) c.loop-curve.curve-index c.curve-item.result.points at c.loop-curve.invariant
+    (all_grown c.loop-curve.grown.items) c.loop-curve.curve-index c.curve-item.result.points at c.loop-curve.invariant
     c.in_ok-next.next.grown c.in_ok-next.ensures)
 
 pub returns : goal.returns

@@ -22,12 +22,12 @@ returns-in_err-slope-clause-list c =
     let at = subst (λ (n : ℕ). slice_get c.args.curve.now.points (n - 1) ≡ Some c.last.result) (sym c.len-count.ensures.count) c.last.ensures in
     let p = err_from_is_err_and c.from_residual.result c.from_residual.ensures.1 in
     rw (p.1, p.2) (sym (ap (at_part Curve) (last_slope_there passes_Q c.args.curve.now.points (c.len-count.result - 2)
-        (c.len-count.result - 1) c.point.result c.last.result c.point.ensures at (omega arith) (omega arith))
+    (c.len-count.result - 1) c.point.result c.last.result c.point.ensures at (omega arith) (omega arith))
     ∙ after_err Curve (checked_slope passes_Q c.point.result c.last.result) (λ k. Ok (Some k)) c.in_err-slope.field-0.0 (sym c.in_err-slope.ensures)))
 
 pub returns-clause-list : goal.returns-clause-list
 returns-clause-list c =
     let at = subst (λ (n : ℕ). slice_get c.args.curve.now.points (n - 1) ≡ Some c.last.result) (sym c.len-count.ensures.count) c.last.ensures in
     sym (ap (at_part Curve) (last_slope_there passes_Q c.args.curve.now.points (c.len-count.result - 2)
-        (c.len-count.result - 1) c.point.result c.last.result c.point.ensures at (omega arith) (omega arith))
+    (c.len-count.result - 1) c.point.result c.last.result c.point.ensures at (omega arith) (omega arith))
     ∙ after_ok Curve (checked_slope passes_Q c.point.result c.last.result) (λ k. Ok (Some k)) c.in_ok-slope.slope (sym c.in_ok-slope.ensures))

@@ -12,9 +12,9 @@ pub loop-e-preserved : goal.loop-e-preserved
 loop-e-preserved c =
     let inside : c.loop-e.e < length c.loop-e.curves = omega arith in
     one_grown (link_curves_after c.args.labels.now c.args.net.now.net.links (all_grown c.args.curves.now) c.args.steps.now) c.args.curves.now
-        c.loop-e.curves c.loop-e.e c.extend_link.new.curves inside
+    c.loop-e.curves c.loop-e.e c.extend_link.new.curves inside
     (link_after_at c.args.labels.now c.args.net.now.net.links (all_grown c.args.curves.now) c.args.steps.now c.loop-e.e c.link-link.result
-        (get_or c.loop-e.curves c.loop-e.e c.index-curves-e.result).grown c.index-steps-e.result
+    (get_or c.loop-e.curves c.loop-e.e c.index-curves-e.result).grown c.index-steps-e.result
     c.link-link.ensures.link
     (grown_before _ c.args.curves.now c.loop-e.curves c.loop-e.e _ (slice_get-get_or c.loop-e.curves c.loop-e.e c.index-curves-e.result inside) c.loop-e.invariant)
     (slice_get_read c.args.steps.now (length c.args.steps.now) c.loop-e.e c.index-steps-e.result refl (omega arith) c.index-steps-e.is)

@@ -13,7 +13,7 @@ loop-e-preserved c =
     take_pushed (map (first_curves c.args.labels.now) c.args.net.now.net.links) (all_grown c.loop-e.curves.items)
     (all_grown c.push.new.self.items) c.loop-e.e c.in_ok-of_link.of_link.grown
     (slice_get-image (first_curves c.args.labels.now) c.args.net.now.net.links c.loop-e.e c.link-link.result c.link-link.ensures.link
-        ∙ ap (λ (g : LinkCurves). Some g) (sym c.in_ok-of_link.ensures))
+    ∙ ap (λ (g : LinkCurves). Some g) (sym c.in_ok-of_link.ensures))
     c.loop-e.invariant (ap all_grown c.in_ok-push.ensures.items ∙ grown_pushed c.loop-e.curves.items c.in_ok-of_link.of_link)
 
 pub first_of-requires-clause-head : goal.first_of-requires-clause-head

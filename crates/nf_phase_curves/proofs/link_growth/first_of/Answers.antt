@@ -17,7 +17,7 @@ first_by tail head = record {
 pub returns : goal.returns
 returns c =
     let tail = number_read c.args.labels.now c.args.link.now.tail c.index.result c.index-labels-index.result
-        (c.index.ensures ∙ ap (λ (l : Link). l.tail) c.link.view_is) c.requires.tail c.index-labels-index.is in
+    (c.index.ensures ∙ ap (λ (l : Link). l.tail) c.link.view_is) c.requires.tail c.index-labels-index.is in
     let head = number_read c.args.labels.now c.args.link.now.head c.index-2.result c.index-labels-index-2.result
-        (c.index-2.ensures ∙ ap (λ (l : Link). l.head) c.link.view_is) c.requires.head c.index-labels-index-2.is in
+    (c.index-2.ensures ∙ ap (λ (l : Link). l.head) c.link.view_is) c.requires.head c.index-labels-index-2.is in
     IfOk-weaker c.first.result _ _ (λ curves is. is ∙ (λ i. first_by (sym tail i) (sym head i))) c.first.ensures

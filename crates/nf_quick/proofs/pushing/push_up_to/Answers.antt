@@ -16,28 +16,28 @@ returns-in_err-walk-clause-pushed c =
     let p = err_from_is_err_and c.from_residual-in_err-walk.result c.from_residual-in_err-walk.ensures.1 in
     let inside : c.loop.counter < c.args.augments = omega arith in
     rw (p.1, p.2) (halted passes_Q c.args.net.now.net c.args.amount c.args.augments c.in_err-walk.field-0.0
-        (next_stops passes_Q c.args.net.now.net c.args.amount c.args.augments c.loop.standing c.loop.counter c.loop.invariant inside c.in_err-walk.field-0.0
-        (c.in_err-walk.ensures.list c.args.amount)))
+    (next_stops passes_Q c.args.net.now.net c.args.amount c.args.augments c.loop.standing c.loop.counter c.loop.invariant inside c.in_err-walk.field-0.0
+    (c.in_err-walk.ensures.list c.args.amount)))
 
 pub returns-in_default-clause-pushed : goal.returns-in_default-clause-pushed
 returns-in_default-clause-pushed c =
     let inside : c.loop.counter < c.args.augments = omega arith in
     none_next passes_Q c.args.net.now.net c.args.amount c.args.augments c.loop.standing c.loop.counter c.loop.invariant inside
-        (c.in_ok-walk.ensures.list c.args.amount ∙ ap Ok c.in_default.is)
+    (c.in_ok-walk.ensures.list c.args.amount ∙ ap Ok c.in_default.is)
 
 pub returns-in_err-push_on-clause-pushed : goal.returns-in_err-push_on-clause-pushed
 returns-in_err-push_on-clause-pushed c =
     let p = err_from_is_err_and c.from_residual-in_err-push_on.result c.from_residual-in_err-push_on.ensures.1 in
     let inside : c.loop.counter < c.args.augments = omega arith in
     rw (p.1, p.2) (halted passes_Q c.args.net.now.net c.args.amount c.args.augments c.in_err-push_on.field-0.0
-        (push_stops passes_Q c.args.net.now.net c.args.amount c.args.augments c.loop.standing c.loop.counter c.loop.invariant inside c.in-Some.walk
-        (c.in_ok-walk.ensures.list c.args.amount ∙ ap Ok c.in-Some.is) c.in_err-push_on.field-0.0 c.in_err-push_on.ensures.list))
+    (push_stops passes_Q c.args.net.now.net c.args.amount c.args.augments c.loop.standing c.loop.counter c.loop.invariant inside c.in-Some.walk
+    (c.in_ok-walk.ensures.list c.args.amount ∙ ap Ok c.in-Some.is) c.in_err-push_on.field-0.0 c.in_err-push_on.ensures.list))
 
 pub loop-preserved : goal.loop-preserved
 loop-preserved c =
     let inside : c.loop.counter < c.args.augments = omega arith in
     pushes_more passes_Q c.args.net.now.net c.args.amount c.args.augments c.loop.standing c.loop.counter c.loop.invariant inside c.in-Some.walk
-        (c.in_ok-walk.ensures.list c.args.amount ∙ ap Ok c.in-Some.is)
+    (c.in_ok-walk.ensures.list c.args.amount ∙ ap Ok c.in-Some.is)
     c.push_on.new.self c.in_ok-push_on.ensures.list c.push_on.ensures.sound c.push_on.ensures.rate
 
 pub returns-in_err-next-clause-pushed : goal.returns-in_err-next-clause-pushed
@@ -45,14 +45,14 @@ returns-in_err-next-clause-pushed c =
     let p = err_from_is_err_and c.from_residual-in_err-next.result c.from_residual-in_err-next.ensures.1 in
     let past : c.args.augments ≤ c.loop.counter = omega arith in
     rw (p.1, p.2) (halted passes_Q c.args.net.now.net c.args.amount c.args.augments c.in_err-next.field-0.0
-        (last_stops passes_Q c.args.net.now.net c.args.amount c.args.augments c.loop.standing c.loop.counter c.loop.invariant past c.in_err-next.field-0.0
-        (c.in_err-next.ensures.list c.args.amount)))
+    (last_stops passes_Q c.args.net.now.net c.args.amount c.args.augments c.loop.standing c.loop.counter c.loop.invariant past c.in_err-next.field-0.0
+    (c.in_err-next.ensures.list c.args.amount)))
 
 pub returns-in-Some-2-clause-pushed : goal.returns-in-Some-2-clause-pushed
 returns-in-Some-2-clause-pushed c =
     let past : c.args.augments ≤ c.loop.counter = omega arith in
     over_budget passes_Q c.args.net.now.net c.args.amount c.args.augments c.loop.standing c.loop.counter c.loop.invariant past c.in-Some-2.field-0
-        (c.in_ok-next.ensures.list c.args.amount ∙ ap Ok c.in-Some-2.is)
+    (c.in_ok-next.ensures.list c.args.amount ∙ ap Ok c.in-Some-2.is)
     ∙ ap (λ (s : QuickStanding). Ok (OverBudget s.pushed)) (sym c.standing-2.view_is)
 
 pub next-requires-clause-limited : goal.next-requires-clause-limited
@@ -98,7 +98,7 @@ pub returns-in-None-clause-pushed : goal.returns-in-None-clause-pushed
 returns-in-None-clause-pushed c =
     let past : c.args.augments ≤ c.loop.counter = omega arith in
     last_none passes_Q c.args.net.now.net c.args.amount c.args.augments c.loop.standing c.loop.counter c.loop.invariant past
-        (c.in_ok-next.ensures.list c.args.amount ∙ ap Ok c.in-None.is)
+    (c.in_ok-next.ensures.list c.args.amount ∙ ap Ok c.in-None.is)
 
 pub returns-in-None-clause-sound : goal.returns-in-None-clause-sound
 returns-in-None-clause-sound c = c.loop.invariant.sound

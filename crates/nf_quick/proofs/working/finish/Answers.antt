@@ -43,7 +43,7 @@ pub returns-in_err-walks : goal.returns-in_err-walks
 returns-in_err-walks c = λ amount.
     let p = err_from_is_err_and c.from_residual-in_err-walks.result c.from_residual-in_err-walks.ensures.1 in
     rw (p.1, p.2) (walks_stop passes_Q c.args.net.now.net amount c.args.flow.now c.in_ok-flows.flows.items c.args.time c.in_ok-flows.ensures
-        c.in_err-walks.field-0.0 c.in_err-walks.ensures)
+    c.in_err-walks.field-0.0 c.in_err-walks.ensures)
 
 pub returns-in_err-from_source : goal.returns-in_err-from_source
 returns-in_err-from_source c = λ amount.

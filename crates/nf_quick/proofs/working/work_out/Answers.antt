@@ -20,16 +20,18 @@ returns-then-is_at_most c =
 
 pub returns-in-Some : goal.returns-in-Some
 returns-in-Some c =
-    let some : le_ℚ c.args.amount 0ℚ ≡ false = sym (c.is_at_most.ensures ∙ ap (λ (z : ℚ). le_ℚ c.args.amount z) c.zero.ensures) ∙ c.if-is_at_most.false in
-    (lt_of_test c.args.amount 0ℚ some, MatchOption-at_some (IsLimited c.args.net.now.net)
-        (λ (links : Vec ℕ Global). IsUnboundedWalk c.args.net.now.net links.items c.args.net.now.net.source c.args.net.now.net.sink) c.in-Some.links
-        c.in-Some.is c.in_ok-links.ensures)
+    let some : le_ℚ c.args.amount 0ℚ ≡ false = sym (c.is_at_most.ensures ∙ ap (λ (z : ℚ). le_ℚ c.args.amount z) c.zero.ensures) ∙ c.if-is_at_most.false in (
+      lt_of_test c.args.amount 0ℚ some,
+      MatchOption-at_some (IsLimited c.args.net.now.net)
+          (λ (links : Vec ℕ Global). IsUnboundedWalk c.args.net.now.net links.items c.args.net.now.net.source c.args.net.now.net.sink) c.in-Some.links
+          c.in-Some.is c.in_ok-links.ensures,
+    )
 
 pub returns-in_err-standing : goal.returns-in_err-standing
 returns-in_err-standing c =
     let some : le_ℚ c.args.amount 0ℚ ≡ false = sym (c.is_at_most.ensures ∙ ap (λ (z : ℚ). le_ℚ c.args.amount z) c.zero.ensures) ∙ c.if-is_at_most.false in
     let limited = MatchOption-at_none (IsLimited c.args.net.now.net) (λ (links : Vec ℕ Global). IsUnboundedWalk c.args.net.now.net links.items
-        c.args.net.now.net.source c.args.net.now.net.sink) c.in_default.is c.in_ok-links.ensures in
+    c.args.net.now.net.source c.args.net.now.net.sink) c.in_default.is c.in_ok-links.ensures in
     let p = err_from_is_err_and c.from_residual-in_err-standing.result c.from_residual-in_err-standing.ensures.1 in
     rw (p.1, p.2) (pushes_stop passes_Q c.args.net.now.net c.args.amount c.args.augments some limited c.in_err-standing.field-0.0 c.in_err-standing.ensures.pushed)
 
@@ -37,10 +39,10 @@ pub returns-in_err-quick : goal.returns-in_err-quick
 returns-in_err-quick c =
     let some : le_ℚ c.args.amount 0ℚ ≡ false = sym (c.is_at_most.ensures ∙ ap (λ (z : ℚ). le_ℚ c.args.amount z) c.zero.ensures) ∙ c.if-is_at_most.false in
     let limited = MatchOption-at_none (IsLimited c.args.net.now.net) (λ (links : Vec ℕ Global). IsUnboundedWalk c.args.net.now.net links.items
-        c.args.net.now.net.source c.args.net.now.net.sink) c.in_default.is c.in_ok-links.ensures in
+    c.args.net.now.net.source c.args.net.now.net.sink) c.in_default.is c.in_ok-links.ensures in
     let p = err_from_is_err_and c.from_residual-in_err-quick.result c.from_residual-in_err-quick.ensures.1 in
     rw (p.1, p.2) (finish_stops passes_Q c.args.net.now.net c.args.amount c.args.augments some limited c.in_ok-standing.standing
-        c.in_ok-standing.ensures.pushed c.standing.inside.flow c.unwrap-time.result
+    c.in_ok-standing.ensures.pushed c.standing.inside.flow c.unwrap-time.result
     (ap (λ (s : QuickStanding). s.flows) c.standing.view_is)
     (sym (ap (λ (o : Option ℚ). unwrap_or o 0ℚ) c.unwrap-time.ensures) ∙ ap (λ (s : QuickStanding). unwrap_or s.time 0ℚ) c.standing.view_is)
     c.in_err-quick.field-0.0 (c.in_err-quick.ensures c.args.amount))
@@ -49,9 +51,9 @@ pub returns : goal.returns
 returns c =
     let some : le_ℚ c.args.amount 0ℚ ≡ false = sym (c.is_at_most.ensures ∙ ap (λ (z : ℚ). le_ℚ c.args.amount z) c.zero.ensures) ∙ c.if-is_at_most.false in
     let limited = MatchOption-at_none (IsLimited c.args.net.now.net) (λ (links : Vec ℕ Global). IsUnboundedWalk c.args.net.now.net links.items
-        c.args.net.now.net.source c.args.net.now.net.sink) c.in_default.is c.in_ok-links.ensures in
+    c.args.net.now.net.source c.args.net.now.net.sink) c.in_default.is c.in_ok-links.ensures in
     finish_answered passes_Q c.args.net.now.net c.args.amount c.args.augments some limited c.in_ok-standing.standing c.in_ok-standing.ensures.pushed
-        c.standing.inside.flow c.unwrap-time.result
+    c.standing.inside.flow c.unwrap-time.result
     (ap (λ (s : QuickStanding). s.flows) c.standing.view_is)
     (sym (ap (λ (o : Option ℚ). unwrap_or o 0ℚ) c.unwrap-time.ensures) ∙ ap (λ (s : QuickStanding). unwrap_or s.time 0ℚ) c.standing.view_is)
     c.in_ok-quick.quick (c.in_ok-quick.ensures c.args.amount)
@@ -60,7 +62,7 @@ pub unwrap-time-requires : goal.unwrap-time-requires
 unwrap-time-requires c =
     let some : le_ℚ c.args.amount 0ℚ ≡ false = sym (c.is_at_most.ensures ∙ ap (λ (z : ℚ). le_ℚ c.args.amount z) c.zero.ensures) ∙ c.if-is_at_most.false in
     let limited = MatchOption-at_none (IsLimited c.args.net.now.net) (λ (links : Vec ℕ Global). IsUnboundedWalk c.args.net.now.net links.items
-        c.args.net.now.net.source c.args.net.now.net.sink) c.in_default.is c.in_ok-links.ensures in
+    c.args.net.now.net.source c.args.net.now.net.sink) c.in_default.is c.in_ok-links.ensures in
     ap (λ (s : QuickStanding). is_some s.time) c.standing.view_is
     ∙ has_time passes_Q c.args.net.now.net c.args.amount c.args.augments some limited c.requires.network c.in_ok-standing.standing c.in_ok-standing.ensures.pushed
 

@@ -32,7 +32,7 @@ put_flow-requires c =
 pub returns-clause-list : goal.returns-clause-list
 returns-clause-list c =
     ap (at_part Part.Quick) (sym (fold_all (take_link passes_Q c.args.rate) c.args.way.now c.args.flows.now.items c.loop-link.flows.items
-        c.loop-link.link-index c.loop-link.invariant.folds c.loop-link-test.false))
+    c.loop-link.link-index c.loop-link.invariant.folds c.loop-link-test.false))
 
 pub returns-clause-count : goal.returns-clause-count
 returns-clause-count c = c.loop-link.invariant.count
@@ -44,7 +44,7 @@ returns-in-loop-link-clause-list c =
     let before : c.flow_at-before.result ≡ number_at flows link = c.flow_at-before.ensures ∙ ap (λ (l : List ℚ). number_at l link) c.deref.ensures.value in
     let passes : checked passes_Q Difference c.flow_at-before.result c.args.rate ≡ Err c.in-Err-at.field-0 = sym c.difference.ensures ∙ c.in-Err-at.is in
     fold_stops (take_link passes_Q c.args.rate) c.args.way.now c.args.flows.now.items flows c.loop-link.link-index c.loop-link.invariant.folds link
-        c.loop-link-test.true c.link-item.is c.at-from.result
+    c.loop-link-test.true c.link-item.is c.at-from.result
     (ap Err c.at-from.ensures ∙ sym (ap (λ (x : ℚ). at_part Part.Quick (checked passes_Q Difference x c.args.rate >>= λ left. Ok (set flows link left))) (sym before)
     ∙ ap (λ (r : Result ℚ (Passed ℚ)). at_part Part.Quick (r >>= λ left. Ok (set flows link left))) passes))
 
@@ -57,7 +57,7 @@ loop-link-preserved c =
     record {
       folds = subst (λ (l : List ℚ). FoldsOn (take_link passes_Q c.args.rate) c.args.way.now c.args.flows.now.items l (c.loop-link.link-index + 1)) (sym c.put_flow.ensures)
           (fold_more (take_link passes_Q c.args.rate) c.args.way.now c.args.flows.now.items flows c.loop-link.link-index c.loop-link.invariant.folds link
-              c.loop-link-test.true c.link-item.is (set flows link c.in-Ok-at.field-0)
+          c.loop-link-test.true c.link-item.is (set flows link c.in-Ok-at.field-0)
           (sym (ap (λ (x : ℚ). at_part Part.Quick (checked passes_Q Difference x c.args.rate >>= λ left. Ok (set flows link left))) (sym before)
           ∙ ap (λ (r : Result ℚ (Passed ℚ)). at_part Part.Quick (r >>= λ left. Ok (set flows link left))) fits)));
       count = ap (length {A = ℚ}) c.put_flow.ensures ∙ length-set flows link c.in-Ok-at.field-0 ∙ c.loop-link.invariant.count;

@@ -42,7 +42,7 @@ loop-preserved c =
           (c.in_ok-links.ensures.way ∙ ap (λ (l : List ℚ). way_out c.args.net.now.net l) lent)
           (some_there c.in_ok-links.links.items (ap (λ (l : List ℕ). length l == 0) (sym c.deref-in-loop.ensures.value) ∙ sym c.is_none.ensures ∙ c.if-is_none.false))
           c.walk_off.new.flows.items c.in_ok-rated.rated c.push.new.self.items c.in_ok-rated.ensures.list c.in_ok-rated.ensures.count
-              c.in_ok-rated.ensures.walk c.in_ok-push.ensures.items;
+          c.in_ok-rated.ensures.walk c.in_ok-push.ensures.items;
       spent = spent_still passes_Q _ c.args.net.now.net.links c.loop.flows.items c.walk_off.new.flows.items c.in_ok-links.links.items c.way_out.new.spent.items
           (subst (λ (l : List ℚ). HaveFlow l c.in_ok-links.links.items) lent c.in_ok-links.ensures.flow) c.in_ok-rated.ensures.list
           (subst (λ (l : List ℚ). AreSpent c.args.net.now.net.links l c.way_out.new.spent.items) lent c.in_ok-links.ensures.spent);

@@ -19,7 +19,7 @@ loop-preserved c =
           c.in-Some.ensures.first c.link.ensures.link (c.in-Some.ensures.within c.in-Some.link refl) c.in_ok-push.ensures.items (ap (λ (l : Link). l.head) c.node.view_is);
       flow = subst (λ (w : List ℕ). HaveFlow c.args.flows.now w) (sym c.in_ok-push.ensures.items)
           (all_and c.args.flows.now c.loop.way.items c.in-Some.link c.loop.invariant.flow
-              (out_has_flow 0 c.args.net.now.net.links c.loop.node c.args.flows.now c.in-Some.link (sym c.in-Some.ensures.first)));
+          (out_has_flow 0 c.args.net.now.net.links c.loop.node c.args.flows.now c.in-Some.link (sym c.in-Some.ensures.first)));
       spent = c.in-Some.ensures.spent;
       count = c.in-Some.ensures.count ∙ c.loop.invariant.count;
       node = subst (λ (v : ℕ). v < c.args.net.now.net.nodes) (sym (ap (λ (l : Link). l.head) c.node.view_is))

@@ -26,4 +26,4 @@ returns g c =
     let flow : List Line = flow_lines c.args.net.now (flow_of c.args.flow.now) in
     let states : List Line = for_each (length c.args.net.now.net.links) (state_lines c.args.net.now c.args.last.now) in
     gathered_next (flow ++ states) end (flow ++ states ++ end) refl (gathered_next flow states
-        (flow ++ states) refl c.in_ok-put_flow.ensures c.in_ok-put_states.ensures) c.put_line.ensures
+    (flow ++ states) refl c.in_ok-put_flow.ensures c.in_ok-put_states.ensures) c.put_line.ensures

@@ -15,7 +15,7 @@ returns-in_err-put_version g c =
     let version : List Line = (codes "report" ∷ digits_of c.version.result ∷ []) ∷ [] in
     let rest : List Line = (codes "horizon" ∷ printed c.args.horizon ∷ []) ∷ (codes "reached" ∷ printed c.args.flow.now.reached ∷ []) ∷ (codes "cause" ∷ cause_words (option_copied c.args.stopped)) ∷ [] in
     gathered_failed version rest all _ (ap (λ (v : ℕ). head_lines v c.args.horizon c.args.flow.now.reached (option_copied c.args.stopped))
-        c.version.ensures.value) c.from_residual.ensures.0 c.in_err-put_version.ensures
+    c.version.ensures.value) c.from_residual.ensures.0 c.in_err-put_version.ensures
 
 pub returns-in_err-put_number : goal.returns-in_err-put_number
 returns-in_err-put_number g c =
@@ -34,9 +34,9 @@ returns-in_err-put_number-2 g c =
     let reached : List Line = (codes "reached" ∷ printed c.args.flow.now.reached ∷ []) ∷ [] in
     let cause : List Line = (codes "cause" ∷ cause_words (option_copied c.args.stopped)) ∷ [] in
     gathered_then_failed (version ++ horizon) reached cause all _ (ap (λ (v : ℕ). head_lines v c.args.horizon c.args.flow.now.reached
-        (option_copied c.args.stopped)) c.version.ensures.value)
+    (option_copied c.args.stopped)) c.version.ensures.value)
     c.from_residual-in_err-put_number-2.ensures.0 (gathered_next version horizon
-        (version ++ horizon) refl c.in_ok-put_version.ensures c.in_ok-put_number.ensures) c.in_err-put_number-2.ensures
+    (version ++ horizon) refl c.in_ok-put_version.ensures c.in_ok-put_number.ensures) c.in_err-put_number-2.ensures
 
 pub returns : goal.returns
 returns g c =
@@ -47,5 +47,5 @@ returns g c =
     let cause : List Line = (codes "cause" ∷ cause_words (option_copied c.args.stopped)) ∷ [] in
     gathered_next (version ++ horizon ++ reached) cause all (ap (λ (v : ℕ). head_lines v c.args.horizon c.args.flow.now.reached (option_copied c.args.stopped)) c.version.ensures.value)
     (gathered_next (version ++ horizon) reached (version ++ horizon ++ reached) refl
-        (gathered_next version horizon (version ++ horizon) refl c.in_ok-put_version.ensures c.in_ok-put_number.ensures) c.in_ok-put_number-2.ensures)
+    (gathered_next version horizon (version ++ horizon) refl c.in_ok-put_version.ensures c.in_ok-put_number.ensures) c.in_ok-put_number-2.ensures)
     c.put_cause.ensures

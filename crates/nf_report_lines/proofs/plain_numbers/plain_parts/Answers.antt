@@ -9,5 +9,5 @@ pub returns : goal.returns
 returns c =
     let some : 0 < length c.args.word.now = search rules in
     negative_is c.args.word.now c.behind.result.now c.in_ok-magnitude.magnitude c.in_ok-magnitude.den some c.if-word-ne45.false c.behind.ensures
-        c.in_ok-magnitude.ensures c.in_ok-num-2.ensures.some
+    c.in_ok-magnitude.ensures c.in_ok-num-2.ensures.some
     ∙ ap (λ (n : ℤ). printed_parts n c.in_ok-magnitude.den) (sym (to_z-of_z {w = w128} {z = c.in_ok-num-2.num} (search rules) ∙ c.in_ok-num-2.ensures.value))

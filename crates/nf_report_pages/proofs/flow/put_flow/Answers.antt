@@ -36,4 +36,4 @@ returns g c =
     let second : List Line = never_lines c.args.net.now.idle_nodes in
     let third : List Line = for_each (length c.args.net.now.net.links) (link_lines c.args.net.now (flow_of c.args.flow.now)) in
     gathered_next (first ++ second) third (first ++ second ++ third) refl
-        (gathered_next first second (first ++ second) refl c.in_ok-put_labels.ensures c.in_ok-put_idle.ensures) c.put_links.ensures
+    (gathered_next first second (first ++ second) refl c.in_ok-put_labels.ensures c.in_ok-put_idle.ensures) c.put_links.ensures

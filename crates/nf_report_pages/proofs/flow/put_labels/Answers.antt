@@ -17,8 +17,8 @@ loop-node-preserved g c =
     let n = c.args.net.now.net.nodes in
     let below : i < n = omega arith in
     gathered_next (flat_map (label_lines c.args.net.now (flow_of c.args.flow.now)) (take i (range_with_len 0 n)))
-        ((label_lines c.args.net.now (flow_of c.args.flow.now)) i) (flat_map (label_lines c.args.net.now (flow_of c.args.flow.now))
-        (take (i + 1) (range_with_len 0 n)))
+    ((label_lines c.args.net.now (flow_of c.args.flow.now)) i) (flat_map (label_lines c.args.net.now (flow_of c.args.flow.now))
+    (take (i + 1) (range_with_len 0 n)))
     (each_next n (label_lines c.args.net.now (flow_of c.args.flow.now)) i below) c.loop-node.invariant c.in_ok-put_label.ensures
 
 pub returns-in_err-put_label : goal.returns-in_err-put_label
@@ -27,11 +27,11 @@ returns-in_err-put_label g c =
     let n = c.args.net.now.net.nodes in
     let below : i < n = omega arith in
     gathered_then_failed (flat_map (label_lines c.args.net.now (flow_of c.args.flow.now)) (take i (range_with_len 0 n)))
-        ((label_lines c.args.net.now (flow_of c.args.flow.now)) i) (flat_map (label_lines c.args.net.now (flow_of c.args.flow.now))
-        (drop (suc i) (range_with_len 0 n)))
+    ((label_lines c.args.net.now (flow_of c.args.flow.now)) i) (flat_map (label_lines c.args.net.now (flow_of c.args.flow.now))
+    (drop (suc i) (range_with_len 0 n)))
     (for_each n (label_lines c.args.net.now (flow_of c.args.flow.now))) _
-        (each_left n (label_lines c.args.net.now (flow_of c.args.flow.now)) i below) c.from_residual.ensures.0 c.loop-node.invariant
-        c.in_err-put_label.ensures
+    (each_left n (label_lines c.args.net.now (flow_of c.args.flow.now)) i below) c.from_residual.ensures.0 c.loop-node.invariant
+    c.in_err-put_label.ensures
 
 pub returns : goal.returns
 returns g c =
@@ -39,5 +39,5 @@ returns g c =
     let n = c.args.net.now.net.nodes in
     let end : i ≡ n = omega arith in
     same_gathered (flat_map (label_lines c.args.net.now (flow_of c.args.flow.now)) (take i (range_with_len 0 n)))
-        (for_each n (label_lines c.args.net.now (flow_of c.args.flow.now)))
-        (each_all n (label_lines c.args.net.now (flow_of c.args.flow.now)) i end) c.loop-node.invariant
+    (for_each n (label_lines c.args.net.now (flow_of c.args.flow.now)))
+    (each_all n (label_lines c.args.net.now (flow_of c.args.flow.now)) i end) c.loop-node.invariant

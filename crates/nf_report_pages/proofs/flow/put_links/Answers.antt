@@ -17,8 +17,8 @@ loop-link-preserved g c =
     let n = length c.args.net.now.net.links in
     let below : i < n = omega arith in
     gathered_next (flat_map (link_lines c.args.net.now (flow_of c.args.flow.now)) (take i (range_with_len 0 n)))
-        ((link_lines c.args.net.now (flow_of c.args.flow.now)) i) (flat_map (link_lines c.args.net.now (flow_of c.args.flow.now))
-        (take (i + 1) (range_with_len 0 n)))
+    ((link_lines c.args.net.now (flow_of c.args.flow.now)) i) (flat_map (link_lines c.args.net.now (flow_of c.args.flow.now))
+    (take (i + 1) (range_with_len 0 n)))
     (each_next n (link_lines c.args.net.now (flow_of c.args.flow.now)) i below) c.loop-link.invariant c.in_ok-put_curves.ensures
 
 pub returns-in_err-put_curves : goal.returns-in_err-put_curves
@@ -27,10 +27,10 @@ returns-in_err-put_curves g c =
     let n = length c.args.net.now.net.links in
     let below : i < n = omega arith in
     gathered_then_failed (flat_map (link_lines c.args.net.now (flow_of c.args.flow.now)) (take i (range_with_len 0 n)))
-        ((link_lines c.args.net.now (flow_of c.args.flow.now)) i) (flat_map (link_lines c.args.net.now (flow_of c.args.flow.now))
-        (drop (suc i) (range_with_len 0 n)))
+    ((link_lines c.args.net.now (flow_of c.args.flow.now)) i) (flat_map (link_lines c.args.net.now (flow_of c.args.flow.now))
+    (drop (suc i) (range_with_len 0 n)))
     (for_each n (link_lines c.args.net.now (flow_of c.args.flow.now))) _ (each_left n (link_lines c.args.net.now (flow_of c.args.flow.now)) i below)
-        c.from_residual.ensures.0 c.loop-link.invariant c.in_err-put_curves.ensures
+    c.from_residual.ensures.0 c.loop-link.invariant c.in_err-put_curves.ensures
 
 pub returns : goal.returns
 returns g c =
@@ -38,5 +38,5 @@ returns g c =
     let n = length c.args.net.now.net.links in
     let end : i ≡ n = omega arith in
     same_gathered (flat_map (link_lines c.args.net.now (flow_of c.args.flow.now)) (take i (range_with_len 0 n)))
-        (for_each n (link_lines c.args.net.now (flow_of c.args.flow.now))) (each_all n (link_lines c.args.net.now (flow_of c.args.flow.now)) i end)
-        c.loop-link.invariant
+    (for_each n (link_lines c.args.net.now (flow_of c.args.flow.now))) (each_all n (link_lines c.args.net.now (flow_of c.args.flow.now)) i end)
+    c.loop-link.invariant

@@ -16,7 +16,7 @@ loop-link-preserved g c =
     let n = length c.args.net.now.net.links in
     let below : i < n = omega arith in
     gathered_next (flat_map (state_lines c.args.net.now c.args.last.now) (take i (range_with_len 0 n))) ((state_lines c.args.net.now c.args.last.now) i)
-        (flat_map (state_lines c.args.net.now c.args.last.now) (take (i + 1) (range_with_len 0 n)))
+    (flat_map (state_lines c.args.net.now c.args.last.now) (take (i + 1) (range_with_len 0 n)))
     (each_next n (state_lines c.args.net.now c.args.last.now) i below) c.loop-link.invariant c.in_ok-put_state_of.ensures
 
 pub returns-in_err-put_state_of : goal.returns-in_err-put_state_of
@@ -25,9 +25,9 @@ returns-in_err-put_state_of g c =
     let n = length c.args.net.now.net.links in
     let below : i < n = omega arith in
     gathered_then_failed (flat_map (state_lines c.args.net.now c.args.last.now) (take i (range_with_len 0 n)))
-        ((state_lines c.args.net.now c.args.last.now) i) (flat_map (state_lines c.args.net.now c.args.last.now) (drop (suc i) (range_with_len 0 n)))
+    ((state_lines c.args.net.now c.args.last.now) i) (flat_map (state_lines c.args.net.now c.args.last.now) (drop (suc i) (range_with_len 0 n)))
     (for_each n (state_lines c.args.net.now c.args.last.now)) _ (each_left n (state_lines c.args.net.now c.args.last.now) i below) c.from_residual.ensures.0
-        c.loop-link.invariant c.in_err-put_state_of.ensures
+    c.loop-link.invariant c.in_err-put_state_of.ensures
 
 pub returns : goal.returns
 returns g c =
@@ -35,4 +35,4 @@ returns g c =
     let n = length c.args.net.now.net.links in
     let end : i ≡ n = omega arith in
     same_gathered (flat_map (state_lines c.args.net.now c.args.last.now) (take i (range_with_len 0 n)))
-        (for_each n (state_lines c.args.net.now c.args.last.now)) (each_all n (state_lines c.args.net.now c.args.last.now) i end) c.loop-link.invariant
+    (for_each n (state_lines c.args.net.now c.args.last.now)) (each_all n (state_lines c.args.net.now c.args.last.now) i end) c.loop-link.invariant

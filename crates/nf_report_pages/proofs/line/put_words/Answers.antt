@@ -11,13 +11,13 @@ pub loop-word-preserved : goal.loop-word-preserved
 loop-word-preserved g c =
     gathered_both _
     (next_part (λ word. 32 ∷ word) (map (λ w. w.now) c.args.words.now) c.loop-word.word-index _
-        (mapped_there (λ w. w.now) c.args.words.now c.loop-word.word-index _ c.loop-word-test.true))
+    (mapped_there (λ w. w.now) c.args.words.now c.loop-word.word-index _ c.loop-word-test.true))
     c.loop-word.invariant c.in_ok-put_word.ensures
 
 pub returns-in_err-put_word : goal.returns-in_err-put_word
 returns-in_err-put_word g c =
     gathered_front (after_words (drop (suc c.loop-word.word-index) (map (λ w. w.now) c.args.words.now))) _ _
     (parts_left (λ word. 32 ∷ word) (map (λ w. w.now) c.args.words.now) c.loop-word.word-index _
-        (mapped_there (λ w. w.now) c.args.words.now c.loop-word.word-index _ c.loop-word-test.true))
+    (mapped_there (λ w. w.now) c.args.words.now c.loop-word.word-index _ c.loop-word-test.true))
     c.from_residual.ensures.0
     (gathered_both _ refl c.loop-word.invariant c.in_err-put_word.ensures)

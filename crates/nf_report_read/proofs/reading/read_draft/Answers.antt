@@ -19,7 +19,7 @@ pub returns-in-Ok-add_lines-clause-draft : goal.returns-in-Ok-add_lines-clause-d
 returns-in-Ok-add_lines-clause-draft c =
     draft_read c.args.net.now c.args.text.now c.new-cursor.result c.next_line.new.cursor c.new-cursor.ensures c.in-Ok.line c.in-Ok.ensures.line c.in-Ok.ensures.fine
     c.in-Some.first c.in-Some.is (seen_draft c.args.net.now c.in_ok-draft.draft) c.in_ok-draft.ensures.draft c.add_lines.new.draft
-        c.in-Ok-add_lines.ensures.draft c.in-Ok-add_lines.ensures.fine
+    c.in-Ok-add_lines.ensures.draft c.in-Ok-add_lines.ensures.fine
 
 pub returns-in-Err-add_lines-clause-fault : goal.returns-in-Err-add_lines-clause-fault
 returns-in-Err-add_lines-clause-fault c =

@@ -24,19 +24,19 @@ overflow_add-index c =
 pub put-requires : goal.put-requires
 put-requires c =
     let all = YieldsList-from_vec c.args.curves.items c.into_iter-curve-iterator.ensures.into_iter_gives.0
-        (omega (arith, c.into_iter-curve-iterator.ensures.into_iter_gives.1, c.args.curves.ok.0)) in
+    (omega (arith, c.into_iter-curve-iterator.ensures.into_iter_gives.1, c.args.curves.ok.0)) in
     let turn = YieldsList-turn all c.loop-curve.yielded c.loop-curve.curve-iterator c.loop-curve.yielded_by c.next.result c.next.new.self c.in-Some.curve
-        c.in-Some.is c.next.ensures.steps in
+    c.in-Some.is c.next.ensures.steps in
     λ none. sym (kind_here c.args.net.now c.loop-curve.index c.in-Some-key_at.key c.in-Some-key_at.ensures)
     ∙ c.requires.idle c.loop-curve.index
     (ap (λ (k : ℕ). slice_get c.args.curves.items k) c.loop-curve.invariant.0
-        ∙ slice_get_read c.args.curves.items _ (length c.loop-curve.yielded) c.in-Some.curve refl turn.0 turn.1 ∙ ap Some none)
+    ∙ slice_get_read c.args.curves.items _ (length c.loop-curve.yielded) c.in-Some.curve refl turn.0 turn.1 ∙ ap Some none)
 
 pub unreachable-requires : goal.unreachable-requires
 unreachable-requires c =
     let all = YieldsList-from_vec c.args.curves.items c.into_iter-curve-iterator.ensures.into_iter_gives.0
-        (omega (arith, c.into_iter-curve-iterator.ensures.into_iter_gives.1, c.args.curves.ok.0)) in
+    (omega (arith, c.into_iter-curve-iterator.ensures.into_iter_gives.1, c.args.curves.ok.0)) in
     let turn = YieldsList-turn all c.loop-curve.yielded c.loop-curve.curve-iterator c.loop-curve.yielded_by c.next.result c.next.new.self c.in-Some.curve
-        c.in-Some.is c.next.ensures.steps in
+    c.in-Some.is c.next.ensures.steps in
     let inside : c.loop-curve.index < length (curve_keys c.args.net.now) = omega (arith, turn.0, c.requires.count, c.loop-curve.invariant.0) in
     key_there c.args.net.now c.loop-curve.index inside c.in-None-key_at.ensures

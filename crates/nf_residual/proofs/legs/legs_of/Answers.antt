@@ -11,20 +11,26 @@ pub returns-clause-within : goal.returns-clause-within
 returns-clause-within c =
     let past : length c.args.net.now.net.links ≤ c.loop-e.e = omega arith in
     all_led c.args.net.now.net c.args.flows.now c.loop-e.legs.items c.recall.ensures.network
-        (legs_all c.args.net.now.net.links c.args.flows.now c.loop-e.legs.items c.loop-e.e c.loop-e.invariant past)
+    (legs_all c.args.net.now.net.links c.args.flows.now c.loop-e.legs.items c.loop-e.e c.loop-e.invariant past)
 
 pub returns-in_err-legs : goal.returns-in_err-legs
 returns-in_err-legs c = record { legs = IfOk-from_err c.from_residual.result _ c.from_residual.ensures.0; within = IfOk-from_err c.from_residual.result _ c.from_residual.ensures.0 }
 
 pub returns-in_err-add_leg : goal.returns-in_err-add_leg
 returns-in_err-add_leg c =
-    record { legs = IfOk-from_err c.from_residual-in_err-add_leg.result _ c.from_residual-in_err-add_leg.ensures.0; within =
-    IfOk-from_err c.from_residual-in_err-add_leg.result _ c.from_residual-in_err-add_leg.ensures.0 }
+    record {
+      legs = IfOk-from_err c.from_residual-in_err-add_leg.result _ c.from_residual-in_err-add_leg.ensures.0;
+      within =
+          IfOk-from_err c.from_residual-in_err-add_leg.result _ c.from_residual-in_err-add_leg.ensures.0;
+    }
 
 pub returns-in_err-add_leg-2 : goal.returns-in_err-add_leg-2
 returns-in_err-add_leg-2 c =
-    record { legs = IfOk-from_err c.from_residual-in_err-add_leg-2.result _ c.from_residual-in_err-add_leg-2.ensures.0; within =
-    IfOk-from_err c.from_residual-in_err-add_leg-2.result _ c.from_residual-in_err-add_leg-2.ensures.0 }
+    record {
+      legs = IfOk-from_err c.from_residual-in_err-add_leg-2.result _ c.from_residual-in_err-add_leg-2.ensures.0;
+      within =
+          IfOk-from_err c.from_residual-in_err-add_leg-2.result _ c.from_residual-in_err-add_leg-2.ensures.0;
+    }
 
 pub returns-clause-legs : goal.returns-clause-legs
 returns-clause-legs c =

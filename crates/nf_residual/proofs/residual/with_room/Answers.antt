@@ -33,7 +33,7 @@ unwrap-requires c =
     let along = c.deref.ensures.value ∙ ap (λ (r : Reach). r.steps) c.way.view_is in
     has_room passes_Q c.args.net.now.net c.args.flows.now c.deref.result.now c.in_ok-room-in-Some.room c.requires.limited
     (subst (λ (steps : List Step). IsResidualWalk c.args.net.now.net c.args.flows.now steps c.args.net.now.net.source c.args.net.now.net.sink) (sym along)
-        (c.requires.walk c.in-Some.way c.in-Some.is))
+    (c.requires.walk c.in-Some.way c.in-Some.is))
     (ok_of_part _ c.in_ok-room-in-Some.room (sym c.in_ok-room-in-Some.ensures))
 
 pub returns-in_ok-room-in-Some : goal.returns-in_ok-room-in-Some

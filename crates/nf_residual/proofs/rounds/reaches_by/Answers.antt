@@ -33,7 +33,7 @@ pub round-requires-clause-chains : goal.round-requires-clause-chains
 round-requires-clause-chains c =
     let nodes : length c.deref-in-loop-2.result.now ≡ c.node_count.result = ap (λ (p : Places). length p) c.deref-in-loop-2.ensures.value
     ∙ places_are passes_Q c.args.net.now.net c.args.flows.now c.args.from c.in_ok-arcs.arcs.legs.items c.loop.fresh c.loop.ways c.loop.places.items
-        c.loop.counter c.loop.invariant.0 ∙ sym c.node_count.ensures in
+    c.loop.counter c.loop.invariant.0 ∙ sym c.node_count.ensures in
     subst (λ (n : ℕ). AreChains n c.in_ok-arcs.arcs.legs.items c.in_ok-arcs.arcs.first.items c.in_ok-arcs.arcs.next.items) (sym nodes) c.in_ok-arcs.ensures.chains
 
 pub round-requires-clause-tree : goal.round-requires-clause-tree
@@ -54,7 +54,7 @@ returns-in_err-round-clause-list c =
     let p = err_from_is_err_and c.from_residual-in_err-round.result c.from_residual-in_err-round.ensures.1 in
     let inside : c.loop.counter < c.args.net.now.net.nodes = omega arith in
     rw (p.1, p.2) (stops_by c.args.in_order c.in_err-round.field-0.0 _ _ (search_stops passes_Q c.args.net.now.net c.args.flows.now c.args.from
-        c.in_ok-arcs.arcs.legs.items c.loop.fresh c.loop.ways c.loop.places.items c.loop.counter c.loop.invariant.0 inside
+    c.in_ok-arcs.arcs.legs.items c.loop.fresh c.loop.ways c.loop.places.items c.loop.counter c.loop.invariant.0 inside
     (c.in_ok-arcs.ensures.legs ∙ c.in_ok-legs.ensures.legs) c.in_ok-arcs.arcs.legs.items refl c.deref-in-loop-2.result.now c.deref-in-loop-2.ensures.value c.in_err-round.field-0.0)
     c.in_err-round.ensures.list)
 
@@ -62,7 +62,7 @@ pub of-requires-then-count : goal.of-requires-then-count
 of-requires-then-count c =
     let inside : c.loop.counter < c.args.net.now.net.nodes = omega arith in
     within_still passes_Q c.args.net.now.net c.args.flows.now c.args.from c.in_ok-arcs.arcs.legs.items c.loop.fresh c.loop.ways c.loop.places.items
-        c.loop.counter c.loop.invariant.0 inside
+    c.loop.counter c.loop.invariant.0 inside
     (c.in_ok-arcs.ensures.legs ∙ c.in_ok-legs.ensures.legs) c.in_ok-arcs.arcs.legs.items refl c.deref-in-loop-2.result.now c.deref-in-loop-2.ensures.value
     c.round.new.ways c.round.new.places.items c.in_ok-round.ensures.list c.in_ok-round.ensures.grows
 
@@ -70,7 +70,7 @@ pub returns-then-count-clause-count : goal.returns-then-count-clause-count
 returns-then-count-clause-count c =
     let inside : c.loop.counter < c.args.net.now.net.nodes = omega arith in
     count_still passes_Q c.args.net.now.net c.args.flows.now c.args.from c.in_ok-arcs.arcs.legs.items c.loop.fresh c.loop.ways c.loop.places.items
-        c.loop.counter c.loop.invariant.0 inside
+    c.loop.counter c.loop.invariant.0 inside
     (c.in_ok-arcs.ensures.legs ∙ c.in_ok-legs.ensures.legs) c.in_ok-arcs.arcs.legs.items refl c.deref-in-loop-2.result.now c.deref-in-loop-2.ensures.value
     c.round.new.ways c.round.new.places.items c.in_ok-round.ensures.list c.in_ok-round.ensures.grows c.of-then-count.result c.of-then-count.ensures
 
@@ -79,7 +79,7 @@ returns-then-count-clause-list c =
     let inside : c.loop.counter < c.args.net.now.net.nodes = omega arith in
     let same : length c.round.new.ways ≡ length c.loop.ways = sym c.count.ensures.count ∙ c.if-count.true ∙ c.count-count.ensures.count in
     search_still passes_Q c.args.net.now.net c.args.flows.now c.args.from c.in_ok-arcs.arcs.legs.items c.loop.fresh c.loop.ways c.loop.places.items
-        c.loop.counter c.loop.invariant.0 inside
+    c.loop.counter c.loop.invariant.0 inside
     (c.in_ok-arcs.ensures.legs ∙ c.in_ok-legs.ensures.legs) c.in_ok-arcs.arcs.legs.items refl c.deref-in-loop-2.result.now c.deref-in-loop-2.ensures.value
     c.round.new.ways c.round.new.places.items c.in_ok-round.ensures.list c.in_ok-round.ensures.grows same c.of-then-count.result c.of-then-count.ensures
 
@@ -87,12 +87,12 @@ pub loop-preserved : goal.loop-preserved
 loop-preserved c =
     let inside : c.loop.counter < c.args.net.now.net.nodes = omega arith in
     let more : SearchOn passes_Q c.args.net.now.net c.args.flows.now c.args.from c.in_ok-arcs.arcs.legs.items c.count-count.result c.round.new.ways
-        c.round.new.places.items (c.loop.counter + 1) =
+    c.round.new.places.items (c.loop.counter + 1) =
     search_more passes_Q c.args.net.now.net c.args.flows.now c.args.from c.in_ok-arcs.arcs.legs.items c.loop.fresh c.loop.ways c.loop.places.items
-        c.loop.counter c.loop.invariant.0 inside
+    c.loop.counter c.loop.invariant.0 inside
     (c.in_ok-arcs.ensures.legs ∙ c.in_ok-legs.ensures.legs) c.in_ok-arcs.arcs.legs.items refl c.deref-in-loop-2.result.now c.deref-in-loop-2.ensures.value
     c.round.new.ways c.round.new.places.items c.in_ok-round.ensures.list c.in_ok-round.ensures.grows c.count.ensures.tree c.in_ok-round.ensures.settled
-        c.count-count.result c.count-count.ensures.count in
+    c.count-count.result c.count-count.ensures.count in
     let long : length c.round.new.places.items ≡ length c.loop.places.items = c.in_ok-round.ensures.grows.count ∙ ap (λ (p : Places). length p) c.deref-in-loop-2.ensures.value in (
       subst (λ (v : Vec (Option ℕ) Global). SearchOn passes_Q c.args.net.now.net c.args.flows.now c.args.from c.in_ok-arcs.arcs.legs.items
           c.count-count.result c.round.new.ways v.items (c.loop.counter + 1))

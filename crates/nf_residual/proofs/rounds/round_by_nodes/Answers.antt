@@ -13,7 +13,7 @@ loop-node-preserved c = elim c.match-fresh_at.branch [
       c.loop-node.ways c.loop-node.places.items c.loop-node.node
       c.loop-node.invariant c.requires.tree c.requires.within w.in-Some.way w.in-Some.ensures.way c.requires.legs w.offer_from.new.ways w.offer_from.new.places.items
       (w.in_ok-offer_from.ensures.list _ (known_here passes_Q c.args.arcs.now.legs.items c.args.fresh c.args.ways.now c.args.before.now c.loop-node.ways
-          c.loop-node.places.items c.loop-node.node
+      c.loop-node.places.items c.loop-node.node
       c.loop-node.invariant c.requires.tree c.requires.within w.in-Some.way w.in-Some.ensures.way)) w.in_ok-offer_from.ensures.grows)
   | in_default w ↦ rw (w.ways-is, w.places-is) (nodes_skip passes_Q c.args.arcs.now.legs.items c.args.fresh c.args.ways.now c.args.before.now
       c.loop-node.ways c.loop-node.places.items c.loop-node.node
@@ -24,10 +24,10 @@ pub returns-clause-list : goal.returns-clause-list
 returns-clause-list c =
     let past : length c.args.before.now ≤ c.loop-node.node = omega arith in
     nodes_all passes_Q c.args.arcs.now.legs.items c.args.fresh c.args.ways.now c.args.before.now c.loop-node.ways c.loop-node.places.items c.loop-node.node
-        c.loop-node.invariant c.requires.legs past
+    c.loop-node.invariant c.requires.legs past
 
 pub returns-clause-settled : goal.returns-clause-settled
 returns-clause-settled c =
     let past : length c.args.before.now ≤ c.loop-node.node = omega arith in
     nodes_settled passes_Q c.args.arcs.now.legs.items c.args.fresh c.args.ways.now c.args.before.now c.loop-node.ways c.loop-node.places.items
-        c.loop-node.node c.loop-node.invariant c.requires.legs past c.requires.tree
+    c.loop-node.node c.loop-node.invariant c.requires.legs past c.requires.tree

@@ -21,7 +21,7 @@ offer-requires-clause-way c =
 pub offer-requires-clause-end : goal.offer-requires-clause-end
 offer-requires-clause-end c =
     subst (λ (n : ℕ). c.leg-item.result.end < n) (sym (count_is passes_Q c.args.legs.now c.args.fresh c.args.ways.now c.args.before.now c.loop-leg.ways
-        c.loop-leg.places.items c.loop-leg.leg-index c.loop-leg.invariant))
+    c.loop-leg.places.items c.loop-leg.leg-index c.loop-leg.invariant))
     (leg_ends passes_Q c.args.legs.now c.args.fresh c.args.ways.now c.args.before.now c.loop-leg.ways c.loop-leg.places.items c.loop-leg.leg-index c.loop-leg.invariant
     c.leg-item.result c.loop-leg-test.true c.leg-item.is c.requires.legs).1
 
@@ -39,7 +39,7 @@ loop-leg-preserved c = elim c.match-fresh_way.branch [
   | in-Some+in_ok-offer w ↦ rw (w.ways-is, w.places-is) (offer_more passes_Q c.args.legs.now c.args.fresh c.args.ways.now c.args.before.now c.loop-leg.ways
       c.loop-leg.places.items c.loop-leg.leg-index c.loop-leg.invariant
       c.leg-item.result c.loop-leg-test.true c.leg-item.is c.requires.tree c.requires.within w.in-Some.way w.in-Some.ensures.way c.requires.legs
-          w.offer.new.ways w.offer.new.places.items w.in_ok-offer.ensures.list w.in_ok-offer.ensures.grows)
+      w.offer.new.ways w.offer.new.places.items w.in_ok-offer.ensures.list w.in_ok-offer.ensures.grows)
   | in_default w ↦ rw (w.ways-is, w.places-is) (old_more passes_Q c.args.legs.now c.args.fresh c.args.ways.now c.args.before.now c.loop-leg.ways
       c.loop-leg.places.items c.loop-leg.leg-index c.loop-leg.invariant
       c.leg-item.result c.loop-leg-test.true c.leg-item.is c.requires.tree c.requires.within c.requires.legs (c.fresh_way.ensures.old w.in_default.is))
@@ -57,4 +57,4 @@ pub returns-clause-settled : goal.returns-clause-settled
 returns-clause-settled c =
     let past : length c.args.legs.now ≤ c.loop-leg.leg-index = omega arith in
     settled_all passes_Q c.args.legs.now c.args.fresh c.args.ways.now c.args.before.now c.loop-leg.ways c.loop-leg.places.items c.loop-leg.leg-index
-        c.loop-leg.invariant past c.requires.tree
+    c.loop-leg.invariant past c.requires.tree

@@ -13,7 +13,7 @@ pub returns-in_err-cut : goal.returns-in_err-cut
 returns-in_err-cut c =
     let p = err_from_is_err_and c.from_residual.result c.from_residual.ensures.1 in
     rw (p.1, p.2) (stops_on c.in_err-cut.field-0.0 (at_part OfCurve (checked_cut passes_Q c.args.curve.now.points c.args.last))
-        (at_part OfCurve (cut_short passes_Q c.args.last c.args.curve.now.points))
+    (at_part OfCurve (cut_short passes_Q c.args.last c.args.curve.now.points))
     (λ at e. after_err OfCurve (checked_cut passes_Q c.args.curve.now.points c.args.last) _ at e) c.in_err-cut.ensures.list)
 
 pub returns : goal.returns

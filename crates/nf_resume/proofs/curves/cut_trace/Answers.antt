@@ -12,14 +12,14 @@ pub returns-in_err-curve : goal.returns-in_err-curve
 returns-in_err-curve c =
     let p = err_from_is_err_and c.from_residual.result c.from_residual.ensures.1 in
     rw (p.1, p.2) (stops_on c.in_err-curve.field-0.0 (at_part OfCurve (cut_short passes_Q c.args.last c.args.trace.now.curve.points))
-        (at_part OfCurve (cut_trace passes_Q c.args.last c.args.trace.now.curve.points))
+    (at_part OfCurve (cut_trace passes_Q c.args.last c.args.trace.now.curve.points))
     (λ at e. after_err OfCurve (cut_short passes_Q c.args.last c.args.trace.now.curve.points) _ at e) c.in_err-curve.ensures)
 
 pub returns-in_err-rates : goal.returns-in_err-rates
 returns-in_err-rates c =
     let p = err_from_is_err_and c.from_residual-in_err-rates.result c.from_residual-in_err-rates.ensures.1 in
     rw (p.1, p.2) (stops_on c.in_err-rates.field-0.0 (at_part OfCurve (checked_slopes passes_Q c.in_ok-curve.curve.points))
-        (at_part OfCurve (cut_trace passes_Q c.args.last c.args.trace.now.curve.points))
+    (at_part OfCurve (cut_trace passes_Q c.args.last c.args.trace.now.curve.points))
     (λ at e. after_ok OfCurve (cut_short passes_Q c.args.last c.args.trace.now.curve.points) _ c.in_ok-curve.curve.points c.in_ok-curve.ensures
     ∙ after_err OfCurve (checked_slopes passes_Q c.in_ok-curve.curve.points) _ at e) c.in_err-rates.ensures)
 

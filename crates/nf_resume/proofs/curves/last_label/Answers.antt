@@ -11,4 +11,4 @@ returns c =
     let here : points_at (curves_of c.args.labels.now) c.args.node ≡ c.index-labels-index.result.points = ap (points_at (curves_of c.args.labels.now)) (sym c.index.ensures)
     ∙ curve_at_is c.args.labels.now c.index.result c.index-labels-index.result inside c.index-labels-index.is in
     end_is c.index-labels-index.result.points (c.len.result - 1) c.point-value.result c.point-value.ensures
-        (omega (arith, c.len.ensures.count, c.len.ensures.some)) ∙ ap value_at_end (sym here)
+    (omega (arith, c.len.ensures.count, c.len.ensures.some)) ∙ ap value_at_end (sym here)

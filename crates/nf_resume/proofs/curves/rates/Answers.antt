@@ -13,13 +13,13 @@ pub returns-in_err-rate : goal.returns-in_err-rate
 returns-in_err-rate c =
     let p = err_from_is_err_and c.from_residual-in_err-rate.result c.from_residual-in_err-rate.ensures.1 in
     rw (p.1, p.2) (rate_stops passes_Q OfCurve c.args.curve.now.points c.loop-i.i c.loop-i.rates.items c.loop-i.invariant c.point-point.result
-        c.point-next.result c.point-point.ensures c.point-next.ensures
+    c.point-next.result c.point-point.ensures c.point-next.ensures
     c.in_err-rate.field-0.0 (sym c.in_err-rate.ensures))
 
 pub loop-i-preserved : goal.loop-i-preserved
 loop-i-preserved c =
     rate_goes passes_Q OfCurve c.args.curve.now.points c.loop-i.i c.loop-i.rates.items c.loop-i.invariant c.point-point.result c.point-next.result
-        c.point-point.ensures c.point-next.ensures
+    c.point-point.ensures c.point-next.ensures
     c.in_ok-rate.rate c.push.new.self.items (sym c.in_ok-rate.ensures) c.in_ok-push.ensures.items
 
 pub returns : goal.returns

@@ -14,15 +14,15 @@ pub returns-in_err-cut : goal.returns-in_err-cut
 returns-in_err-cut c =
     let p = err_from_is_err_and c.from_residual-in_err-cut.result c.from_residual-in_err-cut.ensures.1 in
     rw (p.1, p.2) (front_halts (cut_short passes_Q c.args.reached) (curves_of c.args.labels.now) OfCurve c.loop-label.label-index
-        (curves_of c.loop-label.cuts.items) c.loop-label.invariant c.label-item.result.points
+    (curves_of c.loop-label.cuts.items) c.loop-label.invariant c.label-item.result.points
     (curve_there c.args.labels.now c.loop-label.label-index c.label-item.result c.loop-label-test.true c.label-item.is) c.in_err-cut.field-0.0 c.in_err-cut.ensures)
 
 pub loop-label-preserved : goal.loop-label-preserved
 loop-label-preserved c =
     front_goes (cut_short passes_Q c.args.reached) (curves_of c.args.labels.now) OfCurve c.loop-label.label-index
-        (curves_of c.loop-label.cuts.items) c.loop-label.invariant c.label-item.result.points
+    (curves_of c.loop-label.cuts.items) c.loop-label.invariant c.label-item.result.points
     (curve_there c.args.labels.now c.loop-label.label-index c.label-item.result c.loop-label-test.true c.label-item.is) c.in_ok-cut.cut.points
-        (curves_of c.push.new.self.items) c.in_ok-cut.ensures
+    (curves_of c.push.new.self.items) c.in_ok-cut.ensures
     (ap (λ (l : List Grown). curves_of l) c.in_ok-push.ensures.items ∙ map-append (λ (g : Grown). g.points) c.loop-label.cuts.items _)
 
 pub returns : goal.returns

@@ -13,12 +13,12 @@ check-requires-clause-labels c = sym (length-map c.args.report.now.flow.labels.i
 pub check-requires-clause-inflows : goal.check-requires-clause-inflows
 check-requires-clause-inflows c =
     sym (length-map c.args.report.now.flow.inflows.items trace_of) ∙ sym (length-map (map trace_of c.args.report.now.flow.inflows.items)
-        (λ trace. trace.points)) ∙ c.requires.shape.inflows.count
+    (λ trace. trace.points)) ∙ c.requires.shape.inflows.count
 
 pub check-requires-clause-outflows : goal.check-requires-clause-outflows
 check-requires-clause-outflows c =
     sym (length-map c.args.report.now.flow.outflows.items trace_of) ∙ sym
-        (length-map (map trace_of c.args.report.now.flow.outflows.items) (λ trace. trace.points)) ∙ c.requires.shape.outflows.count
+    (length-map (map trace_of c.args.report.now.flow.outflows.items) (λ trace. trace.points)) ∙ c.requires.shape.outflows.count
 
 pub check-requires-clause-queues : goal.check-requires-clause-queues
 check-requires-clause-queues c = sym (length-map c.args.report.now.flow.queues.items (λ curve. curve.points)) ∙ c.requires.shape.queues.count
@@ -35,7 +35,7 @@ check-requires-clause-reached c = c.requires.reached
 pub returns-in-Err-clause-cause : goal.returns-in-Err-clause-cause
 returns-in-Err-clause-cause c =
     subst (IsCauseAtAnyHorizon passes_Q c.args.net.now.net (seen_report c.args.report.now)) (sym c.from.ensures)
-        (check_stops passes_Q c.args.net.now.net (seen_report c.args.report.now) c.in-Err.halt c.in-Err.ensures.list)
+    (check_stops passes_Q c.args.net.now.net (seen_report c.args.report.now) c.in-Err.halt c.in-Err.ensures.list)
 
 pub returns-in-Ok-clause-yes : goal.returns-in-Ok-clause-yes
 returns-in-Ok-clause-yes c = said_yes passes_Q c.args.net.now.net (seen_report c.args.report.now) c.in-Ok.answer c.in-Ok.ensures.list c.unless_no.result c.unless_no.ensures

@@ -50,12 +50,12 @@ returns-in_err-run-clause-list c =
     let p = err_from_is_err_and c.from_residual-in_err-run.result c.from_residual-in_err-run.ensures.1 in
     rw (p.1, p.2) (subst (λ (r : Result Standing (PassedAt ℚ)). Stops (λ (q : ℚ). q) c.in_err-run.field-0.0 r)
     (restored passes_Q c.args.net.now.net (seen_report c.args.report.now)
-        (flow_of c.in_ok-flow.flow) c.in_ok-last.last c.in_ok-flow.ensures c.in_ok-last.ensures) c.in_err-run.ensures.list)
+    (flow_of c.in_ok-flow.flow) c.in_ok-last.last c.in_ok-flow.ensures c.in_ok-last.ensures) c.in_err-run.ensures.list)
 
 pub returns-clause-list : goal.returns-clause-list
 returns-clause-list c =
     sym (restored passes_Q c.args.net.now.net (seen_report c.args.report.now)
-        (flow_of c.in_ok-flow.flow) c.in_ok-last.last c.in_ok-flow.ensures c.in_ok-last.ensures) ∙ c.in_ok-run.ensures.list
+    (flow_of c.in_ok-flow.flow) c.in_ok-last.last c.in_ok-flow.ensures c.in_ok-last.ensures) ∙ c.in_ok-run.ensures.list
 
 pub returns-clause-time : goal.returns-clause-time
 returns-clause-time c =

@@ -38,7 +38,7 @@ pub loop-link-preserved-in-Continue-branch-2 : goal.loop-link-preserved-in-Conti
 loop-link-preserved-in-Continue-branch-2 c =
     let end : c.link.inside.end ≡ end_or passes_Q c.in-Some.link = ap (λ (l : LoadedLink). l.end) c.link.view_is ∙ ap (end_or passes_Q) (sym c.in-Some-link.is) in
     let loaded : loaded_of c.link.inside.loaded ≡ loaded_or passes_Q c.in-Some.link = ap (λ (l : LoadedLink). l.loaded) c.link.view_is
-        ∙ ap (loaded_or passes_Q) (sym c.in-Some-link.is) in (
+    ∙ ap (loaded_or passes_Q) (sym c.in-Some-link.is) in (
       c.in_ok-push.ensures.items ∙ ap (λ (l : List ℚ). l ++ c.link.inside.end ∷ []) c.loop-link.invariant.0
           ∙ ap (λ (z : ℚ). map (end_or passes_Q) c.loop-link.yielded ++ z ∷ []) end ∙ sym (map-append (end_or passes_Q) c.loop-link.yielded (c.in-Some.link ∷ [])),
       same_pushed loaded_of (loaded_or passes_Q) c.loop-link.all.items c.link.inside.loaded c.loop-link.yielded c.in-Some.link
@@ -48,6 +48,6 @@ loop-link-preserved-in-Continue-branch-2 c =
 pub loop-link-preserved : goal.loop-link-preserved
 loop-link-preserved c =
     let all = YieldsList-from_vec c.args.links.items c.into_iter-link-iterator.ensures.into_iter_gives.0
-        (omega (arith, c.into_iter-link-iterator.ensures.into_iter_gives.1, c.args.links.ok.0)) in
+    (omega (arith, c.into_iter-link-iterator.ensures.into_iter_gives.1, c.args.links.ok.0)) in
     let turn = YieldsList-turn all c.loop-link.yielded c.loop-link.link-iterator c.loop-link.yielded_by c.next.result c.next.new.self c.in-Some.link c.in-Some.is c.next.ensures.steps in
     absurd (c.requires.each (length c.loop-link.yielded) (slice_get_read c.args.links.items _ (length c.loop-link.yielded) c.in-Some.link refl turn.0 turn.1 ∙ ap Some c.in_default.is))

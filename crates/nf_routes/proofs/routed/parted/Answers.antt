@@ -39,7 +39,7 @@ loop-stages-preserved-in-Continue-branch-2 c = (
 pub end-requires : goal.end-requires
 end-requires c =
     let all = YieldsList-from_vec c.args.entries.items c.into_iter-stages-iterator.ensures.into_iter_gives.0
-        (omega (arith, c.into_iter-stages-iterator.ensures.into_iter_gives.1, c.args.entries.ok.0)) in
+    (omega (arith, c.into_iter-stages-iterator.ensures.into_iter_gives.1, c.args.entries.ok.0)) in
     let turn = YieldsList-turn all c.loop-stages.yielded c.loop-stages.stages-iterator c.loop-stages.yielded_by c.next.result c.next.new.self
-        c.in-Some.stages c.in-Some.is c.next.ensures.steps in
+    c.in-Some.stages c.in-Some.is c.next.ensures.steps in
     c.requires.each (length c.loop-stages.yielded) c.in-Some.stages (slice_get_read c.args.entries.items _ (length c.loop-stages.yielded) c.in-Some.stages refl turn.0 turn.1)

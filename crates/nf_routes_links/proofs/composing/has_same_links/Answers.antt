@@ -13,7 +13,7 @@ loop-i-preserved c =
     let same : c.index-left-i.result ≡ c.index-right-i.result = (let e = c.ne.ensures in let f = c.if-ne.false in grind (arith, nat_tests)) in
     links_step c.args.left.now c.args.right.now c.loop-i.i c.index-left-i.result c.index-right-i.result
     (slice_get_read c.args.left.now _ c.loop-i.i c.index-left-i.result refl inside c.index-left-i.is)
-        (slice_get_read c.args.right.now _ c.loop-i.i c.index-right-i.result refl there c.index-right-i.is)
+    (slice_get_read c.args.right.now _ c.loop-i.i c.index-right-i.result refl there c.index-right-i.is)
     same c.loop-i.invariant
 
 pub returns : goal.returns

@@ -8,7 +8,7 @@ travel-requires-clause-over c =
     let inside : length c.args.travels.now < length c.args.routes.now = c.requires.left in
     let at = slice_get_read c.args.routes.now _ (length c.args.travels.now) c.index-routes-route.result refl inside c.index-routes-route.is in
     c.requires.over.each (length c.args.travels.now) c.index-routes-route.result.route
-        (slice_get-image (λ (r : NamedRoute). r.route) c.args.routes.now (length c.args.travels.now) c.index-routes-route.result at)
+    (slice_get-image (λ (r : NamedRoute). r.route) c.args.routes.now (length c.args.travels.now) c.index-routes-route.result at)
 
 pub returns-in_err-known : goal.returns-in_err-known
 returns-in_err-known c =
@@ -22,7 +22,7 @@ returns-then-alike-route c =
     let along = λ (l : List ℕ). travel_along passes_Q c.args.horizon (map loaded_of c.args.links.now) l (departures c.args.horizon) in
     ap (at_part Load) (ap along (sym c.first_alike-alike.ensures.alike)
     ∙ c.requires.travels.each c.first_alike-alike.result c.index-travels-alike.result.points
-        (slice_get-image (λ (g : Grown). g.points) c.args.travels.now c.first_alike-alike.result c.index-travels-alike.result at))
+    (slice_get-image (λ (g : Grown). g.points) c.args.travels.now c.first_alike-alike.result c.index-travels-alike.result at))
     ∙ ap Ok (sym c.in_ok-known.ensures)
 
 pub returns : goal.returns

@@ -13,7 +13,7 @@ loop-i-preserved c =
       | then-eq w ↦ rw w.end-is (
         ap (λ (z : ℚ). end_by z (pairs_of (drop (c.loop-i.i + 1 - 1) c.args.along.now)) c.args.links.now c.args.link) (w.greater-end.ensures ∙ ap (max_ℚ c.loop-i.end) w.exit_end.ensures)
             ∙ along_here c.args.along.now c.args.links.now c.args.link c.loop-i.i c.loop-i.end _ c.loop-i.invariant.1 c.loop-i.invariant.0
-                w.index-along-i-then-eq.result c.index-along-i.result
+            w.index-along-i-then-eq.result c.index-along-i.result
             (slice_get_read c.args.along.now _ (c.loop-i.i - 1) w.index-along-i-then-eq.result refl before w.index-along-i-then-eq.is) here (sym c.eq.ensures ∙ w.if-eq.true),
         omega arith,
       )

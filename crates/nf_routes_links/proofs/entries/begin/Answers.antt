@@ -10,7 +10,7 @@ pub returns-in_err-first : goal.returns-in_err-first
 returns-in_err-first c =
     let p = err_from_is_err_and c.from_residual.result c.from_residual.ensures.1 in
     let yes : begins_with c.args.route.now.route.links c.args.link ≡ true = ap (λ (l : List ℕ). begins_with l c.args.link) (sym c.links.ensures)
-        ∙ sym c.begins_with.ensures ∙ c.if-begins_with.true in
+    ∙ sym c.begins_with.ensures ∙ c.if-begins_with.true in
     rw (p.1, p.2) (stops_on c.in_err-first.field-0.0 (at_part Load (first_entry passes_Q c.pieces.result.now c.args.horizon))
     (at_part Load (begin_if passes_Q (begins_with c.args.route.now.route.links c.args.link) c.args.horizon c.args.route.now.route c.args.sent.now))
     (λ q e. begin_passes passes_Q _ yes q c.args.horizon c.args.route.now.route c.pieces.result.now c.args.sent.now c.pieces.ensures e) c.in_err-first.ensures)

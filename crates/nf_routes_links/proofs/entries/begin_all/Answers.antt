@@ -9,7 +9,7 @@ begin-requires-clause-pieces c =
     let inside : c.loop-i.i < length c.args.routes.now = omega arith in
     c.requires.pieces.each c.loop-i.i c.index-routes-i.result.route
     (slice_get-image (λ (r : NamedRoute). r.route) c.args.routes.now c.loop-i.i c.index-routes-i.result
-        (slice_get_read c.args.routes.now _ c.loop-i.i c.index-routes-i.result refl inside c.index-routes-i.is))
+    (slice_get_read c.args.routes.now _ c.loop-i.i c.index-routes-i.result refl inside c.index-routes-i.is))
 
 pub returns-in_err-begin : goal.returns-in_err-begin
 returns-in_err-begin c =
@@ -17,12 +17,12 @@ returns-in_err-begin c =
     let inside : c.loop-i.i < length c.args.routes.now = omega arith in
     let there : c.loop-i.i < length c.loop-i.entries = omega arith in
     rw (p.1, p.2) (subst (λ (r : Checked _). Stops (λ (q : ℚ). q) c.in_err-begin.field-0.0 (at_part Load r))
-        (sym (begin_all-is passes_Q c.args.horizon c.args.link (routes_of c.args.routes.now) c.args.entries.now))
+    (sym (begin_all-is passes_Q c.args.horizon c.args.link (routes_of c.args.routes.now) c.args.entries.now))
     (steps_stop (λ (route : Route) (sent : Sent). begin_if passes_Q (begins_with route.links c.args.link) c.args.horizon route sent)
-        (routes_of c.args.routes.now) c.args.entries.now c.loop-i.entries c.loop-i.i c.loop-i.invariant
+    (routes_of c.args.routes.now) c.args.entries.now c.loop-i.entries c.loop-i.i c.loop-i.invariant
     c.index-routes-i.result.route (get_or c.loop-i.entries c.loop-i.i c.index-entries-i.result)
     (slice_get-image (λ (r : NamedRoute). r.route) c.args.routes.now c.loop-i.i c.index-routes-i.result
-        (slice_get_read c.args.routes.now _ c.loop-i.i c.index-routes-i.result refl inside c.index-routes-i.is))
+    (slice_get_read c.args.routes.now _ c.loop-i.i c.index-routes-i.result refl inside c.index-routes-i.is))
     (slice_get-get_or c.loop-i.entries c.loop-i.i c.index-entries-i.result there) c.in_err-begin.field-0.0 c.in_err-begin.ensures))
 
 pub loop-i-preserved : goal.loop-i-preserved
@@ -30,8 +30,8 @@ loop-i-preserved c =
     let inside : c.loop-i.i < length c.args.routes.now = omega arith in
     let there : c.loop-i.i < length c.loop-i.entries = omega arith in
     steps_go (λ (route : Route) (sent : Sent). begin_if passes_Q (begins_with route.links c.args.link) c.args.horizon route sent)
-        (routes_of c.args.routes.now) c.args.entries.now c.loop-i.entries c.loop-i.i c.loop-i.invariant
+    (routes_of c.args.routes.now) c.args.entries.now c.loop-i.entries c.loop-i.i c.loop-i.invariant
     c.index-routes-i.result.route (get_or c.loop-i.entries c.loop-i.i c.index-entries-i.result)
     (slice_get-image (λ (r : NamedRoute). r.route) c.args.routes.now c.loop-i.i c.index-routes-i.result
-        (slice_get_read c.args.routes.now _ c.loop-i.i c.index-routes-i.result refl inside c.index-routes-i.is))
+    (slice_get_read c.args.routes.now _ c.loop-i.i c.index-routes-i.result refl inside c.index-routes-i.is))
     (slice_get-get_or c.loop-i.entries c.loop-i.i c.index-entries-i.result there) c.begin.new.sent c.in_ok-begin.ensures

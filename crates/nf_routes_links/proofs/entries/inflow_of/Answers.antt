@@ -17,7 +17,7 @@ with_entry-requires c =
     let there : c.loop-i.i < length c.args.entries.now = omega arith in
     along_at (Sends c.args.link) (routes_of c.args.routes.now) c.args.entries.now c.loop-i.i c.index-routes-i.result.route c.index-entries-i.result c.requires
     (slice_get-image (λ (r : NamedRoute). r.route) c.args.routes.now c.loop-i.i c.index-routes-i.result
-        (slice_get_read c.args.routes.now _ c.loop-i.i c.index-routes-i.result refl inside c.index-routes-i.is))
+    (slice_get_read c.args.routes.now _ c.loop-i.i c.index-routes-i.result refl inside c.index-routes-i.is))
     (slice_get_read c.args.entries.now _ c.loop-i.i c.index-entries-i.result refl there c.index-entries-i.is)
 
 pub returns-in_err-total-2 : goal.returns-in_err-total-2
@@ -28,9 +28,9 @@ returns-in_err-total-2 c =
     let inside : c.loop-i.i < length c.args.routes.now = omega arith in
     let there : c.loop-i.i < length c.args.entries.now = omega arith in
     rw (p.1, p.2) (sums_stop passes_Q c.args.link ((0ℚ, 0ℚ) ∷ []) (routes_of c.args.routes.now) c.args.entries.now c.loop-i.total.points c.loop-i.i
-        c.loop-i.invariant c.index-routes-i.result.route c.index-entries-i.result
+    c.loop-i.invariant c.index-routes-i.result.route c.index-entries-i.result
     (slice_get-image (λ (r : NamedRoute). r.route) c.args.routes.now c.loop-i.i c.index-routes-i.result
-        (slice_get_read c.args.routes.now _ c.loop-i.i c.index-routes-i.result refl inside c.index-routes-i.is))
+    (slice_get_read c.args.routes.now _ c.loop-i.i c.index-routes-i.result refl inside c.index-routes-i.is))
     (slice_get_read c.args.entries.now _ c.loop-i.i c.index-entries-i.result refl there c.index-entries-i.is) c.in_err-total-2.field-0.0 c.in_err-total-2.ensures)
 
 pub loop-i-preserved : goal.loop-i-preserved
@@ -40,9 +40,9 @@ loop-i-preserved c =
     let inside : c.loop-i.i < length c.args.routes.now = omega arith in
     let there : c.loop-i.i < length c.args.entries.now = omega arith in
     sums_go passes_Q c.args.link ((0ℚ, 0ℚ) ∷ []) (routes_of c.args.routes.now) c.args.entries.now c.loop-i.total.points c.loop-i.i c.loop-i.invariant
-        c.index-routes-i.result.route c.index-entries-i.result
+    c.index-routes-i.result.route c.index-entries-i.result
     (slice_get-image (λ (r : NamedRoute). r.route) c.args.routes.now c.loop-i.i c.index-routes-i.result
-        (slice_get_read c.args.routes.now _ c.loop-i.i c.index-routes-i.result refl inside c.index-routes-i.is))
+    (slice_get_read c.args.routes.now _ c.loop-i.i c.index-routes-i.result refl inside c.index-routes-i.is))
     (slice_get_read c.args.entries.now _ c.loop-i.i c.index-entries-i.result refl there c.index-entries-i.is) c.in_ok-total-2.total.points c.in_ok-total-2.ensures
 
 pub returns : goal.returns

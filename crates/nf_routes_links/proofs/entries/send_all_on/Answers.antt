@@ -33,11 +33,11 @@ send_on-requires-clause-sends c =
     let inside : c.loop-i.i < length c.args.routes.now = omega arith in
     let there : c.loop-i.i < length c.loop-i.entries = omega arith in
     let at = slice_get-image (λ (r : NamedRoute). r.route) c.args.routes.now c.loop-i.i c.index-routes-i.result
-        (slice_get_read c.args.routes.now _ c.loop-i.i c.index-routes-i.result refl inside c.index-routes-i.is) in
+    (slice_get_read c.args.routes.now _ c.loop-i.i c.index-routes-i.result refl inside c.index-routes-i.is) in
     along_at (Sends c.args.link) (routes_of c.args.routes.now) c.args.entries.now c.loop-i.i c.index-routes-i.result.route
-        (get_or c.loop-i.entries c.loop-i.i c.index-entries-i.result) c.requires.send at
+    (get_or c.loop-i.entries c.loop-i.i c.index-entries-i.result) c.requires.send at
     (was (λ (route : Route) (sent : Sent). next_if passes_Q (goes_over route.links c.args.link) c.args.exit.now.points sent)
-        (routes_of c.args.routes.now) c.args.entries.now c.loop-i.entries c.loop-i.i c.loop-i.invariant.0
+    (routes_of c.args.routes.now) c.args.entries.now c.loop-i.entries c.loop-i.i c.loop-i.invariant.0
     c.index-routes-i.result.route (get_or c.loop-i.entries c.loop-i.i c.index-entries-i.result) at (slice_get-get_or c.loop-i.entries c.loop-i.i c.index-entries-i.result there))
 
 pub returns-in_err-send_on : goal.returns-in_err-send_on
@@ -49,13 +49,13 @@ returns-in_err-send_on c =
     let inside : c.loop-i.i < length c.args.routes.now = omega arith in
     let there : c.loop-i.i < length c.loop-i.entries = omega arith in
     let at = slice_get-image (λ (r : NamedRoute). r.route) c.args.routes.now c.loop-i.i c.index-routes-i.result
-        (slice_get_read c.args.routes.now _ c.loop-i.i c.index-routes-i.result refl inside c.index-routes-i.is) in
+    (slice_get_read c.args.routes.now _ c.loop-i.i c.index-routes-i.result refl inside c.index-routes-i.is) in
     rw (p.1, p.2) (subst (λ (r : Checked _). Stops (λ (q : ℚ). q) c.in_err-send_on.field-0.0 (at_part Load r))
-        (sym (next_all-is passes_Q c.args.link c.args.exit.now.points (routes_of c.args.routes.now) c.args.entries.now))
+    (sym (next_all-is passes_Q c.args.link c.args.exit.now.points (routes_of c.args.routes.now) c.args.entries.now))
     (steps_stop (λ (route : Route) (sent : Sent). next_if passes_Q (goes_over route.links c.args.link) c.args.exit.now.points sent)
-        (routes_of c.args.routes.now) c.args.entries.now c.loop-i.entries c.loop-i.i c.loop-i.invariant.0
+    (routes_of c.args.routes.now) c.args.entries.now c.loop-i.entries c.loop-i.i c.loop-i.invariant.0
     c.index-routes-i.result.route (get_or c.loop-i.entries c.loop-i.i c.index-entries-i.result) at
-        (slice_get-get_or c.loop-i.entries c.loop-i.i c.index-entries-i.result there) c.in_err-send_on.field-0.0 c.in_err-send_on.ensures.list))
+    (slice_get-get_or c.loop-i.entries c.loop-i.i c.index-entries-i.result there) c.in_err-send_on.field-0.0 c.in_err-send_on.ensures.list))
 
 pub loop-i-preserved : goal.loop-i-preserved
 loop-i-preserved c =
@@ -68,7 +68,7 @@ loop-i-preserved c =
           (routes_of c.args.routes.now) c.args.entries.now c.loop-i.entries c.loop-i.i c.loop-i.invariant.0
           c.index-routes-i.result.route (get_or c.loop-i.entries c.loop-i.i c.index-entries-i.result)
           (slice_get-image (λ (r : NamedRoute). r.route) c.args.routes.now c.loop-i.i c.index-routes-i.result
-              (slice_get_read c.args.routes.now _ c.loop-i.i c.index-routes-i.result refl inside c.index-routes-i.is))
+          (slice_get_read c.args.routes.now _ c.loop-i.i c.index-routes-i.result refl inside c.index-routes-i.is))
           (slice_get-get_or c.loop-i.entries c.loop-i.i c.index-entries-i.result there) c.send_on.new.sent c.in_ok-send_on.ensures.list,
       c.send_on.ensures.known,
     )
@@ -81,4 +81,4 @@ returns c =
     let over : length c.args.entries.now ≤ c.loop-i.i = omega arith in
     ap (at_part Load) (next_all-is passes_Q c.args.link c.args.exit.now.points (routes_of c.args.routes.now) c.args.entries.now)
     ∙ steps_last (λ (route : Route) (sent : Sent). next_if passes_Q (goes_over route.links c.args.link) c.args.exit.now.points sent)
-        (routes_of c.args.routes.now) c.args.entries.now c.loop-i.entries c.loop-i.i c.loop-i.invariant.0 past over
+    (routes_of c.args.routes.now) c.args.entries.now c.loop-i.entries c.loop-i.i c.loop-i.invariant.0 past over

@@ -15,6 +15,6 @@ pub returns-in_ok-keep_last_all-in-Last : goal.returns-in_ok-keep_last_all-in-La
 returns-in_ok-keep_last_all-in-Last c =
     let items = with_items_is c.args.so_far.now.entries c.keep_last_all.new.entries (c.keep_last_all.auto.entries ∙ c.deref_mut.ensures.len) in
     let alone : c.keep_last_all.new.entries ≡ map last_alone c.args.so_far.now.entries.items = c.in_ok-keep_last_all-in-Last.ensures
-        ∙ ap (λ (l : List Sent). map last_alone l) c.deref_mut.ensures.value in
+    ∙ ap (λ (l : List Sent). map last_alone l) c.deref_mut.ensures.value in
     let to : List Sent → SoFar = λ l. record { links = c.args.so_far.now.links.items; entries = l } in
     ap to (items ∙ alone) ∙ ap (λ (k : Kept). kept_after k (seen_so_far c.args.so_far.now)) (sym c.in-Last.is)

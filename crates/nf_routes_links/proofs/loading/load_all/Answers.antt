@@ -8,7 +8,7 @@ loop-link-init c =
     let order : c.deref-link-items.result.now ≡ loading_order (length c.args.net.now.net.links) (routes_of c.args.routes.now) =
     c.deref-link-items.ensures.value ∙ c.in_ok-order.ensures ∙ ap (λ (n : ℕ). loading_order n (routes_of c.args.routes.now)) c.link_count.ensures in
     loads_first passes_Q c.args.kept c.args.net.now.net (routes_of c.args.routes.now) c.args.horizon c.deref-link-items.result.now order c.requires.routes
-        (seen_so_far c.in_ok-so_far.so_far) c.in_ok-so_far.ensures.links c.in_ok-so_far.ensures.entries
+    (seen_so_far c.in_ok-so_far.so_far) c.in_ok-so_far.ensures.links c.in_ok-so_far.ensures.entries
 
 pub load_here-requires-clause-link : goal.load_here-requires-clause-link
 load_here-requires-clause-link c =
@@ -23,7 +23,7 @@ load_here-requires-clause-may c =
     c.deref-link-items.ensures.value ∙ c.in_ok-order.ensures ∙ ap (λ (n : ℕ). loading_order n (routes_of c.args.routes.now)) c.link_count.ensures in
     let at = slice_get_read c.deref-link-items.result.now _ c.loop-link.link-index c.link-item.result refl c.loop-link-test.true c.link-item.is in
     may_load_at c.args.net.now.net (routes_of c.args.routes.now) c.deref-link-items.result.now order c.loop-link.link-index c.link-item.result at
-        (seen_so_far c.loop-link.so_far) c.loop-link.invariant.stands
+    (seen_so_far c.loop-link.so_far) c.loop-link.invariant.stands
 
 pub returns-in_err-load_here-clause-list : goal.returns-in_err-load_here-clause-list
 returns-in_err-load_here-clause-list c =
@@ -32,8 +32,8 @@ returns-in_err-load_here-clause-list c =
     c.deref-link-items.ensures.value ∙ c.in_ok-order.ensures ∙ ap (λ (n : ℕ). loading_order n (routes_of c.args.routes.now)) c.link_count.ensures in
     let at = slice_get_read c.deref-link-items.result.now _ c.loop-link.link-index c.link-item.result refl c.loop-link-test.true c.link-item.is in
     rw (p.1, p.2) (loads_stop passes_Q c.args.kept c.args.net.now.net (routes_of c.args.routes.now) c.args.horizon c.deref-link-items.result.now order
-        (seen_so_far c.loop-link.so_far) c.loop-link.link-index c.loop-link.invariant c.link-item.result at c.in_err-load_here.field-0.0
-        c.in_err-load_here.ensures)
+    (seen_so_far c.loop-link.so_far) c.loop-link.link-index c.loop-link.invariant c.link-item.result at c.in_err-load_here.field-0.0
+    c.in_err-load_here.ensures)
 
 pub loop-link-preserved : goal.loop-link-preserved
 loop-link-preserved c =
@@ -41,12 +41,12 @@ loop-link-preserved c =
     c.deref-link-items.ensures.value ∙ c.in_ok-order.ensures ∙ ap (λ (n : ℕ). loading_order n (routes_of c.args.routes.now)) c.link_count.ensures in
     let at = slice_get_read c.deref-link-items.result.now _ c.loop-link.link-index c.link-item.result refl c.loop-link-test.true c.link-item.is in
     let one = entry c.args.net.now.net.links c.link-item.result (placed_at c.args.net.now.net
-        (routes_of c.args.routes.now) c.deref-link-items.result.now order c.loop-link.link-index c.link-item.result at).below in
+    (routes_of c.args.routes.now) c.deref-link-items.result.now order c.loop-link.link-index c.link-item.result at).below in
     subst (λ (s : SoFar). Loads passes_Q c.args.kept c.args.net.now.net (routes_of c.args.routes.now) c.args.horizon c.deref-link-items.result.now s
-        (c.loop-link.link-index + 1)) (sym c.in_ok-keep.ensures)
+    (c.loop-link.link-index + 1)) (sym c.in_ok-keep.ensures)
     (loads_go passes_Q c.args.kept c.args.net.now.net (routes_of c.args.routes.now) c.args.horizon c.deref-link-items.result.now order
-        (seen_so_far c.loop-link.so_far) c.loop-link.link-index c.loop-link.invariant c.link-item.result at one.0
-        (seen_so_far c.load_here.new.so_far) one.1 c.requires.horizon c.recall.ensures.network c.in_ok-load_here.ensures)
+    (seen_so_far c.loop-link.so_far) c.loop-link.link-index c.loop-link.invariant c.link-item.result at one.0
+    (seen_so_far c.load_here.new.so_far) one.1 c.requires.horizon c.recall.ensures.network c.in_ok-load_here.ensures)
 
 pub returns-clause-complete : goal.returns-clause-complete
 returns-clause-complete c =
@@ -54,7 +54,7 @@ returns-clause-complete c =
     c.deref-link-items.ensures.value ∙ c.in_ok-order.ensures ∙ ap (λ (n : ℕ). loading_order n (routes_of c.args.routes.now)) c.link_count.ensures in
     let past : length c.deref-link-items.result.now ≤ c.loop-link.link-index = omega arith in
     stands_complete c.args.net.now.net (routes_of c.args.routes.now) c.deref-link-items.result.now order c.requires.routes
-        (seen_so_far c.loop-link.so_far) c.loop-link.link-index c.loop-link.invariant.stands past c.recall.ensures.network c.requires.straight
+    (seen_so_far c.loop-link.so_far) c.loop-link.link-index c.loop-link.invariant.stands past c.recall.ensures.network c.requires.straight
 
 pub load_here-requires-clause-horizon : goal.load_here-requires-clause-horizon
 load_here-requires-clause-horizon c = c.requires.horizon
@@ -89,7 +89,7 @@ returns-clause-list c =
     let order : c.deref-link-items.result.now ≡ loading_order (length c.args.net.now.net.links) (routes_of c.args.routes.now) =
     c.deref-link-items.ensures.value ∙ c.in_ok-order.ensures ∙ ap (λ (n : ℕ). loading_order n (routes_of c.args.routes.now)) c.link_count.ensures in
     loads_last passes_Q c.args.kept c.args.net.now.net (routes_of c.args.routes.now) c.args.horizon c.deref-link-items.result.now order
-        (seen_so_far c.loop-link.so_far) c.loop-link.link-index c.loop-link.invariant c.loop-link-test.false
+    (seen_so_far c.loop-link.so_far) c.loop-link.link-index c.loop-link.invariant c.loop-link-test.false
 
 pub returns-in_err-keep-clause-list : goal.returns-in_err-keep-clause-list
 returns-in_err-keep-clause-list c =

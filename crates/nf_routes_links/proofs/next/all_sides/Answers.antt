@@ -17,7 +17,7 @@ loop-now-init c = record {
   there = c.first_moment.ensures.there;
   so_far =
       ap (λ (l : List Sides). with_front (map sides_of l) (each (sides_at passes_Q c.args.left.now c.args.right.now)
-          (c.first_moment.result.time ∷ times_after c.first_moment.result.time c.args.left.now c.args.right.now))) c.in_ok-all.ensures.items
+      (c.first_moment.result.time ∷ times_after c.first_moment.result.time c.args.left.now c.args.right.now))) c.in_ok-all.ensures.items
       ∙ front_none (each (sides_at passes_Q c.args.left.now c.args.right.now) (c.first_moment.result.time ∷ times_after c.first_moment.result.time c.args.left.now c.args.right.now))
       ∙ ap (λ (l : List ℚ). each (sides_at passes_Q c.args.left.now c.args.right.now) l) (sym c.first_moment.ensures.times);
 }
@@ -62,7 +62,7 @@ returns-in_err-sides c =
 pub loop-now-preserved : goal.loop-now-preserved
 loop-now-preserved c =
     let w : with_front (map sides_of c.push.new.self.items) (each (sides_at passes_Q c.args.left.now c.args.right.now)
-        (times_after c.in-Some.moment.time c.args.left.now c.args.right.now))
+    (times_after c.in-Some.moment.time c.args.left.now c.args.right.now))
     ≡ each (sides_at passes_Q c.args.left.now c.args.right.now) (both_times c.args.left.now c.args.right.now) =
     ap (λ l. with_front l (each (sides_at passes_Q c.args.left.now c.args.right.now) (times_after c.in-Some.moment.time c.args.left.now c.args.right.now)))
     (ap (map sides_of) c.in_ok-push.ensures.items ∙ map_push sides_of c.loop-now.all.items c.in_ok-sides.sides)

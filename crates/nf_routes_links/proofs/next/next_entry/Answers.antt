@@ -14,20 +14,20 @@ returns-in_err-sides-clause-list c =
     let entered : c.as_points.result.now ≡ c.args.entry.now.points = c.as_points.ensures.points in
     let exits : c.as_points-2.result.now ≡ c.args.exit.now.points = c.as_points-2.ensures.points in
     rw (p.1, p.2) (stops_on c.in_err-sides.field-0.0 (at_part Load (each (sides_at passes_Q c.args.entry.now.points c.args.exit.now.points)
-        (both_times c.args.entry.now.points c.args.exit.now.points)))
+    (both_times c.args.entry.now.points c.args.exit.now.points)))
     (at_part Load (next_entry passes_Q c.args.exit.now.points c.args.entry.now.points))
     (sides_stop passes_Q c.args.exit.now.points c.args.entry.now.points c.requires.exits c.requires.amount)
     (subst (λ (l : List Point). Stops (λ (q : ℚ). q) c.in_err-sides.field-0.0
-        (at_part Load (each (sides_at passes_Q l c.args.exit.now.points) (both_times l c.args.exit.now.points)))) entered
+    (at_part Load (each (sides_at passes_Q l c.args.exit.now.points) (both_times l c.args.exit.now.points)))) entered
     (subst (λ (l : List Point). Stops (λ (q : ℚ). q) c.in_err-sides.field-0.0
-        (at_part Load (each (sides_at passes_Q c.as_points.result.now l) (both_times c.as_points.result.now l)))) exits c.in_err-sides.ensures)))
+    (at_part Load (each (sides_at passes_Q c.as_points.result.now l) (both_times c.as_points.result.now l)))) exits c.in_err-sides.ensures)))
 
 pub of_points-curve-requires : goal.of_points-curve-requires
 of_points-curve-requires c =
     let entered : c.as_points.result.now ≡ c.args.entry.now.points = c.as_points.ensures.points in
     let exits : c.as_points-2.result.now ≡ c.args.exit.now.points = c.as_points-2.ensures.points in
     let sides : at_part Load (each (sides_at passes_Q c.args.entry.now.points c.args.exit.now.points)
-        (both_times c.args.entry.now.points c.args.exit.now.points)) ≡ Ok (map sides_of c.in_ok-sides.sides.items) =
+    (both_times c.args.entry.now.points c.args.exit.now.points)) ≡ Ok (map sides_of c.in_ok-sides.sides.items) =
     ap (λ (l : List Point). at_part Load (each (sides_at passes_Q l c.args.exit.now.points) (both_times l c.args.exit.now.points))) (sym entered)
     ∙ ap (λ (l : List Point). at_part Load (each (sides_at passes_Q c.as_points.result.now l) (both_times c.as_points.result.now l))) (sym exits) ∙ c.in_ok-sides.ensures in
     let points : c.in_ok-points.points.items ≡ (0ℚ, 0ℚ) ∷ next_from 0ℚ (map sides_of c.in_ok-sides.sides.items) =
@@ -35,14 +35,14 @@ of_points-curve-requires c =
     subst (λ (l : List Point). IsCurve l) (sym points)
     (points_curve passes_Q c.args.exit.now.points c.args.entry.now.points c.requires.exits c.requires.amount (map sides_of c.in_ok-sides.sides.items)
     (was_ok Load (each (sides_at passes_Q c.args.entry.now.points c.args.exit.now.points) (both_times c.args.entry.now.points c.args.exit.now.points))
-        (map sides_of c.in_ok-sides.sides.items) sides))
+    (map sides_of c.in_ok-sides.sides.items) sides))
 
 pub returns-clause-list : goal.returns-clause-list
 returns-clause-list c =
     let entered : c.as_points.result.now ≡ c.args.entry.now.points = c.as_points.ensures.points in
     let exits : c.as_points-2.result.now ≡ c.args.exit.now.points = c.as_points-2.ensures.points in
     let sides : at_part Load (each (sides_at passes_Q c.args.entry.now.points c.args.exit.now.points)
-        (both_times c.args.entry.now.points c.args.exit.now.points)) ≡ Ok (map sides_of c.in_ok-sides.sides.items) =
+    (both_times c.args.entry.now.points c.args.exit.now.points)) ≡ Ok (map sides_of c.in_ok-sides.sides.items) =
     ap (λ (l : List Point). at_part Load (each (sides_at passes_Q l c.args.exit.now.points) (both_times l c.args.exit.now.points))) (sym entered)
     ∙ ap (λ (l : List Point). at_part Load (each (sides_at passes_Q c.as_points.result.now l) (both_times c.as_points.result.now l))) (sym exits) ∙ c.in_ok-sides.ensures in
     let curve : c.of_points-curve.result.points ≡ (0ℚ, 0ℚ) ∷ next_from 0ℚ (map sides_of c.in_ok-sides.sides.items) =
@@ -60,7 +60,7 @@ returns-clause-amount c =
 pub returns-clause-next : goal.returns-clause-next
 returns-clause-next c = λ last can.
     gives_ok (λ c'. c'.points) c.short.result (next_entry passes_Q c.args.exit.now.points c.args.entry.now.points)
-        (λ (l : List Point). IsSentOn c.args.exit.now.points c.args.entry.now.points last l) (returns-clause-list c)
+    (λ (l : List Point). IsSentOn c.args.exit.now.points c.args.entry.now.points last l) (returns-clause-list c)
     (next_entry-is passes_Q c.args.exit.now.points c.args.entry.now.points last can)
 
 pub all_sides-requires-clause-known : goal.all_sides-requires-clause-known
@@ -77,14 +77,14 @@ returns-clause-known c =
     let entered : c.as_points.result.now ≡ c.args.entry.now.points = c.as_points.ensures.points in
     let exits : c.as_points-2.result.now ≡ c.args.exit.now.points = c.as_points-2.ensures.points in
     let sides : at_part Load (each (sides_at passes_Q c.args.entry.now.points c.args.exit.now.points)
-        (both_times c.args.entry.now.points c.args.exit.now.points)) ≡ Ok (map sides_of c.in_ok-sides.sides.items) =
+    (both_times c.args.entry.now.points c.args.exit.now.points)) ≡ Ok (map sides_of c.in_ok-sides.sides.items) =
     ap (λ (l : List Point). at_part Load (each (sides_at passes_Q l c.args.exit.now.points) (both_times l c.args.exit.now.points))) (sym entered)
     ∙ ap (λ (l : List Point). at_part Load (each (sides_at passes_Q c.as_points.result.now l) (both_times c.as_points.result.now l))) (sym exits) ∙ c.in_ok-sides.ensures in
     c.keep_exits.ensures c.args.exit.now.points
     (subst (λ (l : List Sides). AreKnown c.args.exit.now.points (map right_point (map sides_of l))) (sym c.deref.ensures.value)
     (known_next c.args.entry.now.points c.args.exit.now.points (map sides_of c.in_ok-sides.sides.items)
     (was_ok Load (each (sides_at passes_Q c.args.entry.now.points c.args.exit.now.points) (both_times c.args.entry.now.points c.args.exit.now.points))
-        (map sides_of c.in_ok-sides.sides.items) sides)))
+    (map sides_of c.in_ok-sides.sides.items) sides)))
     c.requires.known
 
 pub returns-in_err-keep_exits-clause-known : goal.returns-in_err-keep_exits-clause-known
@@ -92,14 +92,14 @@ returns-in_err-keep_exits-clause-known c =
     let entered : c.as_points.result.now ≡ c.args.entry.now.points = c.as_points.ensures.points in
     let exits : c.as_points-2.result.now ≡ c.args.exit.now.points = c.as_points-2.ensures.points in
     let sides : at_part Load (each (sides_at passes_Q c.args.entry.now.points c.args.exit.now.points)
-        (both_times c.args.entry.now.points c.args.exit.now.points)) ≡ Ok (map sides_of c.in_ok-sides.sides.items) =
+    (both_times c.args.entry.now.points c.args.exit.now.points)) ≡ Ok (map sides_of c.in_ok-sides.sides.items) =
     ap (λ (l : List Point). at_part Load (each (sides_at passes_Q l c.args.exit.now.points) (both_times l c.args.exit.now.points))) (sym entered)
     ∙ ap (λ (l : List Point). at_part Load (each (sides_at passes_Q c.as_points.result.now l) (both_times c.as_points.result.now l))) (sym exits) ∙ c.in_ok-sides.ensures in
     c.keep_exits.ensures c.args.exit.now.points
     (subst (λ (l : List Sides). AreKnown c.args.exit.now.points (map right_point (map sides_of l))) (sym c.deref.ensures.value)
     (known_next c.args.entry.now.points c.args.exit.now.points (map sides_of c.in_ok-sides.sides.items)
     (was_ok Load (each (sides_at passes_Q c.args.entry.now.points c.args.exit.now.points) (both_times c.args.entry.now.points c.args.exit.now.points))
-        (map sides_of c.in_ok-sides.sides.items) sides)))
+    (map sides_of c.in_ok-sides.sides.items) sides)))
     c.requires.known
 
 pub returns-in_err-points-clause-known : goal.returns-in_err-points-clause-known
@@ -107,12 +107,12 @@ returns-in_err-points-clause-known c =
     let entered : c.as_points.result.now ≡ c.args.entry.now.points = c.as_points.ensures.points in
     let exits : c.as_points-2.result.now ≡ c.args.exit.now.points = c.as_points-2.ensures.points in
     let sides : at_part Load (each (sides_at passes_Q c.args.entry.now.points c.args.exit.now.points)
-        (both_times c.args.entry.now.points c.args.exit.now.points)) ≡ Ok (map sides_of c.in_ok-sides.sides.items) =
+    (both_times c.args.entry.now.points c.args.exit.now.points)) ≡ Ok (map sides_of c.in_ok-sides.sides.items) =
     ap (λ (l : List Point). at_part Load (each (sides_at passes_Q l c.args.exit.now.points) (both_times l c.args.exit.now.points))) (sym entered)
     ∙ ap (λ (l : List Point). at_part Load (each (sides_at passes_Q c.as_points.result.now l) (both_times c.as_points.result.now l))) (sym exits) ∙ c.in_ok-sides.ensures in
     c.keep_exits.ensures c.args.exit.now.points
     (subst (λ (l : List Sides). AreKnown c.args.exit.now.points (map right_point (map sides_of l))) (sym c.deref.ensures.value)
     (known_next c.args.entry.now.points c.args.exit.now.points (map sides_of c.in_ok-sides.sides.items)
     (was_ok Load (each (sides_at passes_Q c.args.entry.now.points c.args.exit.now.points) (both_times c.args.entry.now.points c.args.exit.now.points))
-        (map sides_of c.in_ok-sides.sides.items) sides)))
+    (map sides_of c.in_ok-sides.sides.items) sides)))
     c.requires.known

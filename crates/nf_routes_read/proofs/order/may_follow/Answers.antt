@@ -14,7 +14,7 @@ loop-i-preserved c =
       | else-eq-via-then-eq+else-not-is_taken w ↦ (
         pairs_taken c.args.links.now c.args.taken.now c.args.link c.loop-i.i c.loop-i.invariant.1 c.loop-i.invariant.0 w.index-links-i-then-eq.result c.index-links-i.result
             (slice_get_read c.args.links.now _ (c.loop-i.i - 1) w.index-links-i-then-eq.result refl before w.index-links-i-then-eq.is) here
-                (sym w.is_taken.ensures ∙ w.if-not-is_taken.false),
+            (sym w.is_taken.ensures ∙ w.if-not-is_taken.false),
         omega arith,
       )
       | else-eq-via-else-eq w ↦

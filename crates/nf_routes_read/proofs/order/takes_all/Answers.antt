@@ -8,13 +8,13 @@ pub returns-then-not-is_taken : goal.returns-then-not-is_taken
 unfolding takes_all
 returns-then-not-is_taken c =
     all-off c.in_ok-order.order.items _ c.loop-number.number c.args.link_count c.loop-number.invariant (omega arith)
-        (ap (λ (l : List ℕ). is_taken l c.loop-number.number) (sym c.deref.ensures.value) ∙ sym c.is_taken.ensures ∙ c.if-not-is_taken.true)
+    (ap (λ (l : List ℕ). is_taken l c.loop-number.number) (sym c.deref.ensures.value) ∙ sym c.is_taken.ensures ∙ c.if-not-is_taken.true)
     ∙ ap (λ (l : List ℕ). list_all (λ (e : ℕ). is_taken l e) (range_with_len 0 c.args.link_count)) c.in_ok-order.ensures
 
 pub loop-number-preserved : goal.loop-number-preserved
 loop-number-preserved c =
     all-on c.in_ok-order.order.items _ c.loop-number.number c.args.link_count c.loop-number.invariant (omega arith)
-        (ap (λ (l : List ℕ). is_taken l c.loop-number.number) (sym c.deref.ensures.value) ∙ sym c.is_taken.ensures ∙ c.if-not-is_taken.false)
+    (ap (λ (l : List ℕ). is_taken l c.loop-number.number) (sym c.deref.ensures.value) ∙ sym c.is_taken.ensures ∙ c.if-not-is_taken.false)
 
 pub returns : goal.returns
 unfolding takes_all

@@ -10,7 +10,7 @@ loop-line-init g c = (refl, c.requires)
 pub returns-in-Err-clause-adds : goal.returns-in-Err-clause-adds
 returns-in-Err-clause-adds g c =
     line_refused (g.D.SideDraft.frame c.args.net.now).add c.loop-line.draft c.args.lines.now c.loop-line.line-index c.line-item.result c.loop-line-test.true
-        c.line-item.is _ c.loop-line.invariant.0
+    c.line-item.is _ c.loop-line.invariant.0
     c.in-Err.fault c.number.result c.in_line.result c.in_line.ensures c.number.ensures c.in-Err.ensures.adds
 
 pub loop-line-preserved : goal.loop-line-preserved

@@ -27,14 +27,14 @@ pub returns-in_err-found : goal.returns-in_err-found
 returns-in_err-found c =
     let p = err_from_is_err_and c.from_residual-in_err-found.result c.from_residual-in_err-found.ensures.1 in
     rw (p.1, p.2) (by_fault passes_Q c.args.problem.now.ranking.net.now.net c.args.problem.now.ranking.sets.now c.args.problem.now.rate
-        c.args.problem.now.ranking.base.now c.in_ok-forced.forced c.args.problem.now.ranking.budget
+    c.args.problem.now.ranking.base.now c.in_ok-forced.forced c.args.problem.now.ranking.budget
     (forcing_by c.args.problem.now.ranking.net.now.net c.args.problem.now.ranking.sets.now c.args.problem.now.rate c.args.problem.now.ranking.base.now
-        c.in_ok-forced.forced c.args.guide.now.known.slopes.items c.requires.problem.named.network c.requires.problem.sets c.requires.guide.acyclic
-        c.requires.guide.thin c.requires.problem.base
+    c.in_ok-forced.forced c.args.guide.now.known.slopes.items c.requires.problem.named.network c.requires.problem.sets c.requires.guide.acyclic
+    c.requires.guide.thin c.requires.problem.base
     (c.in_ok-forced.ensures ∙ ap (λ (s : List ℚ). forced_by c.args.problem.now.ranking.net.now.net s c.args.problem.now.ranking.base.now) c.deref.ensures.value))
     (allowed_by c.args.problem.now.ranking.net.now.net c.args.problem.now.ranking.sets.now c.args.problem.now.rate c.args.problem.now.ranking.base.now
-        c.in_ok-forced.forced c.args.guide.now.known.slopes.items c.requires.problem.named.network c.requires.problem.sets c.requires.guide.acyclic
-        c.requires.guide.thin c.requires.problem.base
+    c.in_ok-forced.forced c.args.guide.now.known.slopes.items c.requires.problem.named.network c.requires.problem.sets c.requires.guide.acyclic
+    c.requires.guide.thin c.requires.problem.base
     (c.in_ok-forced.ensures ∙ ap (λ (s : List ℚ). forced_by c.args.problem.now.ranking.net.now.net s c.args.problem.now.ranking.base.now) c.deref.ensures.value))
     c.requires.problem.base (posed_question c.args.problem.now.ranking c.requires.problem) c.in_err-found.field-0.0 c.in_err-found.ensures)
 
@@ -44,13 +44,13 @@ returns c =
     (by_within passes_Q c.args.problem.now.ranking.net.now.net c.args.problem.now.ranking.sets.now c.args.problem.now.rate
     c.args.problem.now.ranking.base.now c.in_ok-forced.forced c.args.problem.now.ranking.budget
     (forcing_by c.args.problem.now.ranking.net.now.net c.args.problem.now.ranking.sets.now c.args.problem.now.rate c.args.problem.now.ranking.base.now
-        c.in_ok-forced.forced c.args.guide.now.known.slopes.items c.requires.problem.named.network c.requires.problem.sets c.requires.guide.acyclic
-        c.requires.guide.thin c.requires.problem.base
+    c.in_ok-forced.forced c.args.guide.now.known.slopes.items c.requires.problem.named.network c.requires.problem.sets c.requires.guide.acyclic
+    c.requires.guide.thin c.requires.problem.base
     (c.in_ok-forced.ensures ∙ ap (λ (s : List ℚ). forced_by c.args.problem.now.ranking.net.now.net s c.args.problem.now.ranking.base.now) c.deref.ensures.value))
     (allowed_by c.args.problem.now.ranking.net.now.net c.args.problem.now.ranking.sets.now c.args.problem.now.rate c.args.problem.now.ranking.base.now
-        c.in_ok-forced.forced c.args.guide.now.known.slopes.items c.requires.problem.named.network c.requires.problem.sets c.requires.guide.acyclic
-        c.requires.guide.thin c.requires.problem.base
+    c.in_ok-forced.forced c.args.guide.now.known.slopes.items c.requires.problem.named.network c.requires.problem.sets c.requires.guide.acyclic
+    c.requires.guide.thin c.requires.problem.base
     (c.in_ok-forced.ensures ∙ ap (λ (s : List ℚ). forced_by c.args.problem.now.ranking.net.now.net s c.args.problem.now.ranking.base.now) c.deref.ensures.value))
     c.requires.problem.base (posed_question c.args.problem.now.ranking c.requires.problem) c.in-Some.thin
     (subst (λ o. NarrowFinds passes_Q c.args.problem.now.ranking.net.now.net c.args.problem.now.ranking.sets.now c.args.problem.now.rate
-        c.args.problem.now.ranking.base.now c.in_ok-forced.forced c.args.problem.now.ranking.budget (Ok o)) c.in-Some.is c.in_ok-found.ensures))
+    c.args.problem.now.ranking.base.now c.in_ok-forced.forced c.args.problem.now.ranking.budget (Ok o)) c.in-Some.is c.in_ok-found.ensures))

@@ -8,4 +8,4 @@ use Rattle.nf_thin.proofs.finding.find_by_slopes.Goals as goal
 pub find_by-requires-clause-guide : goal.find_by-requires-clause-guide
 find_by-requires-clause-guide c =
     subst (λ (found : Option Guide). IfSome found (λ guide. Guides passes_Q c.args.problem.now.ranking.net.now.net c.args.problem.now.ranking.sets.now
-        c.args.problem.now.rate guide)) c.in-Some.is c.in_ok-guide.ensures
+    c.args.problem.now.rate guide)) c.in-Some.is c.in_ok-guide.ensures

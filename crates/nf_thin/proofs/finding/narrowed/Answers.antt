@@ -20,7 +20,7 @@ narrow_listing-requires-clause-unbounded c =
 pub narrow_listing-requires-clause-base : goal.narrow_listing-requires-clause-base
 narrow_listing-requires-clause-base c =
     subst (λ (flags : List Bool). IsPattern c.args.ranking.now.sets.now flags c.args.ranking.now.base.now)
-        (sym (c.deref.ensures.value ∙ c.in_ok-unbounded.ensures)) c.requires.ranking.base
+    (sym (c.deref.ensures.value ∙ c.in_ok-unbounded.ensures)) c.requires.ranking.base
 
 pub narrow_listing-requires-clause-forcing : goal.narrow_listing-requires-clause-forcing
 narrow_listing-requires-clause-forcing c =

@@ -35,7 +35,7 @@ returns-then-is_one_pattern c = (
 pub returns-in_default : goal.returns-in_default
 returns-in_default c =
     tried_counts passes_Q c.args.problem.now.ranking.net.now.net c.args.problem.now.ranking.sets.now c.args.problem.now.rate
-        c.args.problem.now.ranking.budget c.args.pattern.now c.args.vain.now c.try_next.new.vain c.try_next.result c.try_next.ensures
+    c.args.problem.now.ranking.budget c.args.pattern.now c.args.vain.now c.try_next.new.vain c.try_next.result c.try_next.ensures
 
 pub returns : goal.returns
 returns c = (
@@ -44,7 +44,7 @@ returns c = (
     one_more = add-one c.args.vain.now.tried;
     not_accepted = λ accepted. none-some c.in-Some.node (sym (c.in_ok-node.ensures c.args.problem.now.rate accepted.solvable.slopes accepted.solvable.flows
         (scaled_at c.args.problem.now.ranking.net.now.net c.args.problem.now.ranking.sets.now c.args.problem.now.rate c.args.pattern.now c.requires.listed
-            accepted.solvable c.args.guide.now.scaled c.args.guide.now.known.slopes.items
+        accepted.solvable c.args.guide.now.scaled c.args.guide.now.known.slopes.items
         c.requires.guide.slopes c.requires.guide.scaled)
         accepted.solvable.solution.solves accepted.solvable.solution.meets)
         ∙ c.in-Some.is);

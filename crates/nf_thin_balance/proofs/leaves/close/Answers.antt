@@ -29,12 +29,12 @@ returns-clause-count c = ap (λ (l : List Range). length l) c.put_range-2.ensure
 pub returns-clause-keeps : goal.returns-clause-keeps
 returns-clause-keeps c flow within conserved =
     let f = link_read c.args.net.now.net c.hops.result.now c.args.link c.index.result c.index-hops-index.result c.hops.ensures.value c.index.ensures
-        c.requires.link c.index-hops-index.is in
+    c.requires.link c.index-hops-index.is in
     let below : c.args.link < length c.args.ranges.now.items = (let n = c.requires.ranges in let l = c.requires.link in omega arith) in
     let none : IsWithin c.zero.result 0ℚ = c.zero.ensures in
     let others = c.surplus_range-others.ensures (but c.args.link flow)
     (subst (λ (l : List Range). AreWithin l (but c.args.link flow)) (sym (c.deref-2.ensures.value ∙ c.put_range.ensures))
-        (within_but c.args.ranges.now.items c.args.link c.zero.result flow below within none)) in
+    (within_but c.args.ranges.now.items c.args.link c.zero.result flow below within none)) in
     let fits : IsWithin c.left_for-flow.result (flow c.args.link) = c.left_for-flow.ensures (flow c.args.link) _ _ others
     (c.needed.ensures conserved.0 conserved.1)
     (needs_link c.args.net.now.net flow c.args.node c.args.link f.0 f.1 (needed_at c.args.net.now.net conserved.0 c.args.node) (conserved.2 c.args.node c.requires.node)

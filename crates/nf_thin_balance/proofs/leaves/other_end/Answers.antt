@@ -15,11 +15,11 @@ bounds-hops-index c =
 pub returns-then-eq : goal.returns-then-eq
 returns-then-eq c =
     let f = link_read c.args.net.now.net c.hops.result.now c.args.link c.index.result c.index-hops-index.result c.hops.ensures.value c.index.ensures
-        c.requires.link c.index-hops-index.is in
+    c.requires.link c.index-hops-index.is in
     subst (λ (v : ℕ). v < c.args.net.now.net.nodes) (f.3 ∙ ap (λ (h : Hop). h.head) (sym c.hop.view_is)) (c.hops.ensures.named.network.heads c.args.link f.0 f.1)
 
 pub returns-else-eq : goal.returns-else-eq
 returns-else-eq c =
     let f = link_read c.args.net.now.net c.hops.result.now c.args.link c.index.result c.index-hops-index.result c.hops.ensures.value c.index.ensures
-        c.requires.link c.index-hops-index.is in
+    c.requires.link c.index-hops-index.is in
     subst (λ (v : ℕ). v < c.args.net.now.net.nodes) (f.2 ∙ ap (λ (h : Hop). h.tail) (sym c.hop.view_is)) (c.hops.ensures.named.network.tails c.args.link f.0 f.1)

@@ -9,7 +9,7 @@ use Rattle.nf_thin_balance.proofs.links_at.add_first.Goals as goal
 pub number_at-requires : goal.number_at-requires
 number_at-requires c =
     let f = link_read c.args.net.now.net c.hops.result.now c.args.link c.index.result c.index-hops-index.result c.hops.ensures.value c.index.ensures
-        c.requires.link c.index-hops-index.is in
+    c.requires.link c.index-hops-index.is in
     let is : (f.0).tail ≡ c.hop.inside.tail = f.2 ∙ ap (λ (h : Hop). h.tail) (sym c.hop.view_is) in
     let below = c.hops.ensures.named.network.tails c.args.link f.0 f.1 in
     let n : length c.deref.result.now ≡ c.args.net.now.net.nodes = ap (λ (l : List ℕ). length l) c.deref.ensures.value ∙ c.requires.later.nodes in
@@ -19,7 +19,7 @@ number_at-requires c =
 pub number_at-requires-2 : goal.number_at-requires-2
 number_at-requires-2 c =
     let f = link_read c.args.net.now.net c.hops.result.now c.args.link c.index.result c.index-hops-index.result c.hops.ensures.value c.index.ensures
-        c.requires.link c.index-hops-index.is in
+    c.requires.link c.index-hops-index.is in
     let is : (f.0).head ≡ c.hop.inside.head = f.3 ∙ ap (λ (h : Hop). h.head) (sym c.hop.view_is) in
     let below = c.hops.ensures.named.network.heads c.args.link f.0 f.1 in
     let n : length c.deref-2.result.now ≡ c.args.net.now.net.nodes = ap (λ (l : List ℕ). length l) c.deref-2.ensures.value ∙ c.requires.later.nodes in
@@ -29,7 +29,7 @@ number_at-requires-2 c =
 pub put_number-requires-3 : goal.put_number-requires-3
 put_number-requires-3 c =
     let f = link_read c.args.net.now.net c.hops.result.now c.args.link c.index.result c.index-hops-index.result c.hops.ensures.value c.index.ensures
-        c.requires.link c.index-hops-index.is in
+    c.requires.link c.index-hops-index.is in
     let is : (f.0).tail ≡ c.hop.inside.tail = f.2 ∙ ap (λ (h : Hop). h.tail) (sym c.hop.view_is) in
     let below = c.hops.ensures.named.network.tails c.args.link f.0 f.1 in
     let n = c.requires.later.nodes in
@@ -39,7 +39,7 @@ put_number-requires-3 c =
 pub put_number-requires-4 : goal.put_number-requires-4
 put_number-requires-4 c =
     let f = link_read c.args.net.now.net c.hops.result.now c.args.link c.index.result c.index-hops-index.result c.hops.ensures.value c.index.ensures
-        c.requires.link c.index-hops-index.is in
+    c.requires.link c.index-hops-index.is in
     let is : (f.0).head ≡ c.hop.inside.head = f.3 ∙ ap (λ (h : Hop). h.head) (sym c.hop.view_is) in
     let below = c.hops.ensures.named.network.heads c.args.link f.0 f.1 in
     let n : length c.put_number-3.new.numbers.items ≡ c.args.net.now.net.nodes = ap (λ (l : List ℕ). length l) c.put_number-3.ensures
@@ -50,7 +50,7 @@ put_number-requires-4 c =
 pub returns : goal.returns
 returns c =
     let f = link_read c.args.net.now.net c.hops.result.now c.args.link c.index.result c.index-hops-index.result c.hops.ensures.value c.index.ensures
-        c.requires.link c.index-hops-index.is in
+    c.requires.link c.index-hops-index.is in
     let tail_is : (f.0).tail ≡ c.index-tail.result = f.2 ∙ (ap (λ (h : Hop). h.tail) (sym c.hop.view_is) ∙ sym c.index-tail.ensures) in
     let head_is : (f.0).head ≡ c.index-head.result = f.3 ∙ (ap (λ (h : Hop). h.head) (sym c.hop.view_is) ∙ sym c.index-head.ensures) in
     let tails = c.hops.ensures.named.network.tails c.args.link f.0 f.1 in

@@ -15,7 +15,7 @@ bounds-hops-index c =
 pub returns-then-leaves-enters : goal.returns-then-leaves-enters
 returns-then-leaves-enters c =
     let f = link_read c.args.net.now.net c.hops.result.now c.args.link c.index.result c.index-hops-index.result c.hops.ensures.value c.index.ensures
-        c.requires.link c.index-hops-index.is in
+    c.requires.link c.index-hops-index.is in
     bounds_still c.args.net.now.net c.args.ranges.now c.args.node c.args.link c.args.range.now f.0 f.1 c.requires.before
     c.eq-leaves.result c.eq-enters.result
     (end_test c.eq-leaves.result c.hop.inside.tail c.index-hops-index.result.tail (f.0).tail c.args.node c.eq-leaves.ensures (ap (λ (h : Hop). h.tail) c.hop.view_is) f.2)
@@ -25,14 +25,14 @@ returns-then-leaves-enters c =
 pub returns-then-is_nothing : goal.returns-then-is_nothing
 returns-then-is_nothing c =
     let f = link_read c.args.net.now.net c.hops.result.now c.args.link c.index.result c.index-hops-index.result c.hops.ensures.value c.index.ensures
-        c.requires.link c.index-hops-index.is in
+    c.requires.link c.index-hops-index.is in
     bounds_idle c.args.net.now.net c.args.ranges.now c.args.node c.args.link c.args.range.now f.0 f.1 c.requires.before
     c.range_at-flow.result c.range_at-flow.ensures (c.is_nothing.ensures c.if-is_nothing.true)
 
 pub returns-then-leaves : goal.returns-then-leaves
 returns-then-leaves c =
     let f = link_read c.args.net.now.net c.hops.result.now c.args.link c.index.result c.index-hops-index.result c.hops.ensures.value c.index.ensures
-        c.requires.link c.index-hops-index.is in
+    c.requires.link c.index-hops-index.is in
     bounds_sum c.args.net.now.net c.args.ranges.now c.args.node c.args.link c.args.range.now f.0 f.1 c.requires.before
     c.eq-leaves.result c.eq-enters.result
     (end_test c.eq-leaves.result c.hop.inside.tail c.index-hops-index.result.tail (f.0).tail c.args.node c.eq-leaves.ensures (ap (λ (h : Hop). h.tail) c.hop.view_is) f.2)
@@ -42,7 +42,7 @@ returns-then-leaves c =
 pub returns : goal.returns
 returns c =
     let f = link_read c.args.net.now.net c.hops.result.now c.args.link c.index.result c.index-hops-index.result c.hops.ensures.value c.index.ensures
-        c.requires.link c.index-hops-index.is in
+    c.requires.link c.index-hops-index.is in
     bounds_difference c.args.net.now.net c.args.ranges.now c.args.node c.args.link c.args.range.now f.0 f.1 c.requires.before
     c.eq-leaves.result c.eq-enters.result
     (end_test c.eq-leaves.result c.hop.inside.tail c.index-hops-index.result.tail (f.0).tail c.args.node c.eq-leaves.ensures (ap (λ (h : Hop). h.tail) c.hop.view_is) f.2)

@@ -22,7 +22,7 @@ range_at-flow-requires c = let n = c.requires.ranges in let l = c.requires.link 
 pub returns-then-looped-clause-more : goal.returns-then-looped-clause-more
 returns-then-looped-clause-more c =
     let f = link_read c.args.net.now.net c.hops.result.now c.args.link c.index.result c.index-hops-index.result c.hops.ensures.value c.index.ensures
-        c.requires.link c.index-hops-index.is in
+    c.requires.link c.index-hops-index.is in
     each_looped c.args.net.now.net c.args.ranges.now c.args.nodes.now.items c.args.link f.0 f.1 c.requires.before
     ((f.2 ∙ ap (λ (h : Hop). h.tail) (sym c.hop.view_is)) ∙ (test_same c.eq-looped.result c.hop.inside.tail c.hop.inside.head c.eq-looped.ensures c.if-looped.true
     ∙ sym (f.3 ∙ ap (λ (h : Hop). h.head) (sym c.hop.view_is))))
@@ -30,14 +30,14 @@ returns-then-looped-clause-more c =
 pub returns-then-is_nothing-clause-more : goal.returns-then-is_nothing-clause-more
 returns-then-is_nothing-clause-more c =
     let f = link_read c.args.net.now.net c.hops.result.now c.args.link c.index.result c.index-hops-index.result c.hops.ensures.value c.index.ensures
-        c.requires.link c.index-hops-index.is in
+    c.requires.link c.index-hops-index.is in
     each_idle c.args.net.now.net c.args.ranges.now c.args.nodes.now.items c.args.link f.0 f.1 c.requires.before
     c.range_at-flow.result c.range_at-flow.ensures (c.is_nothing.ensures c.if-is_nothing.true)
 
 pub surplus_at-sent-requires : goal.surplus_at-sent-requires
 surplus_at-sent-requires c =
     let f = link_read c.args.net.now.net c.hops.result.now c.args.link c.index.result c.index-hops-index.result c.hops.ensures.value c.index.ensures
-        c.requires.link c.index-hops-index.is in
+    c.requires.link c.index-hops-index.is in
     let is : (f.0).tail ≡ c.hop.inside.tail = f.2 ∙ ap (λ (h : Hop). h.tail) (sym c.hop.view_is) in
     let below = c.hops.ensures.named.network.tails c.args.link f.0 f.1 in
     let n : length c.deref.result.now ≡ c.args.net.now.net.nodes = ap (λ (l : List Range). length l) c.deref.ensures.value ∙ c.requires.nodes in
@@ -46,7 +46,7 @@ surplus_at-sent-requires c =
 pub put_surplus-requires : goal.put_surplus-requires
 put_surplus-requires c =
     let f = link_read c.args.net.now.net c.hops.result.now c.args.link c.index.result c.index-hops-index.result c.hops.ensures.value c.index.ensures
-        c.requires.link c.index-hops-index.is in
+    c.requires.link c.index-hops-index.is in
     let is : (f.0).tail ≡ c.hop.inside.tail = f.2 ∙ ap (λ (h : Hop). h.tail) (sym c.hop.view_is) in
     let below = c.hops.ensures.named.network.tails c.args.link f.0 f.1 in
     let n = c.requires.nodes in
@@ -55,7 +55,7 @@ put_surplus-requires c =
 pub surplus_at-kept-requires : goal.surplus_at-kept-requires
 surplus_at-kept-requires c =
     let f = link_read c.args.net.now.net c.hops.result.now c.args.link c.index.result c.index-hops-index.result c.hops.ensures.value c.index.ensures
-        c.requires.link c.index-hops-index.is in
+    c.requires.link c.index-hops-index.is in
     let is : (f.0).head ≡ c.hop.inside.head = f.3 ∙ ap (λ (h : Hop). h.head) (sym c.hop.view_is) in
     let below = c.hops.ensures.named.network.heads c.args.link f.0 f.1 in
     let n : length c.deref-2.result.now ≡ c.args.net.now.net.nodes = ap (λ (l : List Range). length l) (c.deref-2.ensures.value ∙ c.put_surplus.ensures)
@@ -65,7 +65,7 @@ surplus_at-kept-requires c =
 pub put_surplus-requires-2 : goal.put_surplus-requires-2
 put_surplus-requires-2 c =
     let f = link_read c.args.net.now.net c.hops.result.now c.args.link c.index.result c.index-hops-index.result c.hops.ensures.value c.index.ensures
-        c.requires.link c.index-hops-index.is in
+    c.requires.link c.index-hops-index.is in
     let is : (f.0).head ≡ c.hop.inside.head = f.3 ∙ ap (λ (h : Hop). h.head) (sym c.hop.view_is) in
     let below = c.hops.ensures.named.network.heads c.args.link f.0 f.1 in
     let n : length c.put_surplus.new.nodes.items ≡ c.args.net.now.net.nodes = ap (λ (l : List Range). length l) c.put_surplus.ensures
@@ -79,7 +79,7 @@ returns-clause-count c = ap (λ (l : List Range). length l) c.put_surplus-2.ensu
 pub returns-clause-more : goal.returns-clause-more
 returns-clause-more c =
     let f = link_read c.args.net.now.net c.hops.result.now c.args.link c.index.result c.index-hops-index.result c.hops.ensures.value c.index.ensures
-        c.requires.link c.index-hops-index.is in
+    c.requires.link c.index-hops-index.is in
     let tail_is : (f.0).tail ≡ c.hop.inside.tail = f.2 ∙ ap (λ (h : Hop). h.tail) (sym c.hop.view_is) in
     let head_is : (f.0).head ≡ c.hop.inside.head = f.3 ∙ ap (λ (h : Hop). h.head) (sym c.hop.view_is) in
     let tails = c.hops.ensures.named.network.tails c.args.link f.0 f.1 in

@@ -26,4 +26,4 @@ loop-link-smaller c =
 pub returns : goal.returns
 returns c flow within = subst (IsWithin c.loop-link.range)
     (surplus_of_all c.args.net.now.net flow c.args.node c.loop-link.link (let n = c.link_count.ensures in let t = c.loop-link-test.false in omega arith))
-        (c.loop-link.invariant.so_far flow within)
+    (c.loop-link.invariant.so_far flow within)

@@ -34,7 +34,7 @@ returns-in-Some c rate slopes flows is solves meets = absurd (none-some c.in-Som
     (subst (λ (l : List Range). AreWithin l (scaled_flow c.args.scaled.now.scale flows)) (sym c.deref-2.ensures.value) (c.in_ok-ranges.ensures.carry c.args.scaled.now.scale rate flows
     (can_flow c.args.net.now.net c.args.sets.now rate c.args.pattern.now c.args.scaled.now c.deref.result.now c.deref.ensures.value slopes flows is solves meets)))
     (conserved c.args.net.now.net c.args.sets.now rate c.args.pattern.now c.args.scaled.now c.deref.result.now c.deref.ensures.value slopes flows is solves
-        meets c.recall.ensures.network))
+    meets c.recall.ensures.network))
     ∙ c.in-Some.is))
 
 pub returns : goal.returns
@@ -42,5 +42,5 @@ returns c rate slopes flows is solves meets = absurd (true≢false (sym (c.in_ok
     (c.in_ok-ranges.ensures.carry c.args.scaled.now.scale rate flows
     (can_flow c.args.net.now.net c.args.sets.now rate c.args.pattern.now c.args.scaled.now c.deref.result.now c.deref.ensures.value slopes flows is solves meets))
     (conserved c.args.net.now.net c.args.sets.now rate c.args.pattern.now c.args.scaled.now c.deref.result.now c.deref.ensures.value slopes flows is solves
-        meets c.recall.ensures.network))
+    meets c.recall.ensures.network))
     ∙ c.if-branch.false))

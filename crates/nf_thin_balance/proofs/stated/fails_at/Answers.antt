@@ -11,5 +11,5 @@ returns c fails scale rate flows supply can =
     (subst (IsWithin c.needed.result)
     (sym (scaled_conserves c.args.stated.now.net.now.net scale rate (number_at flows)
     (conserves scale c.args.stated.now.net.now.net c.args.stated.now.sets.now rate c.args.stated.now.pattern.now c.args.stated.now.full.now flows can
-        c.requires.network) c.args.node (let t = c.if-node-nodes.false in let n = c.node_count-nodes.ensures in omega arith)))
+    c.requires.network) c.args.node (let t = c.if-node-nodes.false in let n = c.node_count-nodes.ensures in omega arith)))
     (c.needed.ensures (scaled scale rate) supply)))

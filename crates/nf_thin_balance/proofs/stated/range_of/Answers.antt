@@ -18,5 +18,5 @@ returns c scale rate flows can =
     let here = entry c.args.stated.now.net.now.net.links c.args.link c.requires.link in
     c.flow_range.ensures scale (here.0).capacity (number_at flows c.args.link) (number_at can.slopes (here.0).tail) (number_at can.slopes (here.0).head)
     (meets_state scale c.args.stated.now.net.now.net c.args.stated.now.sets.now rate c.args.stated.now.pattern.now c.args.stated.now.full.now flows can
-        c.args.link here.0 c.state.result c.resetting.result c.range_at-most.result
+    c.args.link here.0 c.state.result c.resetting.result c.range_at-most.result
     here.1 c.state.ensures c.resetting.ensures.flag c.range_at-most.ensures)

@@ -12,9 +12,11 @@ entered_nodes-entered-requires c =
     (sym c.in_ok-near.ensures) c.requires)
 
 pub enter_nodes-requires : goal.enter_nodes-requires
-enter_nodes-requires c =
-    (c.args.sets.now, c.cut_cycles-forest.ensures c.args.sets.now (subst (λ (p : Pattern). IsPatternIn c.args.net.now.net c.args.sets.now p)
-    (sym c.in_ok-near.ensures) c.requires))
+enter_nodes-requires c = (
+  c.args.sets.now,
+  c.cut_cycles-forest.ensures c.args.sets.now (subst (λ (p : Pattern). IsPatternIn c.args.net.now.net c.args.sets.now p)
+      (sym c.in_ok-near.ensures) c.requires),
+)
 
 pub returns : goal.returns
 returns c = c.enter_nodes.ensures c.args.sets.now

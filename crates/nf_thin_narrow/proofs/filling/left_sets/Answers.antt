@@ -28,7 +28,7 @@ loop-e-preserved c = record {
       take_pushed (entrywise now_resetting c.args.forced.now c.args.sets.now.resetting) c.loop-e.resetting.items c.push-in-loop-e.new.self.items c.loop-e.e
       c.now_resetting-resets.result
       (entrywise-at now_resetting c.args.forced.now c.args.sets.now.resetting c.loop-e.e c.state-forced_here.result c.resetting.result
-          c.state-forced_here.ensures c.resetting.ensures.flag
+      c.state-forced_here.ensures c.resetting.ensures.flag
       ∙ ap (λ (b : Bool). Some b) (sym c.now_resetting-resets.ensures))
       c.loop-e.invariant.resetting c.in_ok-push-2.ensures.items;
 }
@@ -38,9 +38,9 @@ new-requires c =
     let count = c.requires.forcing.1.count in
     let flags = c.requires.forcing.1.flags in
     let a = whole still_active c.args.forced.now c.args.sets.now.active c.loop-e.active.items c.deref.result.now c.args.links c.loop-e.e
-        c.deref.ensures.value c.loop-e.invariant.active count c.requires.links c.loop-e-test.false in
+    c.deref.ensures.value c.loop-e.invariant.active count c.requires.links c.loop-e-test.false in
     let r = whole now_resetting c.args.forced.now c.args.sets.now.resetting c.loop-e.resetting.items c.deref-2.result.now c.args.links c.loop-e.e
-        c.deref-2.ensures.value c.loop-e.invariant.resetting (count ∙ sym flags) (flags ∙ c.requires.links) c.loop-e-test.false in
+    c.deref-2.ensures.value c.loop-e.invariant.resetting (count ∙ sym flags) (flags ∙ c.requires.links) c.loop-e-test.false in
     subst (λ (flags : List Bool). AreLinkSets (record { active = flags; resetting = c.deref-2.result.now })) (sym a)
     (subst (λ (flags : List Bool). AreLinkSets (record { active = (sets_left c.args.forced.now c.args.sets.now).active; resetting = flags })) (sym r)
     (record {
@@ -54,8 +54,8 @@ returns c =
     let count = c.requires.forcing.1.count in
     let flags = c.requires.forcing.1.flags in
     let a = whole still_active c.args.forced.now c.args.sets.now.active c.loop-e.active.items c.deref.result.now c.args.links c.loop-e.e
-        c.deref.ensures.value c.loop-e.invariant.active count c.requires.links c.loop-e-test.false in
+    c.deref.ensures.value c.loop-e.invariant.active count c.requires.links c.loop-e-test.false in
     let r = whole now_resetting c.args.forced.now c.args.sets.now.resetting c.loop-e.resetting.items c.deref-2.result.now c.args.links c.loop-e.e
-        c.deref-2.ensures.value c.loop-e.invariant.resetting (count ∙ sym flags) (flags ∙ c.requires.links) c.loop-e-test.false in
+    c.deref-2.ensures.value c.loop-e.invariant.resetting (count ∙ sym flags) (flags ∙ c.requires.links) c.loop-e-test.false in
     subst (λ (flags : List Bool). IfOk c.new.result (λ (left : Sets). left ≡ record { active = (sets_left c.args.forced.now c.args.sets.now).active; resetting = flags })) r
     (subst (λ (flags : List Bool). IfOk c.new.result (λ (left : Sets). left ≡ record { active = flags; resetting = c.deref-2.result.now })) a c.new.ensures)

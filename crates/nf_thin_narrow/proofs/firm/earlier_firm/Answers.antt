@@ -15,7 +15,7 @@ use Rattle.nf_thin_narrow.proofs.firm.earlier_firm.Goals as goal
 pub overflow_add-made : goal.overflow_add-made
 overflow_add-made c =
     let step = changes_step_at c.args.base.now c.args.pattern.now (c.loop-e.e - 1) c.loop-e.e c.state-here.result c.state-state.result
-        (omega arith) c.state-here.ensures c.state-state.ensures in
+    (omega arith) c.state-here.ensures c.state-state.ensures in
     let value = c.change-made.ensures.value in
     let made = c.loop-e.invariant.made_is in
     let few = changes_behind c.args.base.now c.args.pattern.now (c.loop-e.e - 1) in
@@ -26,7 +26,7 @@ overflow_add-made c =
 pub firm_under-under-requires : goal.firm_under-under-requires
 firm_under-under-requires c =
     let step = changes_step_at c.args.base.now c.args.pattern.now (c.loop-e.e - 1) c.loop-e.e c.state-here.result c.state-state.result
-        (omega arith) c.state-here.ensures c.state-state.ensures in
+    (omega arith) c.state-here.ensures c.state-state.ensures in
     let value = c.change-made.ensures.value in
     let made = c.loop-e.invariant.made_is in
     let few = changes_behind c.args.base.now c.args.pattern.now (c.loop-e.e - 1) in
@@ -49,9 +49,9 @@ loop-e-preserved c =
     subst (λ (n : ℕ). Tells c.loop-e.row (ways_from c.args.base.now c.args.firm.now n)) at c.loop-e.invariant.tells in
     let firm : Firm = get_or c.args.firm.now (c.loop-e.e - 1) none in
     let behind = changes_step_at c.args.base.now c.args.pattern.now (c.loop-e.e - 1)
-        (suc (c.loop-e.e - 1)) c.state-here.result c.state-state.result refl c.state-here.ensures c.state-state.ensures in
+    (suc (c.loop-e.e - 1)) c.state-here.result c.state-state.result refl c.state-here.ensures c.state-state.ensures in
     let split : c.loop-e.made + c.change-made.result ≡ change c.state-here.result c.state-state.result + changes
-        (drop (suc (c.loop-e.e - 1)) c.args.base.now) (drop (suc (c.loop-e.e - 1)) c.args.pattern.now) = omega arith in
+    (drop (suc (c.loop-e.e - 1)) c.args.base.now) (drop (suc (c.loop-e.e - 1)) c.args.pattern.now) = omega arith in
     let at_f : slice_get c.args.firm.now (c.loop-e.e - 1) ≡ Some (get_or c.args.firm.now (c.loop-e.e - 1) none) =
     slice_get-get_or c.args.firm.now (c.loop-e.e - 1) none (let n = c.requires.firm in omega arith) in
     record {
@@ -69,9 +69,9 @@ loop-e-preserved c =
           (earlier_from c.args.base.now c.args.firm.now c.args.pattern.now (c.loop-e.e - 1) (c.loop-e.made + c.change-made.result))
           (changes (drop (suc (c.loop-e.e - 1)) c.args.base.now) (drop (suc (c.loop-e.e - 1)) c.args.pattern.now)) (c.loop-e.made + c.change-made.result)
           (earlier_step c.args.base.now c.args.pattern.now c.args.firm.now (c.loop-e.e - 1) c.state-here.result c.state-state.result firm
-              c.state-here.ensures c.state-state.ensures at_f (c.loop-e.made + c.change-made.result))
+          c.state-here.ensures c.state-state.ensures at_f (c.loop-e.made + c.change-made.result))
           split less c.loop-e.earlier c.firm_under-under.result c.along-same.result c.saturating_add-earlier.result
           (earlier_at (earlier_from c.args.base.now c.args.firm.now c.args.pattern.now) c.args.base.now c.args.pattern.now c.loop-e.e
-              (suc (c.loop-e.e - 1)) c.loop-e.made c.loop-e.earlier at made c.loop-e.invariant.earlier_is)
+          (suc (c.loop-e.e - 1)) c.loop-e.made c.loop-e.earlier at made c.loop-e.invariant.earlier_is)
           c.firm_under-under.ensures (c.along-same.ensures ∙ ap (λ (b : Bool). if b then c.loop-e.earlier else 0) c.may_have.ensures) c.saturating_add-earlier.ensures;
     }

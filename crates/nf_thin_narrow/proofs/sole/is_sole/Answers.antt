@@ -8,7 +8,7 @@ use Rattle.nf_thin_narrow.proofs.sole.is_sole.Goals as goal
 pub returns : goal.returns
 returns c told =
     let here : IsHop c.args.hops.now c.args.link c.index-hops-index.result =
-        hop_there c.args.hops.now c.args.link c.index.result c.index-hops-index.result c.requires.link c.index.ensures c.index-hops-index.is in
+    hop_there c.args.hops.now c.args.link c.index.result c.index-hops-index.result c.requires.link c.index.ensures c.index-hops-index.is in
     record {
       hop = c.index-hops-index.result;
       is_hop = here;

@@ -25,7 +25,7 @@ pub returns-in_default-other-clause-within : goal.returns-in_default-other-claus
 returns-in_default-other-clause-within c listing place is at =
     let here = place_here c.args.patterns.now.question c.loop-last.patterns c.next.follows.lender-at-none c.loop-last.invariant.through c.args.pattern.now c.loop-last.invariant.later
     c.in-Some.listed.now (subst (λ r. Enumerates c.loop-last.patterns (option_copied r) c.next.follows.lender-at-none) c.in-Some.is
-        c.next.follows.holds-at-none) (let f = c.ranges.budget.fits in let p = c.place.ensures in let t = c.loop-last-test.true in omega arith)
+    c.next.follows.holds-at-none) (let f = c.ranges.budget.fits in let p = c.place.ensures in let t = c.loop-last-test.true in omega arith)
     (rw c.in_default-other.is at c.other_link-other.ensures) listing place is at in
     let p = c.place.ensures in
     let t = c.loop-last-test.true in
@@ -35,7 +35,7 @@ pub returns-in_default-other-clause-stands : goal.returns-in_default-other-claus
 returns-in_default-other-clause-stands c told listed =
     stands_here c.args.patterns.now.question c.loop-last.patterns c.next.follows.lender-at-none c.loop-last.invariant.through c.args.pattern.now c.loop-last.invariant.later
     c.in-Some.listed.now (subst (λ r. Enumerates c.loop-last.patterns (option_copied r) c.next.follows.lender-at-none) c.in-Some.is
-        c.next.follows.holds-at-none) (let f = c.ranges.budget.fits in let p = c.place.ensures in let t = c.loop-last-test.true in omega arith)
+    c.next.follows.holds-at-none) (let f = c.ranges.budget.fits in let p = c.place.ensures in let t = c.loop-last-test.true in omega arith)
     (rw c.in_default-other.is at c.other_link-other.ensures)
 
 pub loop-last-preserved : goal.loop-last-preserved
@@ -43,7 +43,7 @@ loop-last-preserved c =
     let differ = rw c.in-Some-other.is at c.other_link-other.ensures in
     let on = still_ahead c.args.patterns.now.question c.loop-last.patterns c.next.follows.lender-at-none c.loop-last.invariant.through c.args.pattern.now c.loop-last.invariant.later
     c.in-Some.listed.now (subst (λ r. Enumerates c.loop-last.patterns (option_copied r) c.next.follows.lender-at-none) c.in-Some.is
-        c.next.follows.holds-at-none) (let f = c.ranges.budget.fits in let p = c.place.ensures in let t = c.loop-last-test.true in omega arith)
+    c.next.follows.holds-at-none) (let f = c.ranges.budget.fits in let p = c.place.ensures in let t = c.loop-last-test.true in omega arith)
     differ.1 in
     record { through = on.through; later = on.later; last = differ.0 }
 

@@ -15,10 +15,10 @@ fill_nodes-requires-clause-first g c = source_filled c.args.net.now.net c.args.s
     c.hops.ensures.named.network.sink c.requires.sets (g.T.System.rows_of c.args.table.now) c.requires.zero
     (g.T.System.rows_of c.set-2.new.self) (g.T.System.rows_of c.set_right.new.self)
     (c.set-2.ensures ∙ (ap (λ (j : ℕ). set (g.T.System.rows_of c.args.table.now) 0 (set (row_at (g.T.System.rows_of c.args.table.now) 0) j c.one.result))
-        (c.set.view_is ∙ c.source.ensures.value)
+    (c.set.view_is ∙ c.source.ensures.value)
     ∙ ap (λ (x : ℚ). set (g.T.System.rows_of c.args.table.now) 0 (set (row_at (g.T.System.rows_of c.args.table.now) 0) c.args.net.now.net.source x)) c.one.ensures))
     (c.set_right.ensures ∙ ap (λ (x : ℚ). set (g.T.System.rows_of c.set-2.new.self) 0
-        (set (row_at (g.T.System.rows_of c.set-2.new.self) 0) (length (g.T.System.rows_of c.set-2.new.self)) x)) c.one-2.ensures)
+    (set (row_at (g.T.System.rows_of c.set-2.new.self) 0) (length (g.T.System.rows_of c.set-2.new.self)) x)) c.one-2.ensures)
     c.args.rate
 
 pub fill_links-requires-clause-size : goal.fill_links-requires-clause-size
@@ -26,10 +26,10 @@ fill_links-requires-clause-size g c = c.fill_nodes.ensures.size ∙ source_long 
     c.hops.ensures.named.network.sink c.requires.sets (g.T.System.rows_of c.args.table.now) c.requires.zero
     (g.T.System.rows_of c.set-2.new.self) (g.T.System.rows_of c.set_right.new.self)
     (c.set-2.ensures ∙ (ap (λ (j : ℕ). set (g.T.System.rows_of c.args.table.now) 0 (set (row_at (g.T.System.rows_of c.args.table.now) 0) j c.one.result))
-        (c.set.view_is ∙ c.source.ensures.value)
+    (c.set.view_is ∙ c.source.ensures.value)
     ∙ ap (λ (x : ℚ). set (g.T.System.rows_of c.args.table.now) 0 (set (row_at (g.T.System.rows_of c.args.table.now) 0) c.args.net.now.net.source x)) c.one.ensures))
     (c.set_right.ensures ∙ ap (λ (x : ℚ). set (g.T.System.rows_of c.set-2.new.self) 0
-        (set (row_at (g.T.System.rows_of c.set-2.new.self) 0) (length (g.T.System.rows_of c.set-2.new.self)) x)) c.one-2.ensures)
+    (set (row_at (g.T.System.rows_of c.set-2.new.self) 0) (length (g.T.System.rows_of c.set-2.new.self)) x)) c.one-2.ensures)
 
 pub returns : goal.returns
 returns g c = c.fill_links.ensures c.args.rate (c.fill_nodes.ensures.nodes c.args.pattern.now)

@@ -10,18 +10,18 @@ loop-e-init g c = rw c.node_count-row.ensures (links_first c.args.net.now.net c.
 pub fill_link-requires-clause-row : goal.fill_link-requires-clause-row
 fill_link-requires-clause-row g c =
     next_inside c.args.net.now.net c.args.sets.now c.args.pattern.now (g.T.System.rows_of c.args.table.now)
-        (g.T.System.rows_of c.loop-e.table) c.loop-e.e c.loop-e.row c.loop-e.invariant c.requires.size c.if-active.ensures.flag
+    (g.T.System.rows_of c.loop-e.table) c.loop-e.e c.loop-e.row c.loop-e.invariant c.requires.size c.if-active.ensures.flag
 
 pub fill_link-requires-clause-tail : goal.fill_link-requires-clause-tail
 fill_link-requires-clause-tail g c =
     end_inside c.args.net.now.net c.args.sets.now c.args.pattern.now (g.T.System.rows_of c.args.table.now)
-        (g.T.System.rows_of c.loop-e.table) c.loop-e.e c.loop-e.row c.loop-e.invariant c.requires.size c.if-active.ensures.flag
+    (g.T.System.rows_of c.loop-e.table) c.loop-e.e c.loop-e.row c.loop-e.invariant c.requires.size c.if-active.ensures.flag
     c.link.result.tail (c.link.ensures.named.network.tails c.loop-e.e c.link.result c.link.ensures.link)
 
 pub fill_link-requires-clause-head : goal.fill_link-requires-clause-head
 fill_link-requires-clause-head g c =
     end_inside c.args.net.now.net c.args.sets.now c.args.pattern.now (g.T.System.rows_of c.args.table.now)
-        (g.T.System.rows_of c.loop-e.table) c.loop-e.e c.loop-e.row c.loop-e.invariant c.requires.size c.if-active.ensures.flag
+    (g.T.System.rows_of c.loop-e.table) c.loop-e.e c.loop-e.row c.loop-e.invariant c.requires.size c.if-active.ensures.flag
     c.link.result.head (c.link.ensures.named.network.heads c.loop-e.e c.link.result c.link.ensures.link)
 
 pub overflow_add-row : goal.overflow_add-row
@@ -33,7 +33,7 @@ loop-e-preserved g c = elim c.if-active.branch [
   | then-active w ↦ rw (w.table-is, w.row-is) (link_more c.args.net.now.net c.args.sets.now c.args.pattern.now (g.T.System.rows_of c.args.table.now)
       (g.T.System.rows_of c.loop-e.table) c.loop-e.e c.loop-e.row c.loop-e.invariant
       c.requires.size w.if-active.ensures.flag w.link.ensures.named.network c.requires.sets w.link.result w.link.ensures.link w.state.result w.state.ensures
-          (g.T.System.rows_of w.fill_link.new.table) w.fill_link.ensures)
+      (g.T.System.rows_of w.fill_link.new.table) w.fill_link.ensures)
   | else-active w ↦ rw (w.table-is, w.row-is) (idle_skipped c.args.net.now.net c.args.sets.now c.args.pattern.now (g.T.System.rows_of c.args.table.now)
       (g.T.System.rows_of c.loop-e.table) c.loop-e.e c.loop-e.row c.loop-e.invariant w.if-active.ensures.flag)
 ]

@@ -10,7 +10,7 @@ use Rattle.nf_thin_one.proofs.trying.judge_values.Goals as goal
 pub verdict-requires-clause-flows : goal.verdict-requires-clause-flows
 verdict-requires-clause-flows c =
     ap (λ (l : List ℚ). length l) c.deref-2.ensures.value ∙ (ap (λ (l : List ℚ). length l) c.in_ok-flows.ensures
-        ∙ (onto-length c.args.sets.now.active _ ∙ c.requires.pattern.sets_are.count))
+    ∙ (onto-length c.args.sets.now.active _ ∙ c.requires.pattern.sets_are.count))
 
 pub verdict-requires-clause-states : goal.verdict-requires-clause-states
 verdict-requires-clause-states c = c.requires.pattern.pattern_is.count ∙ c.requires.pattern.sets_are.count

@@ -18,8 +18,8 @@ loop-e-preserved c = elim c.if-active.branch [
       (active_more c.args.sets.now.active c.args.values.now c.args.net.now.net.nodes (take c.loop-e.e c.loop-e.flows) c.loop-e.e c.loop-e.next c.loop-e.invariant
       w.index-values-next.result _ _ refl refl w.if-active.ensures.flag
       (slice_get_read c.args.values.now _ c.loop-e.next w.index-values-next.result refl
-          (has_value c.args.sets.now.active c.args.values.now c.args.net.now.net.nodes
-          (take c.loop-e.e c.loop-e.flows) c.loop-e.e c.loop-e.next c.loop-e.invariant w.if-active.ensures.flag) w.index-values-next.is)))
+      (has_value c.args.sets.now.active c.args.values.now c.args.net.now.net.nodes
+      (take c.loop-e.e c.loop-e.flows) c.loop-e.e c.loop-e.next c.loop-e.invariant w.if-active.ensures.flag) w.index-values-next.is)))
   | else-active w ↦ rw (w.flows-is, w.next-is, w.zero.ensures) (subst (λ (l : List ℚ). AreFlows c.args.sets.now.active c.args.values.now
       c.args.net.now.net.nodes l (c.loop-e.e + 1) c.loop-e.next)
       (sym (take_more c.loop-e.flows c.loop-e.e _ (omega arith)))

@@ -10,8 +10,8 @@ pub returns-in_err-solve_pattern : goal.returns-in_err-solve_pattern
 returns-in_err-solve_pattern c =
     let q = err_from_is_err_and c.from_residual.result c.from_residual.ensures.1 in
     rw (q.1, q.2) (into_err passes_Q c.args.net.now.net c.args.sets.now c.args.rate c.args.pattern.now
-        (pattern_in c.args.net.now c.args.sets.now c.args.pattern.now c.recall.ensures c.requires.sets c.requires.bounded c.requires.pattern)
-        c.in_err-solve_pattern.field-0.0 c.in_err-solve_pattern.ensures)
+    (pattern_in c.args.net.now c.args.sets.now c.args.pattern.now c.recall.ensures c.requires.sets c.requires.bounded c.requires.pattern)
+    c.in_err-solve_pattern.field-0.0 c.in_err-solve_pattern.ensures)
 
 pub judge_into-requires-clause-values : goal.judge_into-requires-clause-values
 judge_into-requires-clause-values c =

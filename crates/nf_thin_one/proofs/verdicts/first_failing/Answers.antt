@@ -13,7 +13,7 @@ returns-in_err-keeps c =
 pub loop-e-preserved : goal.loop-e-preserved
 loop-e-preserved c =
     rw (c.first_after-found.ensures) (loop_goes_on passes_Q c.args.net.now.net c.args.pattern.now c.args.flows.now c.args.slopes.now c.loop-e.found
-        c.loop-e.e (omega arith) c.loop-e.invariant
+    c.loop-e.e (omega arith) c.loop-e.invariant
     c.in_ok-keeps.keeps c.in_ok-keeps.ensures)
 
 pub returns : goal.returns

@@ -19,18 +19,18 @@ firm_ways_before-requires-clause-fewer c =
 pub loop-v-init : goal.loop-v-init
 loop-v-init c =
     first_covers c.args.ranking.now.net.now.net c.args.ranking.now.sets.now c.args.ranking.now.base.now c.args.pattern.now c.args.listed.now
-        c.requires.ranking.base c.requires.listed c.args.keepers.now c.link_count-count.result c.deref.result.now
+    c.requires.ranking.base c.requires.listed c.args.keepers.now c.link_count-count.result c.deref.result.now
     (subst (λ (f : List Firm). AreFirmBy c.args.ranking.now.net.now.net c.args.ranking.now.sets.now c.args.listed.now c.args.keepers.now
-        c.link_count-count.result f) (sym c.deref.ensures.value) c.in_ok-firm.ensures)
+    c.link_count-count.result f) (sym c.deref.ensures.value) c.in_ok-firm.ensures)
     c.in_ok-ways.ways c.in_ok-ways.ensures
 
 pub loop-v-preserved : goal.loop-v-preserved
 loop-v-preserved c =
     covers_more c.args.ranking.now.net.now.net c.args.ranking.now.sets.now c.args.ranking.now.base.now c.args.pattern.now c.args.listed.now
-        c.requires.ranking.base c.requires.listed c.args.keepers.now c.loop-v.v c.loop-v.ways c.loop-v.invariant
+    c.requires.ranking.base c.requires.listed c.args.keepers.now c.loop-v.v c.loop-v.ways c.loop-v.invariant
     c.in_ok-more.more c.saturating_add-ways.result c.in_ok-more.ensures c.saturating_add-ways.ensures
 
 pub returns : goal.returns
 returns c =
     covers_before c.args.ranking.now.net.now.net c.args.ranking.now.sets.now c.args.ranking.now.base.now c.args.pattern.now c.args.listed.now
-        c.requires.ranking.base c.requires.listed c.args.keepers.now c.loop-v.v c.loop-v.ways c.loop-v.invariant
+    c.requires.ranking.base c.requires.listed c.args.keepers.now c.loop-v.v c.loop-v.ways c.loop-v.invariant

@@ -5,7 +5,7 @@ use Rattle.nf_thin_rank.proofs.families.spare_keeper.Goals as goal
 pub has_state-requires : goal.has_state-requires
 has_state-requires c =
     let k = keeper_within c.args.ranking.now.net.now.net c.args.ranking.now.sets.now c.args.listed.now _ c.args.node c.in_ok-keeper.keeper
-        c.args.keepers.now c.requires.keepers c.in_ok-keeper.ensures in
+    c.args.keepers.now c.requires.keepers c.in_ok-keeper.ensures in
     let b = c.requires.ranking.base.count in let s = c.requires.ranking.sets.sets_are.count in omega arith
 
 pub other_keeper-requires : goal.other_keeper-requires

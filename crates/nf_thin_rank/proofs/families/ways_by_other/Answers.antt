@@ -13,11 +13,11 @@ use Rattle.nf_thin_rank.proofs.families.ways_by_other.Goals as goal
 pub firm_states-requires-clause-keepers : goal.firm_states-requires-clause-keepers
 firm_states-requires-clause-keepers c =
     let is_spare = subst (λ (o : Option Spare). IfSome o (IsSpare c.args.ranking.now.net.now.net c.args.ranking.now.sets.now c.args.ranking.now.base.now
-        c.args.listed.now c.args.keepers.now c.args.node)) c.in-Some.is c.spare_keeper.ensures in
+    c.args.listed.now c.args.keepers.now c.args.node)) c.in-Some.is c.spare_keeper.ensures in
     subst (λ (l : List (Option ℕ)). AreKeepers c.args.ranking.now.net.now.net c.args.ranking.now.sets.now c.args.listed.now
-        (length c.args.ranking.now.net.now.net.links) l) (sym (c.deref.ensures.value ∙ c.in_ok-changed.ensures))
+    (length c.args.ranking.now.net.now.net.links) l) (sym (c.deref.ensures.value ∙ c.in_ok-changed.ensures))
     (other_keeps c.args.ranking.now.net.now.net c.args.ranking.now.sets.now c.args.listed.now _ c.args.node c.in-Some.spare.other c.args.keepers.now
-        c.requires.keepers c.requires.node is_spare.may_keep)
+    c.requires.keepers c.requires.node is_spare.may_keep)
 
 pub firm_ways_before-requires-clause-firm : goal.firm_ways_before-requires-clause-firm
 firm_ways_before-requires-clause-firm c =
@@ -32,9 +32,9 @@ firm_ways_before-requires-clause-fewer c =
 pub returns : goal.returns
 returns c =
     let is_spare = subst (λ (o : Option Spare). IfSome o (IsSpare c.args.ranking.now.net.now.net c.args.ranking.now.sets.now c.args.ranking.now.base.now
-        c.args.listed.now c.args.keepers.now c.args.node)) c.in-Some.is c.spare_keeper.ensures in
+    c.args.listed.now c.args.keepers.now c.args.node)) c.in-Some.is c.spare_keeper.ensures in
     IfOk-weaker c.firm_ways_before.result _ (λ ways. IsByOther c.args.ranking.now.net.now.net c.args.ranking.now.sets.now c.args.ranking.now.base.now
-        c.args.pattern.now c.args.listed.now c.args.keepers.now c.args.node ways)
+    c.args.pattern.now c.args.listed.now c.args.keepers.now c.args.node ways)
     (λ ways is. inr (record {
       spare = c.in-Some.spare;
       is_spare = is_spare;

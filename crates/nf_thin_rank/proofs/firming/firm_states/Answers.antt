@@ -12,7 +12,7 @@ loop-e-preserved c =
       count = ap (λ (l : List Firm). length l) c.in_ok-push.ensures.items ∙ length_pushed c.loop-e.firm.items y c.loop-e.e c.loop-e.invariant.count;
       each = subst (λ (l : List Firm). EachEntry (IsFirmBy c.args.ranking.now.net.now.net c.args.listed.now c.args.keepers.now c.args.out) l) (sym c.in_ok-push.ensures.items)
           (each_pushed (IsFirmBy c.args.ranking.now.net.now.net c.args.listed.now c.args.keepers.now c.args.out) c.loop-e.firm.items y c.loop-e.e
-              c.loop-e.invariant.count c.loop-e.invariant.each (
+          c.loop-e.invariant.count c.loop-e.invariant.each (
             firm_of c.args.ranking.now.net.now.net c.args.listed.now c.args.keepers.now c.loop-e.e c.link-here.result c.link-here.ensures.link c.here.inside.head
                 (sym (ap (λ (l : Link). l.head) c.here.view_is)) c.state.result c.state.ensures c.may_have-tight.result c.may_have-full.result c.is_keeper-zero.result
                 (λ on. c.is_tight.ensures (c.may_have-tight.ensures.may on))
@@ -26,5 +26,5 @@ loop-e-preserved c =
 pub returns : goal.returns
 returns c =
     firm_by c.args.ranking.now.net.now.net c.args.ranking.now.sets.now c.args.listed.now c.args.keepers.now c.args.out c.loop-e.firm.items
-        c.requires.ranking.sets c.requires.listed c.requires.keepers
+    c.requires.ranking.sets c.requires.listed c.requires.keepers
     (let n = c.loop-e.invariant.count in let e = c.loop-e.auto.e-end in let t = c.loop-e-test.false in let k = c.link_count-e-end.ensures in omega arith) c.loop-e.invariant.each

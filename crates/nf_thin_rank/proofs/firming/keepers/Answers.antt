@@ -18,11 +18,11 @@ loop-e-preserved c =
     (sym (take_front c.keep-in-loop-e.new.keepers _ c.loop-e.keepers.len
     (let n = c.loop-e.keepers.ok.0 in let same = c.keep-in-loop-e.ensures.count ∙ ap (λ (l : List (Option ℕ)). length l) c.deref_mut.ensures.value in omega arith)))
     (one_more c.args.ranking.now.net.now.net c.args.ranking.now.sets.now c.args.listed.now c.loop-e.e _ c.deref_mut.result.now c.keep-in-loop-e.new.keepers
-        c.resetting-resets.result c.leads-leads.result c.state.result
+    c.resetting-resets.result c.leads-leads.result c.state.result
     (hop_of c.link.result) (slice_get-image hop_of c.args.ranking.now.net.now.net.links c.loop-e.e c.link.result c.link.ensures.link) (sym (ap (λ (l : Link). l.head) c.keep.view_is))
     c.resetting-resets.ensures.flag c.state.ensures c.leads-leads.ensures.leads c.leads-leads.ensures.all
     (subst (λ (l : List (Option ℕ)). AreKeepers c.args.ranking.now.net.now.net c.args.ranking.now.sets.now c.args.listed.now c.loop-e.e l)
-        (sym c.deref_mut.ensures.value) c.loop-e.invariant)
+    (sym c.deref_mut.ensures.value) c.loop-e.invariant)
     c.keep-in-loop-e.ensures.count c.keep-in-loop-e.ensures.keeps c.keep-in-loop-e.ensures.there c.keep-in-loop-e.ensures.kept)
 
 pub returns : goal.returns

@@ -14,4 +14,4 @@ listing-requires-clause-base c = c.in_ok-near.ensures.pattern_is
 pub returns : goal.returns
 returns c = IfOk-weaker c.copy_next.result _ (λ found. IfSome found (λ first. IsListedIn c.args.ranking.now.net.now.net c.args.ranking.now.sets.now first))
     (λ found gives. first_asked c.args.ranking.now.net.now.net c.args.ranking.now.sets.now c.in_ok-patterns.patterns c.copy_next.new.patterns
-        c.in_ok-patterns.ensures.asked found gives) c.copy_next.ensures
+    c.in_ok-patterns.ensures.asked found gives) c.copy_next.ensures

@@ -15,4 +15,4 @@ returns-in-Some-clause-list c =
     subst (λ (o : Option Grown). IfSome o (λ exits. exits_of c.args.link.now ≡ Ok exits.points)) c.in-Some.is c.requires in
     subst (λ (r : Checked Three). Gives points_in (λ (q : ℚ). q) c.by_exits.result (at_part Check r))
     (sent_known passes_Q c.args.link.now.inflow.now.points c.args.link.now.exit.now.points c.in-Some.exits.points c.args.link.now.tail_label.now.points
-        c.args.link.now.head_label.now.points c.args.link.now.last known) c.by_exits.ensures.list
+    c.args.link.now.head_label.now.points c.args.link.now.last known) c.by_exits.ensures.list

@@ -63,9 +63,9 @@ pub returns-clause-list : goal.returns-clause-list
 unfolding sent_list
 returns-clause-list c =
     after_ok Check (checked_composed passes_Q c.args.link.now.inflow.now.points c.args.link.now.tail_label.now.points c.args.link.now.last) _
-        c.in_ok-all_taken.all_taken.points c.in_ok-all_taken.ensures
+    c.in_ok-all_taken.all_taken.points c.in_ok-all_taken.ensures
     ∙ after_ok Check (checked_composed passes_Q c.args.link.now.exit.now.points c.args.link.now.tail_label.now.points c.args.link.now.last) _
-        c.in_ok-all_exits.all_exits.points c.in_ok-all_exits.ensures
+    c.in_ok-all_exits.all_exits.points c.in_ok-all_exits.ensures
     ∙ after_ok Check (checked_short passes_Q c.in_ok-all_taken.all_taken.points) _ c.in_ok-taken.taken.points c.in_ok-taken.ensures.list
     ∙ after_ok Check (checked_short passes_Q c.in_ok-all_exits.all_exits.points) _ c.in_ok-exits.exits.points c.in_ok-exits.ensures.list
     ∙ after_ok Check (checked_short passes_Q c.args.link.now.head_label.now.points) _ c.in_ok-labels.labels.points c.in_ok-labels.ensures.list

@@ -56,7 +56,7 @@ returns-in_err-put-in-Flow-clause-adds c =
     let p = err_from_is_err_and c.from_residual-in_err-put-in-Flow.result c.from_residual-in_err-put-in-Flow.ensures.1 in
     let draft : FlowsDraft = record { flows = c.self.inside.flows.items; slopes = c.self.inside.slopes.items; ended = c.self.inside.ended } in
     rw (p.1, p.2) (adds c.args.net.now draft c.args.self.now c.args.line.now.words c.self.view_is
-        (Ok (FlowOf c.in-Flow.link c.in-Flow.flow)) c.if-self.false (c.in_ok-link.ensures.says ∙ ap (λ (e : Entry). Ok (seen_entry e)) c.in-Flow.is)
+    (Ok (FlowOf c.in-Flow.link c.in-Flow.flow)) c.if-self.false (c.in_ok-link.ensures.says ∙ ap (λ (e : Entry). Ok (seen_entry e)) c.in-Flow.is)
     ∙ ap (λ (k : ℕ). with_entry draft (FlowOf k c.in-Flow.flow)) (sym c.index.ensures)
     ∙ flow_put draft (is_given c.self.inside.flows.items c.index.result) (set c.self.inside.flows.items c.index.result (Some c.in-Flow.flow))
     ∙ ap (said_by (λ (l : List (Option ℚ)). record draft { flows = l })) c.in_err-put-in-Flow.ensures.puts)
@@ -65,7 +65,7 @@ pub returns-in_ok-put-in-Flow-clause-adds : goal.returns-in_ok-put-in-Flow-claus
 returns-in_ok-put-in-Flow-clause-adds c =
     let draft : FlowsDraft = record { flows = c.self.inside.flows.items; slopes = c.self.inside.slopes.items; ended = c.self.inside.ended } in
     adds c.args.net.now draft c.args.self.now c.args.line.now.words c.self.view_is (Ok (FlowOf c.in-Flow.link c.in-Flow.flow)) c.if-self.false
-        (c.in_ok-link.ensures.says ∙ ap (λ (e : Entry). Ok (seen_entry e)) c.in-Flow.is)
+    (c.in_ok-link.ensures.says ∙ ap (λ (e : Entry). Ok (seen_entry e)) c.in-Flow.is)
     ∙ ap (λ (k : ℕ). with_entry draft (FlowOf k c.in-Flow.flow)) (sym c.index.ensures)
     ∙ flow_put draft (is_given c.self.inside.flows.items c.index.result) (set c.self.inside.flows.items c.index.result (Some c.in-Flow.flow))
     ∙ ap (said_by (λ (l : List (Option ℚ)). record draft { flows = l })) c.in_ok-put-in-Flow.ensures.puts
@@ -87,7 +87,7 @@ returns-in_err-put-in-Slope-clause-adds c =
     let p = err_from_is_err_and c.from_residual-in_err-put-in-Slope.result c.from_residual-in_err-put-in-Slope.ensures.1 in
     let draft : FlowsDraft = record { flows = c.self.inside.flows.items; slopes = c.self.inside.slopes.items; ended = c.self.inside.ended } in
     rw (p.1, p.2) (adds c.args.net.now draft c.args.self.now c.args.line.now.words c.self.view_is
-        (Ok (SlopeOf c.in-Slope.node c.in-Slope.slope)) c.if-self.false (c.in_ok-link.ensures.says ∙ ap (λ (e : Entry). Ok (seen_entry e)) c.in-Slope.is)
+    (Ok (SlopeOf c.in-Slope.node c.in-Slope.slope)) c.if-self.false (c.in_ok-link.ensures.says ∙ ap (λ (e : Entry). Ok (seen_entry e)) c.in-Slope.is)
     ∙ ap (λ (k : ℕ). with_entry draft (SlopeOf k c.in-Slope.slope)) (sym c.index-in-Slope.ensures)
     ∙ slope_put draft (is_given c.self.inside.slopes.items c.index-in-Slope.result) (set c.self.inside.slopes.items c.index-in-Slope.result (Some c.in-Slope.slope))
     ∙ ap (said_by (λ (l : List (Option ℚ)). record draft { slopes = l })) c.in_err-put-in-Slope.ensures.puts)
@@ -96,7 +96,7 @@ pub returns-in_ok-put-in-Slope-clause-adds : goal.returns-in_ok-put-in-Slope-cla
 returns-in_ok-put-in-Slope-clause-adds c =
     let draft : FlowsDraft = record { flows = c.self.inside.flows.items; slopes = c.self.inside.slopes.items; ended = c.self.inside.ended } in
     adds c.args.net.now draft c.args.self.now c.args.line.now.words c.self.view_is (Ok (SlopeOf c.in-Slope.node c.in-Slope.slope)) c.if-self.false
-        (c.in_ok-link.ensures.says ∙ ap (λ (e : Entry). Ok (seen_entry e)) c.in-Slope.is)
+    (c.in_ok-link.ensures.says ∙ ap (λ (e : Entry). Ok (seen_entry e)) c.in-Slope.is)
     ∙ ap (λ (k : ℕ). with_entry draft (SlopeOf k c.in-Slope.slope)) (sym c.index-in-Slope.ensures)
     ∙ slope_put draft (is_given c.self.inside.slopes.items c.index-in-Slope.result) (set c.self.inside.slopes.items c.index-in-Slope.result (Some c.in-Slope.slope))
     ∙ ap (said_by (λ (l : List (Option ℚ)). record draft { slopes = l })) c.in_ok-put-in-Slope.ensures.puts

@@ -24,7 +24,7 @@ invariant_of-result c =
     (checked_composed-is passes_Q c.args.outer.now.points c.args.inner.now.points c.args.until c.in_ok-points.points.items
     (curve_seen _ _ _ c.outer.invariant c.outer.view_is) (curve_seen _ _ _ c.inner.invariant c.inner.view_is) c.requires.until c.requires.inner
     (was_ok c.args.part (checked_composed passes_Q c.args.outer.now.points c.args.inner.now.points c.args.until) c.in_ok-points.points.items
-        (rw (outer, inner) at c.in_ok-points.ensures))).curve
+    (rw (outer, inner) at c.in_ok-points.ensures))).curve
 
 pub returns-clause-composed : goal.returns-clause-composed
 returns-clause-composed c =
@@ -33,4 +33,4 @@ returns-clause-composed c =
     checked_composed-is passes_Q c.args.outer.now.points c.args.inner.now.points c.args.until c.in_ok-points.points.items
     (curve_seen _ _ _ c.outer.invariant c.outer.view_is) (curve_seen _ _ _ c.inner.invariant c.inner.view_is) c.requires.until c.requires.inner
     (was_ok c.args.part (checked_composed passes_Q c.args.outer.now.points c.args.inner.now.points c.args.until) c.in_ok-points.points.items
-        (rw (outer, inner) at c.in_ok-points.ensures))
+    (rw (outer, inner) at c.in_ok-points.ensures))

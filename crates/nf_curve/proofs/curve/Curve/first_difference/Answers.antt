@@ -21,7 +21,7 @@ returns-in-Some-clause-difference c =
     let l : c.deref.result.now ≡ c.args.left.now.points = points_seen _ _ _ _ c.deref.ensures.value c.left.view_is in
     let r : c.deref-2.result.now ≡ c.args.right.now.points = points_seen _ _ _ _ c.deref-2.ensures.value c.right.view_is in
     let e : ◌≡◌ {A = Result (Option lists.Sides) (PassedAt ℚ)} (Ok (option_map sides_of c.in_ok-sides.field-0))
-        (at_part c.args.part (checked_difference passes_Q c.args.left.now.points c.args.right.now.points c.args.until)) =
+    (at_part c.args.part (checked_difference passes_Q c.args.left.now.points c.args.right.now.points c.args.until)) =
     rw (l, r) at c.in_ok-sides.ensures in
     subst (λ (s : lists.Sides). DifferFirst c.args.left.now.points c.args.right.now.points c.args.until s) (sym c.of.ensures)
     (checked_difference-is passes_Q c.args.left.now.points c.args.right.now.points left right c.args.until c.requires (Some (sides_of c.in-Some.sides))
@@ -35,7 +35,7 @@ returns-in-None-clause-difference c =
     let l : c.deref.result.now ≡ c.args.left.now.points = points_seen _ _ _ _ c.deref.ensures.value c.left.view_is in
     let r : c.deref-2.result.now ≡ c.args.right.now.points = points_seen _ _ _ _ c.deref-2.ensures.value c.right.view_is in
     let e : ◌≡◌ {A = Result (Option lists.Sides) (PassedAt ℚ)} (Ok (option_map sides_of c.in_ok-sides.field-0))
-        (at_part c.args.part (checked_difference passes_Q c.args.left.now.points c.args.right.now.points c.args.until)) =
+    (at_part c.args.part (checked_difference passes_Q c.args.left.now.points c.args.right.now.points c.args.until)) =
     rw (l, r) at c.in_ok-sides.ensures in
     checked_difference-is passes_Q c.args.left.now.points c.args.right.now.points left right c.args.until c.requires None
     (was_ok c.args.part (checked_difference passes_Q c.args.left.now.points c.args.right.now.points c.args.until) None

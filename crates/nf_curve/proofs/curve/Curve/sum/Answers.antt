@@ -25,4 +25,4 @@ returns-clause-sum c =
     let right : c.deref-2.result.now ≡ c.args.right.now.points = points_seen _ _ _ _ c.deref-2.ensures.value c.right.view_is in
     checked_sum-is passes_Q c.args.left.now.points c.args.right.now.points (curve_seen _ _ _ c.left.invariant c.left.view_is) (curve_seen _ _ _ c.right.invariant c.right.view_is)
     c.in_ok-points.points.items (was_ok c.args.part (checked_sum passes_Q c.args.left.now.points c.args.right.now.points) c.in_ok-points.points.items
-        (rw (left, right) at c.in_ok-points.ensures))
+    (rw (left, right) at c.in_ok-points.ensures))

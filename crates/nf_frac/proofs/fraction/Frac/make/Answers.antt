@@ -12,13 +12,13 @@ pub returns-in_err-value : goal.returns-in_err-value
 returns-in_err-value g c =
     stops _ _ _ c.from_residual.ensures
     (not_made c.args.num c.args.den _ _ _ _ (bound_of g.row.BITS) (to_z-of_z c.ranges.num)
-        (to_z-of_z c.ranges.den) c.unsigned_abs.ensures.value c.unsigned_abs-2.ensures.value (λ e. c.if-den-eq0.false (ap (of_z w128) e))
+    (to_z-of_z c.ranges.den) c.unsigned_abs.ensures.value c.unsigned_abs-2.ensures.value (λ e. c.if-den-eq0.false (ap (of_z w128) e))
     (rw c.bound.ensures.value at c.in_err-value.ensures))
 
 pub returns : goal.returns
 returns g c =
     made c.args.num c.args.den _ _ _ _ (bound_of g.row.BITS) (to_z-of_z c.ranges.num)
-        (to_z-of_z c.ranges.den) c.unsigned_abs.ensures.value c.unsigned_abs-2.ensures.value (λ e. c.if-den-eq0.false (ap (of_z w128) e))
+    (to_z-of_z c.ranges.den) c.unsigned_abs.ensures.value c.unsigned_abs-2.ensures.value (λ e. c.if-den-eq0.false (ap (of_z w128) e))
     c.in_ok-value.value (rw c.bound.ensures.value at c.in_ok-value.ensures)
 
 pub invariant_of-result : goal.invariant_of-result

@@ -11,4 +11,4 @@ invariant_of-result g c =
 pub returns-in-Some : goal.returns-in-Some
 returns-in-Some g c =
     product_done (bound_of g.row.BITS) c.args.self c.args.right c.multiplied.result
-        (small_product (bound_of g.row.BITS) c.args.self c.args.right _ (c.in-Some.ensures {u = tt}) c.multiplied.result c.multiplied.ensures)
+    (small_product (bound_of g.row.BITS) c.args.self c.args.right _ (c.in-Some.ensures {u = tt}) c.multiplied.result c.multiplied.ensures)

@@ -11,4 +11,4 @@ invariant_of-result g c =
 pub returns-in-Some : goal.returns-in-Some
 returns-in-Some g c =
     sum_done (bound_of g.row.BITS) c.args.self c.args.right c.plus.result
-        (small_sum (bound_of g.row.BITS) c.args.self c.args.right _ (c.in-Some.ensures {u = tt}) c.plus.result c.plus.ensures)
+    (small_sum (bound_of g.row.BITS) c.args.self c.args.right _ (c.in-Some.ensures {u = tt}) c.plus.result c.plus.ensures)

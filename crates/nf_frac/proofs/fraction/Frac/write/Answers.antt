@@ -9,18 +9,18 @@ use Rattle.nf_frac.proofs.fraction.Frac.write.Goals as goal
 pub returns-clause-text : goal.returns-clause-text
 returns-clause-text g c =
     written c.args.self _ _ (c.numer.ensures.value ∙ ap (λ (q : ℚ). q.num) c.self.view_is) c.numer.ensures.small
-        (c.denom.ensures.value ∙ ap (λ (q : ℚ). q.den) c.self.view_is) _ c.write_parts.ensures
+    (c.denom.ensures.value ∙ ap (λ (q : ℚ). q.den) c.self.view_is) _ c.write_parts.ensures
 
 pub returns-clause-reads_back : goal.returns-clause-reads_back
 returns-clause-reads_back g c =
     written_read c.args.self _ _ (c.numer.ensures.value ∙ ap (λ (q : ℚ). q.num) c.self.view_is) c.numer.ensures.small
-        (c.denom.ensures.value ∙ ap (λ (q : ℚ). q.den) c.self.view_is) _ c.write_parts.ensures
+    (c.denom.ensures.value ∙ ap (λ (q : ℚ). q.den) c.self.view_is) _ c.write_parts.ensures
     (bound_of g.row.BITS) (within_along (bound_of g.row.BITS) _ _ (sym c.self.view_is) c.self.invariant)
 
 pub returns-clause-reads_back_as_decimal : goal.returns-clause-reads_back_as_decimal
 returns-clause-reads_back_as_decimal g c =
     written_read_as_decimal c.args.self _ _ (c.numer.ensures.value ∙ ap (λ (q : ℚ). q.num) c.self.view_is) c.numer.ensures.small
-        (c.denom.ensures.value ∙ ap (λ (q : ℚ). q.den) c.self.view_is) _ c.write_parts.ensures
+    (c.denom.ensures.value ∙ ap (λ (q : ℚ). q.den) c.self.view_is) _ c.write_parts.ensures
     (bound_of g.row.BITS) (within_along (bound_of g.row.BITS) _ _ (sym c.self.view_is) c.self.invariant)
 
 pub write_parts-requires-clause-num : goal.write_parts-requires-clause-num

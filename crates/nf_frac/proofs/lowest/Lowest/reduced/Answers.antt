@@ -5,7 +5,7 @@ use Rattle.nf_frac.proofs.lowest.Lowest.reduced.Goals as goal
 pub returns-then-above-limit : goal.returns-then-above-limit
 returns-then-above-limit c w =
     let h = within_reduced c.args.negative c.args.magnitude c.args.den _ _ _ c.gcd_of-common.ensures.value c.divided-above.ensures c.divided-below.ensures
-        c.requires.positive c.args.limit w in
+    c.requires.positive c.args.limit w in
     grind (arith, h.0, h.1)
 
 pub invariant_of-result : goal.invariant_of-result
@@ -13,7 +13,7 @@ invariant_of-result c =
     let n = num_reduced c.args.negative c.args.magnitude c.args.den _ _ _ c.gcd_of-common.ensures.value c.divided-above.ensures c.divided-below.ensures c.requires.positive in
     let d = den_reduced c.args.negative c.args.magnitude c.args.den _ _ _ c.gcd_of-common.ensures.value c.divided-above.ensures c.divided-below.ensures c.requires.positive in
     let w = reduced_within c.args.negative c.args.magnitude c.args.den _ _ _ c.gcd_of-common.ensures.value c.divided-above.ensures c.divided-below.ensures
-        c.requires.positive c.args.limit c.if-above-limit.false c.if-below-limit.false in
+    c.requires.positive c.args.limit c.if-above-limit.false c.if-below-limit.false in
     form_of _ _ _ (c.with_sign.ensures ∙ n) d (within_more c.requires.narrow w)
 
 pub returns : goal.returns
@@ -21,5 +21,5 @@ returns c =
     let n = num_reduced c.args.negative c.args.magnitude c.args.den _ _ _ c.gcd_of-common.ensures.value c.divided-above.ensures c.divided-below.ensures c.requires.positive in
     let d = den_reduced c.args.negative c.args.magnitude c.args.den _ _ _ c.gcd_of-common.ensures.value c.divided-above.ensures c.divided-below.ensures c.requires.positive in
     let w = reduced_within c.args.negative c.args.magnitude c.args.den _ _ _ c.gcd_of-common.ensures.value c.divided-above.ensures c.divided-below.ensures
-        c.requires.positive c.args.limit c.if-above-limit.false c.if-below-limit.false in
+    c.requires.positive c.args.limit c.if-above-limit.false c.if-below-limit.false in
     (w, value_of _ _ _ (c.with_sign.ensures ∙ n) d (within_more c.requires.narrow w))

@@ -43,10 +43,10 @@ over-requires-clause-small c =
     let p = parts_of c.self.invariant c.self.view_is in
     let q = parts_of c.right.invariant c.right.view_is in
     let e = n_plain bits_of greatest plain c.args.self c.args.right _ _ _ _ _ _ c.requires p.den q.den c.gcd_of-common.ensures.value
-        c.divided-left_factor.ensures c.divided-right_factor.ensures
+    c.divided-left_factor.ensures c.divided-right_factor.ensures
     _ _ c.in_ok-left_part.ensures c.in_ok-right_part.ensures c.in_ok-den.den c.in_ok-num.num c.in_ok-den.ensures c.in_ok-num.ensures in
     let h = n_small bits_of greatest plain c.args.self c.args.right _ _ _ _ _ _ c.requires p.den q.den c.gcd_of-common.ensures.value
-        c.divided-left_factor.ensures c.divided-right_factor.ensures
+    c.divided-left_factor.ensures c.divided-right_factor.ensures
     _ _ c.in_ok-left_part.ensures c.in_ok-right_part.ensures c.in_ok-den.den c.in_ok-num.num c.in_ok-den.ensures c.in_ok-num.ensures in
     subst (λ (z : ℤ). nat_abs z ≤ greatest) (sym e) (le_trans h c.requires)
 
@@ -59,7 +59,7 @@ returns-in_err-den c =
     let q = parts_of c.right.invariant c.right.view_is in
     stops _ _ _ c.from_residual.ensures
     (no_denominator bits_of greatest plain c.args.self c.args.right _ _ _ _ _ _ c.requires p.den q.den c.gcd_of-common.ensures.value
-        c.divided-left_factor.ensures c.divided-right_factor.ensures c.in_err-den.ensures)
+    c.divided-left_factor.ensures c.divided-right_factor.ensures c.in_err-den.ensures)
 
 pub returns-in_err-left_part : goal.returns-in_err-left_part
 returns-in_err-left_part c =
@@ -67,7 +67,7 @@ returns-in_err-left_part c =
     let q = parts_of c.right.invariant c.right.view_is in
     stops _ _ _ c.from_residual-in_err-left_part.ensures
     (no_left bits_of greatest plain c.args.self c.args.right _ _ _ _ _ _ c.requires p.den q.den c.gcd_of-common.ensures.value c.divided-left_factor.ensures
-        c.divided-right_factor.ensures c.in_err-left_part.ensures)
+    c.divided-right_factor.ensures c.in_err-left_part.ensures)
 
 pub returns-in_err-right_part : goal.returns-in_err-right_part
 returns-in_err-right_part c =
@@ -75,7 +75,7 @@ returns-in_err-right_part c =
     let q = parts_of c.right.invariant c.right.view_is in
     stops _ _ _ c.from_residual-in_err-right_part.ensures
     (no_right bits_of greatest plain c.args.self c.args.right _ _ _ _ _ _ c.requires p.den q.den c.gcd_of-common.ensures.value c.divided-left_factor.ensures
-        c.divided-right_factor.ensures c.in_err-right_part.ensures)
+    c.divided-right_factor.ensures c.in_err-right_part.ensures)
 
 pub returns-in_err-num : goal.returns-in_err-num
 returns-in_err-num c =
@@ -83,7 +83,7 @@ returns-in_err-num c =
     let q = parts_of c.right.invariant c.right.view_is in
     stops _ _ _ c.from_residual-in_err-num.ensures
     (no_total bits_of greatest plain c.args.self c.args.right _ _ _ _ _ _ c.requires p.den q.den c.gcd_of-common.ensures.value c.divided-left_factor.ensures
-        c.divided-right_factor.ensures
+    c.divided-right_factor.ensures
     _ _ c.in_ok-left_part.ensures c.in_ok-right_part.ensures c.in_err-num.ensures)
 
 pub over-requires-clause-positive : goal.over-requires-clause-positive
@@ -91,7 +91,7 @@ over-requires-clause-positive c =
     let p = parts_of c.self.invariant c.self.view_is in
     let q = parts_of c.right.invariant c.right.view_is in
     den_positive bits_of greatest plain c.args.self c.args.right _ _ _ _ _ _ c.requires p.den q.den c.gcd_of-common.ensures.value
-        c.divided-left_factor.ensures c.divided-right_factor.ensures
+    c.divided-left_factor.ensures c.divided-right_factor.ensures
     _ _ c.in_ok-left_part.ensures c.in_ok-right_part.ensures _ _ c.in_ok-den.ensures c.in_ok-num.ensures
 
 pub over-requires-clause-factor : goal.over-requires-clause-factor
@@ -99,10 +99,10 @@ over-requires-clause-factor c =
     let p = parts_of c.self.invariant c.self.view_is in
     let q = parts_of c.right.invariant c.right.view_is in
     let f = factor bits_of greatest plain c.args.self c.args.right _ _ _ _ _ _ c.requires p.den q.den c.gcd_of-common.ensures.value
-        c.divided-left_factor.ensures c.divided-right_factor.ensures
+    c.divided-left_factor.ensures c.divided-right_factor.ensures
     _ _ c.in_ok-left_part.ensures c.in_ok-right_part.ensures c.in_ok-den.den c.in_ok-num.num c.in_ok-den.ensures c.in_ok-num.ensures in
     let e = n_plain bits_of greatest plain c.args.self c.args.right _ _ _ _ _ _ c.requires p.den q.den c.gcd_of-common.ensures.value
-        c.divided-left_factor.ensures c.divided-right_factor.ensures
+    c.divided-left_factor.ensures c.divided-right_factor.ensures
     _ _ c.in_ok-left_part.ensures c.in_ok-right_part.ensures c.in_ok-den.den c.in_ok-num.num c.in_ok-den.ensures c.in_ok-num.ensures in
     subst (λ (z : ℤ). gcd (nat_abs z) c.gcd_of-common.result ≡ gcd (nat_abs z) c.in_ok-den.den) (sym e) f
 
@@ -111,12 +111,12 @@ returns c =
     let p = parts_of c.self.invariant c.self.view_is in
     let q = parts_of c.right.invariant c.right.view_is in
     let w = fits bits_of greatest plain c.args.self c.args.right _ _ _ _ _ _ c.requires p.den q.den c.gcd_of-common.ensures.value
-        c.divided-left_factor.ensures c.divided-right_factor.ensures
+    c.divided-left_factor.ensures c.divided-right_factor.ensures
     _ _ c.in_ok-left_part.ensures c.in_ok-right_part.ensures c.in_ok-den.den c.in_ok-num.num c.in_ok-den.ensures c.in_ok-num.ensures in
     let v = value bits_of greatest plain c.args.self c.args.right _ _ _ _ _ _ c.requires p.den q.den c.gcd_of-common.ensures.value
-        c.divided-left_factor.ensures c.divided-right_factor.ensures
+    c.divided-left_factor.ensures c.divided-right_factor.ensures
     _ _ c.in_ok-left_part.ensures c.in_ok-right_part.ensures c.in_ok-den.den c.in_ok-num.num c.in_ok-den.ensures c.in_ok-num.ensures in
     let e = n_plain bits_of greatest plain c.args.self c.args.right _ _ _ _ _ _ c.requires p.den q.den c.gcd_of-common.ensures.value
-        c.divided-left_factor.ensures c.divided-right_factor.ensures
+    c.divided-left_factor.ensures c.divided-right_factor.ensures
     _ _ c.in_ok-left_part.ensures c.in_ok-right_part.ensures c.in_ok-den.den c.in_ok-num.num c.in_ok-den.ensures c.in_ok-num.ensures in
     (w, c.over.ensures ∙ ap (λ (z : ℤ). ratio z c.in_ok-den.den) e ∙ v)

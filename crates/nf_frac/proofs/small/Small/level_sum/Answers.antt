@@ -7,7 +7,7 @@ pub returns-in_err-num : goal.returns-in_err-num
 returns-in_err-num c =
     stops _ _ _ c.from_residual.ensures
     (no_level c.args.self c.args.right c.denom-den.result c.numer.result c.numer-2.result c.requires c.denom-den.ensures.value c.denom-den.ensures.small
-        c.numer.ensures.value c.numer-2.ensures.value c.numer.ensures.small c.numer-2.ensures.small
+    c.numer.ensures.value c.numer-2.ensures.value c.numer.ensures.small c.numer-2.ensures.small
     c.in_err-num.ensures)
 
 pub returns : goal.returns
@@ -17,6 +17,6 @@ returns c = (
       c.in_ok-num.num c.in_ok-num.ensures,
   c.over.ensures
       ∙ level_value c.args.self c.args.right c.denom-den.result c.numer.result c.numer-2.result c.requires c.denom-den.ensures.value
-          c.denom-den.ensures.small c.numer.ensures.value c.numer-2.ensures.value c.numer.ensures.small c.numer-2.ensures.small
+      c.denom-den.ensures.small c.numer.ensures.value c.numer-2.ensures.value c.numer.ensures.small c.numer-2.ensures.small
       c.in_ok-num.num c.in_ok-num.ensures,
 )

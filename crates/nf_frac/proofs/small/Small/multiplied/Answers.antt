@@ -11,9 +11,9 @@ of-requires c =
     let yn = plain_64 c.numer-2.result c.numer-2.ensures.small ∙ c.numer-2.ensures.value in
     product_form c.args.self c.args.right xw yw _ _ _ _ c.wide_product.result c.denom.result c.denom-2.result _ _ c.divided_short.result c.divided_short-2.result c.widened.result
     c.denom.ensures.value c.denom-2.ensures.value xn yn c.common_with-left.ensures.value c.common_with-other.ensures.value
-        (part_plain c.part_of.result c.numer.result c.common_with-left.result c.part_of.ensures c.numer.ensures.small)
-        (part_plain c.part_of-2.result c.numer-2.result c.common_with-other.result c.part_of-2.ensures c.numer-2.ensures.small) c.wide_product.ensures
-        c.divided_short.ensures c.divided_short-2.ensures c.widened.ensures
+    (part_plain c.part_of.result c.numer.result c.common_with-left.result c.part_of.ensures c.numer.ensures.small)
+    (part_plain c.part_of-2.result c.numer-2.result c.common_with-other.result c.part_of-2.ensures c.numer-2.ensures.small) c.wide_product.ensures
+    c.divided_short.ensures c.divided_short-2.ensures c.widened.ensures
 
 pub returns : goal.returns
 returns c =
@@ -24,9 +24,9 @@ returns c =
     c.of.ensures
     ∙ product_value c.args.self c.args.right xw yw _ _ _ _ c.wide_product.result c.denom.result c.denom-2.result _ _ c.divided_short.result c.divided_short-2.result c.widened.result
     c.denom.ensures.value c.denom-2.ensures.value xn yn c.common_with-left.ensures.value c.common_with-other.ensures.value
-        (part_plain c.part_of.result c.numer.result c.common_with-left.result c.part_of.ensures c.numer.ensures.small)
-        (part_plain c.part_of-2.result c.numer-2.result c.common_with-other.result c.part_of-2.ensures c.numer-2.ensures.small) c.wide_product.ensures
-        c.divided_short.ensures c.divided_short-2.ensures c.widened.ensures
+    (part_plain c.part_of.result c.numer.result c.common_with-left.result c.part_of.ensures c.numer.ensures.small)
+    (part_plain c.part_of-2.result c.numer-2.result c.common_with-other.result c.part_of-2.ensures c.numer-2.ensures.small) c.wide_product.ensures
+    c.divided_short.ensures c.divided_short-2.ensures c.widened.ensures
 
 pub wide_product-requires-clause-left : goal.wide_product-requires-clause-left
 wide_product-requires-clause-left c = part_kept c.part_of.result c.numer.result _ c.part_of.ensures c.numer.ensures.small

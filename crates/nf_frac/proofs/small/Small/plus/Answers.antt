@@ -10,9 +10,9 @@ overflow_add-total c =
     let xn = plain_64 c.numer-num.result c.numer-num.ensures.small ∙ c.numer-num.ensures.value in
     let yn = plain_64 c.numer-right_num.result c.numer-right_num.ensures.small ∙ c.numer-right_num.ensures.value in
     total_fits c.args.self c.args.right xw yw c.denom-den.result c.denom-right_den.result c.common_factor-common.result c.divided_short-left_factor.result
-        c.divided_short-right_factor.result
+    c.divided_short-right_factor.result
     _ _ c.times.result c.times-2.result c.denom-den.ensures.value c.denom-right_den.ensures.value c.common_factor-common.ensures.value
-        c.divided_short-left_factor.ensures c.divided_short-right_factor.ensures
+    c.divided_short-left_factor.ensures c.divided_short-right_factor.ensures
     xn yn c.times.ensures c.times-2.ensures
 
 pub of-requires : goal.of-requires
@@ -22,9 +22,9 @@ of-requires c =
     let xn = plain_64 c.numer-num.result c.numer-num.ensures.small ∙ c.numer-num.ensures.value in
     let yn = plain_64 c.numer-right_num.result c.numer-right_num.ensures.small ∙ c.numer-right_num.ensures.value in
     sum_form c.args.self c.args.right xw yw c.denom-den.result c.denom-right_den.result c.common_factor-common.result c.divided_short-left_factor.result
-        c.divided_short-right_factor.result
+    c.divided_short-right_factor.result
     _ _ c.times.result c.times-2.result c.denom-den.ensures.value c.denom-right_den.ensures.value c.common_factor-common.ensures.value
-        c.divided_short-left_factor.ensures c.divided_short-right_factor.ensures
+    c.divided_short-left_factor.ensures c.divided_short-right_factor.ensures
     xn yn c.times.ensures c.times-2.ensures
     c.unsigned_abs.result c.rest_factor-rest.result c.divided_short.result c.widened.result c.shortened.result
     c.unsigned_abs.ensures.value c.rest_factor-rest.ensures.value c.shortened.ensures c.divided_short.ensures c.widened.ensures
@@ -37,9 +37,9 @@ returns c =
     let yn = plain_64 c.numer-right_num.result c.numer-right_num.ensures.small ∙ c.numer-right_num.ensures.value in
     c.of.ensures
     ∙ sum_value c.args.self c.args.right xw yw c.denom-den.result c.denom-right_den.result c.common_factor-common.result c.divided_short-left_factor.result
-        c.divided_short-right_factor.result
+    c.divided_short-right_factor.result
     _ _ c.times.result c.times-2.result c.denom-den.ensures.value c.denom-right_den.ensures.value c.common_factor-common.ensures.value
-        c.divided_short-left_factor.ensures c.divided_short-right_factor.ensures
+    c.divided_short-left_factor.ensures c.divided_short-right_factor.ensures
     xn yn c.times.ensures c.times-2.ensures
     c.unsigned_abs.result c.rest_factor-rest.result c.divided_short.result c.widened.result c.shortened.result
     c.unsigned_abs.ensures.value c.rest_factor-rest.ensures.value c.shortened.ensures c.divided_short.ensures c.widened.ensures

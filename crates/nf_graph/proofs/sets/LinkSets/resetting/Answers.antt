@@ -7,4 +7,4 @@ pub returns-clause-flag : goal.returns-clause-flag
 returns-clause-flag c =
     flag_of c.self.inside.resetting.items c.args.self.now.resetting c.index.result c.args.link c.index-2.result.now (ap (λ (s : Sets). s.resetting) c.self.view_is) c.index.ensures
     (subst (λ (n : ℕ). c.args.link < n) (ap (λ (s : Sets). length s.active) (sym c.self.view_is) ∙ c.self.invariant.count
-        ∙ ap (λ (s : Sets). length s.resetting) c.self.view_is) c.requires) c.index-2.ensures
+    ∙ ap (λ (s : Sets). length s.resetting) c.self.view_is) c.requires) c.index-2.ensures

@@ -19,9 +19,12 @@ pub invariant_of-self : goal.invariant_of-self
 invariant_of-self g c =
     let within = c.self.invariant.1 in
     let told = c.self.told in
-    let long : c.self.inside.size ≤ length c.self.inside.rows = omega arith in
-    (c.self.invariant.0, within, set_square c.self.inside.rows c.args.self.now c.self.inside.size c.args.row c.args.column c.args.value c.set_at.new.rows _
-        long c.self.view_is c.set_at.ensures c.self.invariant.2 c.requires.row)
+    let long : c.self.inside.size ≤ length c.self.inside.rows = omega arith in (
+      c.self.invariant.0,
+      within,
+      set_square c.self.inside.rows c.args.self.now c.self.inside.size c.args.row c.args.column c.args.value c.set_at.new.rows _
+          long c.self.view_is c.set_at.ensures c.self.invariant.2 c.requires.row,
+    )
 
 pub returns : goal.returns
 returns g c =

@@ -21,9 +21,12 @@ pub invariant_of-self : goal.invariant_of-self
 invariant_of-self g c =
     let within = c.self.invariant.1 in
     let told = c.self.told in
-    let long : c.self.inside.size ≤ length c.self.inside.rows = omega arith in
-    (c.self.invariant.0, within, set_square c.self.inside.rows c.args.self.now c.self.inside.size c.args.row c.self.inside.size c.args.value
-        c.set_at.new.rows _ long c.self.view_is c.set_at.ensures c.self.invariant.2 c.requires)
+    let long : c.self.inside.size ≤ length c.self.inside.rows = omega arith in (
+      c.self.invariant.0,
+      within,
+      set_square c.self.inside.rows c.args.self.now c.self.inside.size c.args.row c.self.inside.size c.args.value
+          c.set_at.new.rows _ long c.self.view_is c.set_at.ensures c.self.invariant.2 c.requires,
+    )
 
 pub returns : goal.returns
 returns g c =
@@ -32,4 +35,4 @@ returns g c =
     let long : c.self.inside.size ≤ length c.self.inside.rows = omega arith in
     set_seen c.self.inside.rows c.args.self.now c.self.inside.size c.args.row c.self.inside.size c.args.value c.set_at.new.rows _ long c.self.view_is c.set_at.ensures
     ∙ ap (λ (n : ℕ). set c.args.self.now c.args.row (set (row_at c.args.self.now c.args.row) n c.args.value))
-        (sym (seen_long c.self.inside.rows c.args.self.now c.self.inside.size long c.self.view_is))
+    (sym (seen_long c.self.inside.rows c.args.self.now c.self.inside.size long c.self.view_is))

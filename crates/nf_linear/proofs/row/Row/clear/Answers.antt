@@ -15,13 +15,13 @@ subtract-requires g c =
 pub returns : goal.returns
 returns g c =
     let quotient : seen g.C.Number.Scalar.means g.C.Number.Scalar.means c.quotient.result ≡ checked g.C.Number.Scalar.passes Quotient
-        (number_at c.args.self.now c.args.column) (g.C.Number.Scalar.means c.args.own) =
+    (number_at c.args.self.now c.args.column) (g.C.Number.Scalar.means c.args.own) =
     c.quotient.ensures ∙ ap (λ (x : ℚ). checked g.C.Number.Scalar.passes Quotient x (g.C.Number.Scalar.means c.args.own)) c.at.ensures in
     search rules
 
 pub returns-2 : goal.returns-2
 returns-2 g c =
     let quotient : seen g.C.Number.Scalar.means g.C.Number.Scalar.means c.quotient.result ≡ checked g.C.Number.Scalar.passes Quotient
-        (number_at c.args.self.now c.args.column) (g.C.Number.Scalar.means c.args.own) =
+    (number_at c.args.self.now c.args.column) (g.C.Number.Scalar.means c.args.own) =
     c.quotient.ensures ∙ ap (λ (x : ℚ). checked g.C.Number.Scalar.passes Quotient x (g.C.Number.Scalar.means c.args.own)) c.at.ensures in
     search rules

@@ -7,5 +7,5 @@ use Rattle.nf_linear.proofs.table_cells.TableCellsCells.at.Goals as goal
 pub returns : goal.returns
 returns g c =
     cell_read g.S.Scalar.means c.self.inside.cells.items c.args.column c.index.result.now
-        (cells_below g.S.Scalar.means c.self.inside.cells.items c.args.self.now c.args.column c.self.view_is c.requires) c.index.ensures
+    (cells_below g.S.Scalar.means c.self.inside.cells.items c.args.self.now c.args.column c.self.view_is c.requires) c.index.ensures
     ∙ ap (λ (row : List ℚ). number_at row c.args.column) c.self.view_is

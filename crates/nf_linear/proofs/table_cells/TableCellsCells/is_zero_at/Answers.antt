@@ -10,5 +10,5 @@ returns g c =
     c.is_zero.ensures
     ∙ ap is_zero
     (cell_read g.S.Scalar.means c.self.inside.cells.items c.args.column c.index.result.now
-        (cells_below g.S.Scalar.means c.self.inside.cells.items c.args.self.now c.args.column c.self.view_is c.requires) c.index.ensures
+    (cells_below g.S.Scalar.means c.self.inside.cells.items c.args.self.now c.args.column c.self.view_is c.requires) c.index.ensures
     ∙ ap (λ (row : List ℚ). number_at row c.args.column) c.self.view_is)

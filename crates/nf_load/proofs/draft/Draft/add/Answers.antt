@@ -13,6 +13,6 @@ returns-in_ok-push-in-Rate c =
     let within = subst (λ (e : Entry). HasLink (length c.args.self.now.pieces) (seen_entry e)) c.in-Rate.is c.requires in
     let lt = subst (λ (d : LoadsDraft). c.in-Rate.link < length d.pieces) (sym c.self.view_is) within in
     ap drafted (pushed_at all c.index.result c.in-Rate.link c.index_mut.result.now c.push.new.self c.in-Rate.piece c.index.ensures lt
-        c.index_mut.ensures.value c.in_ok-push-in-Rate.ensures)
+    c.index_mut.ensures.value c.in_ok-push-in-Rate.ensures)
     ∙ ap (λ (e : Entry). load_after (drafted all) (seen_entry e)) (sym c.in-Rate.is)
     ∙ ap (λ (d : LoadsDraft). load_after d (seen_entry c.args.entry)) c.self.view_is

@@ -8,7 +8,7 @@ pub returns-clause-pieces : goal.returns-clause-pieces
 returns-clause-pieces c =
     let lt = subst (λ (l : List (List Piece)). c.args.link < length l) (sym c.self.view_is) c.requires in
     subst ArePieces (sym (c.as_slice.ensures ∙ read_at c.self.inside.links.items c.index.result c.args.link c.index-2.result.now c.index.ensures lt
-        c.index-2.ensures)) (c.self.invariant.each c.args.link)
+    c.index-2.ensures)) (c.self.invariant.each c.args.link)
 
 pub returns-clause-value : goal.returns-clause-value
 returns-clause-value c =

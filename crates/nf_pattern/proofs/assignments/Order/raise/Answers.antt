@@ -11,7 +11,7 @@ returns-then-quiet-same c =
 pub raise_from-requires-else-quiet-same-clause-counted : goal.raise_from-requires-else-quiet-same-clause-counted
 raise_from-requires-else-quiet-same-clause-counted c =
     c.count_changes-changes.ensures.changes ∙ changes_to_quiet c.args.self.now.base.now c.args.states.now c.args.quiet c.requires.quiet c.args.same
-        (let past = c.if-quiet-same.false in omega arith) c.requires.may.count
+    (let past = c.if-quiet-same.false in omega arith) c.requires.may.count
 
 pub raise_from-requires-else-quiet-same-clause-free : goal.raise_from-requires-else-quiet-same-clause-free
 raise_from-requires-else-quiet-same-clause-free c =

@@ -30,17 +30,17 @@ fill-quiet-requires-clause-changes c =
 pub returns-in-Some : goal.returns-in-Some
 returns-in-Some c =
     let filled : earliest (drop (suc c.args.link) c.args.self.now.base.now) (drop (suc c.args.link) c.args.self.now.unbounded.now)
-        (c.args.changes - c.change.result) ≡ Some c.fill-quiet.new.states =
+    (c.args.changes - c.change.result) ≡ Some c.fill-quiet.new.states =
     subst (λ (x : Pattern). earliest x (drop (suc c.args.link) c.args.self.now.unbounded.now)
-        (c.args.changes - c.change.result) ≡ Some c.fill-quiet.new.states) (from_one c.args.self.now.base.now c.args.link)
+    (c.args.changes - c.change.result) ≡ Some c.fill-quiet.new.states) (from_one c.args.self.now.base.now c.args.link)
     (subst (λ (x : List Bool). earliest (take (length c.args.self.now.base.now - (c.args.link + 1)) (drop (c.args.link + 1) c.args.self.now.base.now)) x
-        (c.args.changes - c.change.result) ≡ Some c.fill-quiet.new.states)
+    (c.args.changes - c.change.result) ≡ Some c.fill-quiet.new.states)
     (from_one c.args.self.now.unbounded.now c.args.link) c.fill-quiet.ensures.filled) in
     let stays : put_mid (c.args.link + 1) (length (set c.args.states.now c.args.link c.in-Some.state) - (c.args.link + 1))
-        (set c.args.states.now c.args.link c.in-Some.state) c.fill-quiet.new.states
+    (set c.args.states.now c.args.link c.in-Some.state) c.fill-quiet.new.states
     ≡ take (suc c.args.link) (set c.args.states.now c.args.link c.in-Some.state) ++ c.fill-quiet.new.states =
     put_end (set c.args.states.now c.args.link c.in-Some.state) c.fill-quiet.new.states (c.args.link + 1)
-        (length (set c.args.states.now c.args.link c.in-Some.state) - (c.args.link + 1)) (omega arith)
+    (length (set c.args.states.now c.args.link c.in-Some.state) - (c.args.link + 1)) (omega arith)
     ∙ ap (λ (n : ℕ). take n (set c.args.states.now c.args.link c.in-Some.state) ++ c.fill-quiet.new.states) (add-one c.args.link) in (
       raises c.args.self.now.base.now c.args.self.now.unbounded.now c.args.self.now.sole.now c.args.states.now c.args.link c.args.changes c.args.more
           c.requires.free c.in-Some.state c.fill-quiet.new.states _ c.change.result
@@ -52,14 +52,16 @@ returns-in-Some c =
     )
 
 pub returns-in-None : goal.returns-in-None
-returns-in-None c =
-    (not_raised c.args.self.now.base.now c.args.self.now.unbounded.now c.args.self.now.sole.now c.args.states.now c.args.link c.args.changes c.args.more
-    c.requires.free (sym c.in-None.is ∙ c.next_choice.ensures), refl)
+returns-in-None c = (
+  not_raised c.args.self.now.base.now c.args.self.now.unbounded.now c.args.self.now.sole.now c.args.states.now c.args.link c.args.changes c.args.more
+      c.requires.free (sym c.in-None.is ∙ c.next_choice.ensures),
+  refl,
+)
 
 pub fill-quiet-requires-clause-states : goal.fill-quiet-requires-clause-states
 fill-quiet-requires-clause-states c =
     as_many_from (set c.args.states.now c.args.link c.in-Some.state) c.args.self.now.base.now (c.args.link + 1)
-        (length-set c.args.states.now c.args.link c.in-Some.state ∙ c.requires.states)
+    (length-set c.args.states.now c.args.link c.in-Some.state ∙ c.requires.states)
 
 pub fill-quiet-requires-clause-unbounded : goal.fill-quiet-requires-clause-unbounded
 fill-quiet-requires-clause-unbounded c = as_many_from c.args.self.now.unbounded.now c.args.self.now.base.now (c.args.link + 1) c.requires.order.unbounded

@@ -10,7 +10,7 @@ use Rattle.nf_pattern.proofs.patterns.Patterns.step.Goals as goal
 pub returns-then-find : goal.returns-then-find
 returns-then-find c =
     gives_next c.self.inside.question (last_of c.self.inside.stand c.self.inside.current) c.self.inside.place c.args.self.now c.self.view_is
-        c.find.new.states _ c.saturating_add-self-inside.result
+    c.find.new.states _ c.saturating_add-self-inside.result
     (subst (λ (x : Pattern). IsNext c.self.inside.question (last_of c.self.inside.stand x) c.find.new.states) (c.deref_mut.ensures.value ∙ c.current.view_is) c.if-find.ensures.found)
     (with_items_is c.current.inside.states c.find.new.states (c.find.auto.states ∙ c.deref_mut.ensures.len)) c.saturating_add-self-inside.ensures
 
@@ -24,11 +24,11 @@ find-requires-clause-placed c =
 pub invariant_of-self : goal.invariant_of-self
 invariant_of-self c =
     subst (λ (x : Pattern). IsStanding c.self.inside.question Listed x c.find.new.trail c.find.new.quiet)
-        (sym (with_items_is c.current.inside.states c.find.new.states (c.find.auto.states ∙ c.deref_mut.ensures.len)))
+    (sym (with_items_is c.current.inside.states c.find.new.states (c.find.auto.states ∙ c.deref_mut.ensures.len)))
     (record { placed = c.if-find.ensures.placed; start = λ s. search rules })
 
 pub invariant_of-self-2 : goal.invariant_of-self-2
 invariant_of-self-2 c =
     subst (λ (x : Pattern). IsStanding c.self.inside.question End x c.find.new.trail c.find.new.quiet)
-        (sym (with_items_is c.current.inside.states c.find.new.states (c.find.auto.states ∙ c.deref_mut.ensures.len)))
+    (sym (with_items_is c.current.inside.states c.find.new.states (c.find.auto.states ∙ c.deref_mut.ensures.len)))
     (record { placed = c.if-find.ensures.placed; start = λ s. search rules })

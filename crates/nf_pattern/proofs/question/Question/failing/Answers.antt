@@ -22,7 +22,7 @@ returns-then-extend-clause-found c =
     listed_on c.args.self.now c.requires.question c.args.states.now c.extend.new.self
     (gone_on c.args.self.now c.args.states.now c.args.trail.now c.extend.new.self c.requires.trail
     (follows_seen _ c.args.self.now c.self.view_is c.deref.result.now c.deref-2.result.now c.deref.ensures.value c.deref-2.ensures.value c.args.states.now
-        c.extend.new.self c.extend.ensures.follows)
+    c.extend.new.self c.extend.ensures.follows)
     c.extend.ensures.way)
     c.requires.assigned (c.extend.ensures.way.lost ∙ (sym c.is_lost.ensures ∙ c.if-is_lost.false))
     (c.if-extend.ensures.extended ∙ all_seen _ c.args.self.now c.self.view_is c.deref.result.now c.deref-2.result.now c.deref.ensures.value c.deref-2.ensures.value)
@@ -30,12 +30,12 @@ returns-then-extend-clause-found c =
 pub returns-clause-found : goal.returns-clause-found
 returns-clause-found c =
     let fails = fails_seen _ c.args.self.now c.self.view_is c.deref.result.now c.deref-2.result.now c.deref.ensures.value c.deref-2.ensures.value
-        c.args.states.now c.extend.new.self.ends.items c.extend.new.self.depth c.if-extend.ensures.extended in
+    c.args.states.now c.extend.new.self.ends.items c.extend.new.self.depth c.if-extend.ensures.extended in
     subst (λ (n : ℕ). (n + 1 ≤ length c.args.self.now.base) × IsBarren c.args.self.now (n + 1) c.args.states.now) (sym c.depth.ensures)
     (barren_on c.args.self.now c.requires.question c.args.states.now c.extend.new.self
     (gone_on c.args.self.now c.args.states.now c.args.trail.now c.extend.new.self c.requires.trail
     (follows_seen _ c.args.self.now c.self.view_is c.deref.result.now c.deref-2.result.now c.deref.ensures.value c.deref-2.ensures.value c.args.states.now
-        c.extend.new.self c.extend.ensures.follows)
+    c.extend.new.self c.extend.ensures.follows)
     c.extend.ensures.way)
     fails.0 fails.1)
 
@@ -57,14 +57,14 @@ pub returns-then-extend-clause-trail : goal.returns-then-extend-clause-trail
 returns-then-extend-clause-trail c =
     gone_on c.args.self.now c.args.states.now c.args.trail.now c.extend.new.self c.requires.trail
     (follows_seen _ c.args.self.now c.self.view_is c.deref.result.now c.deref-2.result.now c.deref.ensures.value c.deref-2.ensures.value c.args.states.now
-        c.extend.new.self c.extend.ensures.follows)
+    c.extend.new.self c.extend.ensures.follows)
     c.extend.ensures.way
 
 pub returns-clause-trail : goal.returns-clause-trail
 returns-clause-trail c =
     gone_on c.args.self.now c.args.states.now c.args.trail.now c.extend.new.self c.requires.trail
     (follows_seen _ c.args.self.now c.self.view_is c.deref.result.now c.deref-2.result.now c.deref.ensures.value c.deref-2.ensures.value c.args.states.now
-        c.extend.new.self c.extend.ensures.follows)
+    c.extend.new.self c.extend.ensures.follows)
     c.extend.ensures.way
 
 pub extend-requires-clause-stated : goal.extend-requires-clause-stated
@@ -74,6 +74,6 @@ extend-requires-clause-stated c = stated_too c.args.self.now.base c.args.self.no
 pub extend-requires-clause-ends : goal.extend-requires-clause-ends
 extend-requires-clause-ends c =
     subst (λ (resetting : List Bool). DoEndsCarry resetting c.args.states.now c.args.trail.now.ends.items)
-        (ap (λ (q : Question). q.sets.resetting) (sym c.self.view_is) ∙ sym c.deref-2.ensures.value)
+    (ap (λ (q : Question). q.sets.resetting) (sym c.self.view_is) ∙ sym c.deref-2.ensures.value)
     (ends_carry c.args.self.now.hops c.args.self.now.sets.resetting c.args.self.now.base c.args.self.now.unbounded c.args.states.now
-        c.args.trail.now.ends.items c.requires.trail.ends c.requires.assigned)
+    c.args.trail.now.ends.items c.requires.trail.ends c.requires.assigned)

@@ -12,7 +12,7 @@ use Rattle.nf_pattern.proofs.question.Question.new.Goals as goal
 pub invariant_of-result : goal.invariant_of-result
 invariant_of-result c =
     let same = same_question c.args.nodes.count c.args.nodes.source (c.in_ok-hops.ensures.items_if_clones_equal (λ x y e. e)) c.in_ok-flags.ensures.active
-        c.in_ok-flags.ensures.resetting (c.in_ok-unbounded.ensures.items_if_clones_equal (λ x y e. e)) c.in_ok-base.ensures in
+    c.in_ok-flags.ensures.resetting (c.in_ok-unbounded.ensures.items_if_clones_equal (λ x y e. e)) c.in_ok-base.ensures in
     let hops = c.deref.ensures.value ∙ c.in_ok-hops.ensures.items_if_clones_equal (λ x y e. e) in
     let resetting = c.deref-2.ensures.value ∙ c.in_ok-flags.ensures.resetting in
     let base = c.states-2.ensures ∙ c.in_ok-base.ensures in (

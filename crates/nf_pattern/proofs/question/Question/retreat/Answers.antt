@@ -19,5 +19,5 @@ returns c = λ before after is assigned same.
     (subst (λ (base : Pattern). AreStated base c.self.inside.stated) (ap (λ (q : Question). q.base) c.self.view_is) c.self.invariant.1) in
     come_back c.args.self.now before after c.args.link c.args.trail.now c.retreat.new.self is
     (follows_on _ c.args.self.now c.self.view_is c.deref.result.now c.deref.ensures.value c.args.trail.now c.retreat.new.self before
-        (λ source resetting follows. c.retreat.ensures.kept source resetting before stated follows) is.follows)
+    (λ source resetting follows. c.retreat.ensures.kept source resetting before stated follows) is.follows)
     c.retreat.ensures.way c.retreat.ensures.depth same

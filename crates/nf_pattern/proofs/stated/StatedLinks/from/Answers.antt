@@ -5,7 +5,7 @@ use Rattle.nf_pattern.proofs.stated.StatedLinks.from.Goals as goal
 pub returns-then-link-len : goal.returns-then-link-len
 returns-then-link-len c p stated few = stated.next c.args.link _
     (slice_get-get_or c.args.self.now.next.items c.args.link c.index.result.now
-        (let inside = c.if-link-len.true in let len = c.len.ensures in let count = c.args.self.now.next.ok.0 in omega arith)
+    (let inside = c.if-link-len.true in let len = c.len.ensures in let count = c.args.self.now.next.ok.0 in omega arith)
     ∙ ap (λ (k : ℕ). Some k) (sym c.index.ensures))
 
 pub returns-else-link-len : goal.returns-else-link-len

@@ -33,7 +33,7 @@ returns-clause-way c = way_on c.loop-source.invariant.way c.pass.ensures.way
 pub returns-clause-extended : goal.returns-clause-extended
 returns-clause-extended c =
     let follows = (c.pass.ensures.kept c.args.source c.args.resetting.now c.args.states.now c.requires.stated c.requires.states c.loop-source.invariant.ends
-        c.loop-source.invariant.follows).0 in
+    c.loop-source.invariant.follows).0 in
     let few = follows.depth in let end = c.loop-source-test.ensures.left in omega arith
 
 pub returns-then-not-enter-clause-extended : goal.returns-then-not-enter-clause-extended
@@ -43,6 +43,6 @@ returns-then-not-enter-clause-extended c =
 pub loop-source-smaller : goal.loop-source-smaller
 loop-source-smaller c =
     let on = (c.pass.ensures.kept c.args.source c.args.resetting.now c.args.states.now c.requires.stated c.requires.states c.loop-source.invariant.ends
-        c.loop-source.invariant.follows).1 in
+    c.loop-source.invariant.follows).1 in
     let left = c.loop-source-test.ensures.left in
     let next = c.if-not-enter.ensures.entered in omega arith

@@ -9,7 +9,7 @@ pub returns-clause-kept : goal.returns-clause-kept
 returns-clause-kept c = λ source hops resetting p stated follows.
     let last = c.up_to.ensures p stated in let some = c.requires.some in let l = last.0 in
     passed_back source hops resetting p c.args.self.now (c.args.self.now.depth - (c.up_to.result + 1)) (c.up_to.result + 1) follows (omega arith)
-        (λ e from less. last.1 e (omega arith) (omega arith))
+    (λ e from less. last.1 e (omega arith) (omega arith))
 
 pub returns-clause-way : goal.returns-clause-way
 returns-clause-way c = record { nodes = refl; ends = refl; lost = refl }

@@ -27,9 +27,12 @@ returns-in-Some-clause-goes c = λ states depth holds place.
 pub returns-in-Some-clause-place : goal.returns-in-Some-clause-place
 returns-in-Some-clause-place c = λ states depth holds place.
     let told = place_link c.args.hops.now states depth c.args.place.node c.in-Some.link
-    (subst (λ (o : Option ℕ). IsPlace c.args.hops.now states depth c.args.place.node o) c.in-Some.is place) in
-    (c.in-Some.link, (let less = told.0 in omega arith), c.cross.ensures.link states depth holds told.0 told.1
-        ∙ ap (λ (h : ℕ). last_at (ends_at c.args.hops.now states) c.in-Some.link h) (sym c.cross.ensures.node))
+    (subst (λ (o : Option ℕ). IsPlace c.args.hops.now states depth c.args.place.node o) c.in-Some.is place) in (
+      c.in-Some.link,
+      (let less = told.0 in omega arith),
+      c.cross.ensures.link states depth holds told.0 told.1
+          ∙ ap (λ (h : ℕ). last_at (ends_at c.args.hops.now states) c.in-Some.link h) (sym c.cross.ensures.node),
+    )
 
 pub returns-in-Some-clause-within : goal.returns-in-Some-clause-within
 returns-in-Some-clause-within c =

@@ -16,7 +16,7 @@ returns-in_err-slacks-clause-cause c =
 pub returns-in_err-thin-clause-cause : goal.returns-in_err-thin-clause-cause
 returns-in_err-thin-clause-cause c =
     by_fault c.from_residual-in_err-thin.result (of_search c.in_err-thin.field-0.0)
-        (IsFaultOf (FindsNone passes_Q c.args.net.now.net c.args.patterns c.args.self.now) (suc c.args.self.now.made))
+    (IsFaultOf (FindsNone passes_Q c.args.net.now.net c.args.patterns c.args.self.now) (suc c.args.self.now.made))
     c.from_residual-in_err-thin.ensures.1
     (search_cause passes_Q c.args.net.now.net c.args.patterns c.args.self.now c.in_ok-slacks.ensures.list 0ℚ c.in_err-thin.field-0.0 (c.in_err-thin.ensures 0ℚ))
 

@@ -20,18 +20,18 @@ step-requires-clause-below c =
 pub returns-in-Err : goal.returns-in-Err
 returns-in-Err c =
     ends_by_fault passes_Q c.args.net.now.net (bounds_of c.args.horizon c.args.budgets) c.args.self.now c.loop.counter c.loop.self c.loop.invariant
-        c.loop-test.true c.in-Err.fault c.in-Err.ensures.cause c.step.new.self c.in-Err.ensures.kept (c.self.inside.made + 1)
+    c.loop-test.true c.in-Err.fault c.in-Err.ensures.cause c.step.new.self c.in-Err.ensures.kept (c.self.inside.made + 1)
     (add-one c.self.inside.made ∙ ap (λ (s : Standing). suc s.made) c.self.view_is) c.ended_by.result c.ended_by.ensures.cause c.ended_by.ensures.some
 
 pub loop-preserved : goal.loop-preserved
 loop-preserved c =
     gone_further passes_Q c.args.net.now.net (bounds_of c.args.horizon c.args.budgets) c.args.self.now c.loop.counter c.loop.self c.loop.invariant
-        c.requires.named.network c.loop-test.true c.step.new.self c.in_default.ensures.goes
+    c.requires.named.network c.loop-test.true c.step.new.self c.in_default.ensures.goes
 
 pub returns : goal.returns
 returns c =
     ends_after_all passes_Q c.args.net.now.net (bounds_of c.args.horizon c.args.budgets) c.args.self.now c.loop.counter c.loop.self c.loop.invariant
-        c.stop_after_all.result c.stop_after_all.ensures (omega arith)
+    c.stop_after_all.result c.stop_after_all.ensures (omega arith)
 
 pub overflow_add-self-inside : goal.overflow_add-self-inside
 overflow_add-self-inside c =

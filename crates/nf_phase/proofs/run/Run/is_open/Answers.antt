@@ -20,17 +20,17 @@ returns-then-starts c =
     open_if c.args.net.now.net c.args.self.now c.args.slacks.now c.requires.slacks
     (Stands-reached passes_Q c.args.net.now.net c.requires.named.network c.args.self.now c.requires.reaches).last_count c.none_starts-starts.result
     (c.none_starts-starts.ensures ∙ ap (λ (p : List Piece). none_starts p c.self.inside.reached) c.pieces.ensures.value
-        ∙ ap (λ (s : Standing). none_starts c.args.net.now.net.pieces s.time) c.self.view_is)
+    ∙ ap (λ (s : Standing). none_starts c.args.net.now.net.pieces s.time) c.self.view_is)
     c.if-starts.true c.are_apart-apart.result
     (subst (λ (p : Pattern). MatchBool c.are_apart-apart.result (HaveStateOrSlack c.args.slacks.now p) (HaveStateOrSlack c.args.slacks.now p → ⊥))
-        (ap (λ (s : Standing). s.last) c.self.view_is) c.are_apart-apart.ensures)
+    (ap (λ (s : Standing). s.last) c.self.view_is) c.are_apart-apart.ensures)
 
 pub returns-else-starts : goal.returns-else-starts
 returns-else-starts c =
     subst (λ (b : Bool). MatchBool b (IsOpen c.args.net.now.net c.args.self.now) (IsOpen c.args.net.now.net c.args.self.now → ⊥)) (sym c.if-starts.false)
     (not_started c.args.net.now.net c.args.self.now c.args.slacks.now c.requires.slacks c.none_starts-starts.result
     (c.none_starts-starts.ensures ∙ ap (λ (p : List Piece). none_starts p c.self.inside.reached) c.pieces.ensures.value
-        ∙ ap (λ (s : Standing). none_starts c.args.net.now.net.pieces s.time) c.self.view_is)
+    ∙ ap (λ (s : Standing). none_starts c.args.net.now.net.pieces s.time) c.self.view_is)
     c.if-starts.false)
 
 pub are_apart-apart-requires-clause-slacks : goal.are_apart-apart-requires-clause-slacks

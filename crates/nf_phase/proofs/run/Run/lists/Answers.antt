@@ -27,22 +27,22 @@ pub returns-in_err-extension-clause-cause : goal.returns-in_err-extension-clause
 returns-in_err-extension-clause-cause c =
     extension_stops passes_Q c.args.net.now.net c.requires.named.network c.args.horizon c.requires.found.0 c.args.self.now c.requires.reaches c.args.found.now c.requires.found.1
     c.deref.result.now c.deref-2.result.now c.self.inside.reached c.deref.ensures.value c.deref-2.ensures.value
-        (ap (λ (s : Standing). s.time) c.self.view_is) c.in_err-extension.field-0.0 c.in_err-extension.ensures.list c.from_residual.result
-        c.from_residual.ensures.1
+    (ap (λ (s : Standing). s.time) c.self.view_is) c.in_err-extension.field-0.0 c.in_err-extension.ensures.list c.from_residual.result
+    c.from_residual.ensures.1
 
 pub advance-requires : goal.advance-requires
 advance-requires c =
     counts_agree passes_Q c.args.net.now.net c.requires.named.network c.args.horizon c.requires.found.0 c.args.self.now c.requires.reaches c.args.found.now
-        c.requires.found.1 c.deref-3.result.now c.deref-4.result.now
+    c.requires.found.1 c.deref-3.result.now c.deref-4.result.now
     (c.deref-3.ensures.value ∙ ap (λ (s : Standing). s.labels) c.self.view_is) c.deref-4.ensures.value
 
 pub returns-in_err-end-clause-cause : goal.returns-in_err-end-clause-cause
 returns-in_err-end-clause-cause c =
     advance_stops passes_Q c.args.net.now.net c.requires.named.network c.args.horizon c.requires.found.0 c.args.self.now c.requires.reaches c.args.found.now c.requires.found.1
     c.deref.result.now c.deref-2.result.now c.self.inside.reached c.deref.ensures.value c.deref-2.ensures.value
-        (ap (λ (s : Standing). s.time) c.self.view_is) c.in_ok-extension.extension c.in_ok-extension.ensures.list
+    (ap (λ (s : Standing). s.time) c.self.view_is) c.in_ok-extension.extension c.in_ok-extension.ensures.list
     c.deref-3.result.now c.deref-4.result.now (c.deref-3.ensures.value ∙ ap (λ (s : Standing). s.labels) c.self.view_is) c.deref-4.ensures.value
-        c.in_err-end.field-0.0 c.in_err-end.ensures c.from_residual-in_err-end.result c.from_residual-in_err-end.ensures.1
+    c.in_err-end.field-0.0 c.in_err-end.ensures c.from_residual-in_err-end.result c.from_residual-in_err-end.ensures.1
 
 pub returns-in_err-amounts-clause-cause : goal.returns-in_err-amounts-clause-cause
 returns-in_err-amounts-clause-cause c = by_fault c.from_residual-in_err-amounts.result StepFault.Memory _ c.from_residual-in_err-amounts.ensures.1 tt
@@ -59,7 +59,7 @@ invariant_of-phase c = record {
       ap (λ (l : List ℚ). length l) c.deref-8.ensures.value ∙ end_count passes_Q c.args.net.now.net c.requires.named.network c.args.horizon
       c.requires.found.0 c.args.self.now c.requires.reaches c.args.found.now c.requires.found.1
       c.deref.result.now c.deref-2.result.now c.self.inside.reached c.deref.ensures.value c.deref-2.ensures.value
-          (ap (λ (s : Standing). s.time) c.self.view_is) c.in_ok-extension.extension c.in_ok-extension.ensures.list
+      (ap (λ (s : Standing). s.time) c.self.view_is) c.in_ok-extension.extension c.in_ok-extension.ensures.list
       c.deref-3.result.now c.deref-4.result.now (c.deref-3.ensures.value ∙ ap (λ (s : Standing). s.labels) c.self.view_is) c.deref-4.ensures.value
       (record { length = c.end.inside.length; labels = c.end.inside.labels.items }) (c.in_ok-end.ensures ∙ ap (λ (a : Advanced). Ok a) (sym c.end.view_is));
 }
@@ -67,46 +67,46 @@ invariant_of-phase c = record {
 pub link_steps-requires : goal.link_steps-requires
 link_steps-requires c =
     amounts_count passes_Q c.args.net.now.net c.requires.named.network c.args.horizon c.requires.found.0 c.args.self.now c.requires.reaches c.args.found.now
-        c.requires.found.1 c.deref-9.result.now (all_grown c.deref-5.result.now)
+    c.requires.found.1 c.deref-9.result.now (all_grown c.deref-5.result.now)
     (c.deref-9.ensures.value ∙ c.in_ok-amounts.ensures) (ap all_grown c.deref-5.ensures.value ∙ ap (λ (s : Standing). s.link_curves) c.self.view_is)
 
 pub returns-in_err-steps-clause-cause : goal.returns-in_err-steps-clause-cause
 returns-in_err-steps-clause-cause c =
     curve_stops passes_Q c.args.net.now.net c.requires.named.network c.args.horizon c.requires.found.0 c.args.self.now c.requires.reaches c.args.found.now c.requires.found.1
     c.deref.result.now c.deref-2.result.now c.self.inside.reached c.deref.ensures.value c.deref-2.ensures.value
-        (ap (λ (s : Standing). s.time) c.self.view_is) c.in_ok-extension.extension c.in_ok-extension.ensures.list
+    (ap (λ (s : Standing). s.time) c.self.view_is) c.in_ok-extension.extension c.in_ok-extension.ensures.list
     c.deref-3.result.now c.deref-4.result.now (c.deref-3.ensures.value ∙ ap (λ (s : Standing). s.labels) c.self.view_is) c.deref-4.ensures.value
     (record { length = c.end.inside.length; labels = c.end.inside.labels.items }) (c.in_ok-end.ensures ∙ ap (λ (a : Advanced). Ok a) (sym c.end.view_is))
     c.args.found.now.sets c.deref-6.result.now c.deref-7.result.now c.deref-8.result.now c.deref-9.result.now
-        (all_grown c.deref-5.result.now) refl c.deref-6.ensures.value c.deref-7.ensures.value c.deref-8.ensures.value
+    (all_grown c.deref-5.result.now) refl c.deref-6.ensures.value c.deref-7.ensures.value c.deref-8.ensures.value
     (c.deref-9.ensures.value ∙ c.in_ok-amounts.ensures) (ap all_grown c.deref-5.ensures.value ∙ ap (λ (s : Standing). s.link_curves) c.self.view_is)
-        c.in_err-steps.field-0.0 c.in_err-steps.ensures c.from_residual-in_err-steps.result c.from_residual-in_err-steps.ensures.1
+    c.in_err-steps.field-0.0 c.in_err-steps.ensures c.from_residual-in_err-steps.result c.from_residual-in_err-steps.ensures.1
 
 pub returns-clause-lists : goal.returns-clause-lists
 returns-clause-lists c =
     subst (λ (a : Advanced). phase_lists passes_Q c.args.net.now.net c.args.horizon c.args.self.now c.args.found.now.thin.pattern
-        c.args.found.now.thin.flows.items c.args.found.now.thin.slopes.items
+    c.args.found.now.thin.flows.items c.args.found.now.thin.slopes.items
     ≡ Ok (record { length = a.length; labels = a.labels; links = c.in_ok-steps.steps.items })) c.end.view_is
     (lists_go passes_Q c.args.net.now.net c.requires.named.network c.args.horizon c.requires.found.0 c.args.self.now c.requires.reaches c.args.found.now c.requires.found.1
     c.deref.result.now c.deref-2.result.now c.self.inside.reached c.deref.ensures.value c.deref-2.ensures.value
-        (ap (λ (s : Standing). s.time) c.self.view_is) c.in_ok-extension.extension c.in_ok-extension.ensures.list
+    (ap (λ (s : Standing). s.time) c.self.view_is) c.in_ok-extension.extension c.in_ok-extension.ensures.list
     c.deref-3.result.now c.deref-4.result.now (c.deref-3.ensures.value ∙ ap (λ (s : Standing). s.labels) c.self.view_is) c.deref-4.ensures.value
     (record { length = c.end.inside.length; labels = c.end.inside.labels.items }) (c.in_ok-end.ensures ∙ ap (λ (a : Advanced). Ok a) (sym c.end.view_is))
     c.args.found.now.sets c.deref-6.result.now c.deref-7.result.now c.deref-8.result.now c.deref-9.result.now
-        (all_grown c.deref-5.result.now) refl c.deref-6.ensures.value c.deref-7.ensures.value c.deref-8.ensures.value
+    (all_grown c.deref-5.result.now) refl c.deref-6.ensures.value c.deref-7.ensures.value c.deref-8.ensures.value
     (c.deref-9.ensures.value ∙ c.in_ok-amounts.ensures) (ap all_grown c.deref-5.ensures.value ∙ ap (λ (s : Standing). s.link_curves) c.self.view_is)
-        c.in_ok-steps.steps.items c.in_ok-steps.ensures)
+    c.in_ok-steps.steps.items c.in_ok-steps.ensures)
 
 pub returns-clause-length : goal.returns-clause-length
 returns-clause-length c =
     subst (λ (a : Advanced). IsPhaseLength c.args.net.now.net (slacks_of (hops c.args.net.now.net) c.args.self.now.labels)
-        c.args.found.now.thin.slopes.items c.args.self.now.time c.args.horizon a.length) c.end.view_is
+    c.args.found.now.thin.slopes.items c.args.self.now.time c.args.horizon a.length) c.end.view_is
     (lasts passes_Q c.args.net.now.net c.requires.named.network c.args.horizon c.requires.found.0 c.args.self.now c.requires.reaches c.args.found.now c.requires.found.1
     c.deref.result.now c.deref-2.result.now c.self.inside.reached c.deref.ensures.value c.deref-2.ensures.value
-        (ap (λ (s : Standing). s.time) c.self.view_is) c.in_ok-extension.extension c.in_ok-extension.ensures.list
+    (ap (λ (s : Standing). s.time) c.self.view_is) c.in_ok-extension.extension c.in_ok-extension.ensures.list
     c.deref-3.result.now c.deref-4.result.now (c.deref-3.ensures.value ∙ ap (λ (s : Standing). s.labels) c.self.view_is) c.deref-4.ensures.value
     (record { length = c.end.inside.length; labels = c.end.inside.labels.items })
-        (c.in_ok-end.ensures ∙ ap (λ (a : Advanced). Ok a) (sym c.end.view_is)) c.in_ok-extension.ensures.length)
+    (c.in_ok-end.ensures ∙ ap (λ (a : Advanced). Ok a) (sym c.end.view_is)) c.in_ok-extension.ensures.length)
 
 pub returns-in_err-extension-clause-lists : goal.returns-in_err-extension-clause-lists
 returns-in_err-extension-clause-lists c = IfOk-from_err c.from_residual.result _ c.from_residual.ensures.0

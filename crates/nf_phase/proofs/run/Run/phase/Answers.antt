@@ -10,7 +10,7 @@ pub returns-in_err-found-clause-cause : goal.returns-in_err-found-clause-cause
 returns-in_err-found-clause-cause c =
     by_fault c.from_residual.result c.in_err-found.field-0.0 (IsCause passes_Q c.args.net.now.net c.args.horizon c.args.patterns c.args.self.now) c.from_residual.ensures.1
     (stands_as (FindsNone passes_Q c.args.net.now.net c.args.patterns c.args.self.now)
-        (Fails passes_Q c.args.net.now.net c.args.horizon c.args.patterns c.args.self.now) (suc c.args.self.now.made) c.in_err-found.field-0.0
+    (Fails passes_Q c.args.net.now.net c.args.horizon c.args.patterns c.args.self.now) (suc c.args.self.now.made) c.in_err-found.field-0.0
     (none_below passes_Q c.args.net.now.net c.args.patterns c.args.self.now c.args.horizon c.requires.below) c.in_err-found.ensures.cause)
 
 pub continues-rests-requires-clause-slacks : goal.continues-rests-requires-clause-slacks
@@ -19,12 +19,12 @@ continues-rests-requires-clause-slacks c = c.deref.ensures.value ∙ c.in_ok-fou
 pub returns-in_err-phase-clause-cause : goal.returns-in_err-phase-clause-cause
 returns-in_err-phase-clause-cause c =
     by_fault c.from_residual-in_err-phase.result c.in_err-phase.field-0.0
-        (IsCause passes_Q c.args.net.now.net c.args.horizon c.args.patterns c.args.self.now) c.from_residual-in_err-phase.ensures.1
+    (IsCause passes_Q c.args.net.now.net c.args.horizon c.args.patterns c.args.self.now) c.from_residual-in_err-phase.ensures.1
     (stands_as (ListsPass passes_Q c.args.net.now.net c.args.horizon c.args.self.now c.in_ok-found.found.thin.pattern c.in_ok-found.found.thin.flows.items
-        c.in_ok-found.found.thin.slopes.items)
+    c.in_ok-found.found.thin.slopes.items)
     (Fails passes_Q c.args.net.now.net c.args.horizon c.args.patterns c.args.self.now) (suc c.args.self.now.made) c.in_err-phase.field-0.0
     (lists_below passes_Q c.args.net.now.net c.args.patterns c.args.self.now c.in_ok-found.ensures.found.seeks.0 c.in_ok-found.found.thin.pattern
-        c.in_ok-found.found.thin.flows.items c.in_ok-found.found.thin.slopes.items
+    c.in_ok-found.found.thin.flows.items c.in_ok-found.found.thin.slopes.items
     c.in_ok-found.ensures.found.seeks.1 c.args.horizon c.requires.below) c.in_err-phase.ensures.cause)
 
 pub phase_by-requires-clause-found : goal.phase_by-requires-clause-found

@@ -23,12 +23,12 @@ use Rattle.nf_phase.proofs.run.Run.restore.Goals as goal
 pub restore_links-requires-clause-outflows : goal.restore_links-requires-clause-outflows
 restore_links-requires-clause-outflows c =
     ap (λ (l : List code.Trace). length l) c.deref-4.ensures.value ∙ (flow_counts c.args.net.now.net c.args.flow c.requires.equilibrium).0
-        ∙ sym (ap (λ (l : List code.Trace). length l) c.deref-3.ensures.value)
+    ∙ sym (ap (λ (l : List code.Trace). length l) c.deref-3.ensures.value)
 
 pub restore_links-requires-clause-queues : goal.restore_links-requires-clause-queues
 restore_links-requires-clause-queues c =
     ap (λ (l : List Grown). length l) c.deref-5.ensures.value ∙ (flow_counts c.args.net.now.net c.args.flow c.requires.equilibrium).1
-        ∙ sym (ap (λ (l : List code.Trace). length l) c.deref-3.ensures.value)
+    ∙ sym (ap (λ (l : List code.Trace). length l) c.deref-3.ensures.value)
 
 pub restore_links-requires-clause-inflow_rates : goal.restore_links-requires-clause-inflow_rates
 restore_links-requires-clause-inflow_rates c =
@@ -42,16 +42,16 @@ pub returns-in_err-label_curves-clause-list : goal.returns-in_err-label_curves-c
 returns-in_err-label_curves-clause-list c =
     let p = err_from_is_err_and c.from_residual-in_err-label_curves.result c.from_residual-in_err-label_curves.ensures.1 in
     rw (p.1, p.2) (stops_on c.in_err-label_curves.field-0.0 (at_part Curve (each (growing passes_Q) (map (λ (g : Grown). g.points) c.deref-2.result.now)))
-        (at_part Curve (restore_list passes_Q (flow_in c.args.flow) c.args.last))
+    (at_part Curve (restore_list passes_Q (flow_in c.args.flow) c.args.last))
     (λ at e. labels_pass passes_Q (flow_in c.args.flow) c.args.last at (ap
-        (λ (l : List Grown). at_part Curve (each (growing passes_Q) (map (λ (g : Grown). g.points) l))) (sym c.deref-2.ensures.value) ∙ e))
-        c.in_err-label_curves.ensures)
+    (λ (l : List Grown). at_part Curve (each (growing passes_Q) (map (λ (g : Grown). g.points) l))) (sym c.deref-2.ensures.value) ∙ e))
+    c.in_err-label_curves.ensures)
 
 pub returns-in_err-link_curves-clause-list : goal.returns-in_err-link_curves-clause-list
 returns-in_err-link_curves-clause-list c =
     let p = err_from_is_err_and c.from_residual-in_err-link_curves.result c.from_residual-in_err-link_curves.ensures.1 in
     rw (p.1, p.2) (stops_on c.in_err-link_curves.field-0.0 (at_part Curve
-        (of_links passes_Q (map trace_of c.deref-3.result.now) (map trace_of c.deref-4.result.now) (map (λ (g : Grown). g.points) c.deref-5.result.now)))
+    (of_links passes_Q (map trace_of c.deref-3.result.now) (map trace_of c.deref-4.result.now) (map (λ (g : Grown). g.points) c.deref-5.result.now)))
     (at_part Curve (restore_list passes_Q (flow_in c.args.flow) c.args.last))
     (λ at e. links_pass passes_Q (flow_in c.args.flow) c.args.last (all_grown c.in_ok-label_curves.label_curves.items)
     (ap (λ (l : List Grown). at_part Curve (each (growing passes_Q) (map (λ (g : Grown). g.points) l))) (sym c.deref-2.ensures.value) ∙ c.in_ok-label_curves.ensures) at
@@ -61,7 +61,7 @@ pub returns-clause-list : goal.returns-clause-list
 returns-clause-list c =
     list_made passes_Q (flow_in c.args.flow) c.args.last (all_grown c.in_ok-label_curves.label_curves.items)
     (ap (λ (l : List Grown). at_part Curve (each (growing passes_Q) (map (λ (g : Grown). g.points) l))) (sym c.deref-2.ensures.value)
-        ∙ c.in_ok-label_curves.ensures) (all_grown c.in_ok-link_curves.link_curves.items)
+    ∙ c.in_ok-label_curves.ensures) (all_grown c.in_ok-link_curves.link_curves.items)
     (rw (sym c.deref-3.ensures.value, sym c.deref-4.ensures.value, sym c.deref-5.ensures.value) c.in_ok-link_curves.ensures)
     ∙ ap (λ (s : Standing). Ok s) (same_parts c.args.flow.reached _ _ (all_grown c.in_ok-label_curves.label_curves.items) (all_grown c.in_ok-link_curves.link_curves.items) c.args.last
     (ends_same c.args.flow.labels.items ∙ sym (c.in_ok-labels.ensures ∙ ap (map (λ (g : Grown). value_at_end g.points)) c.deref.ensures.value)))

@@ -20,7 +20,7 @@ slacks-requires c =
 pub returns-in_err-slacks-clause-cause : goal.returns-in_err-slacks-clause-cause
 returns-in_err-slacks-clause-cause c = λ patterns.
     by_fault c.from_residual.result (of_halt c.in_err-slacks.field-0.0) (IsFaultOf (FindsNone passes_Q c.args.net.now.net patterns c.args.self.now)
-        (suc c.args.self.now.made)) c.from_residual.ensures.1
+    (suc c.args.self.now.made)) c.from_residual.ensures.1
     (slacks_cause passes_Q c.args.net.now.net patterns c.args.self.now c.hops.result.now c.deref.result.now c.hops.ensures.value
     (c.deref.ensures.value ∙ ap (λ (s : Standing). s.labels) c.self.view_is) c.in_err-slacks.field-0.0 c.in_err-slacks.ensures.list)
 

@@ -8,7 +8,7 @@ use Rattle.nf_phase.proofs.run.Run.step.Goals as goal
 pub returns-clause-goes : goal.returns-clause-goes
 returns-clause-goes c =
     steps_made passes_Q c.args.net.now.net c.phase.ensures.named.network c.args.horizon c.args.patterns c.args.self.now c.requires.reaches
-        c.in_ok-next.next.phase c.in_ok-next.ensures.leads c.in_ok-next.next.rests c.in_ok-next.ensures.rests
+    c.in_ok-next.next.phase c.in_ok-next.ensures.leads c.in_ok-next.next.rests c.in_ok-next.ensures.rests
     c.extend_by_next.new.self c.in_ok-extend_by_next.ensures.made
 
 pub returns-clause-begins : goal.returns-clause-begins

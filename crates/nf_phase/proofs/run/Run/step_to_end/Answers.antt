@@ -72,7 +72,7 @@ phase_by-requires-clause-found c = (c.args.patterns, c.in_ok-found.ensures.found
 pub phase_by-requires-clause-below : goal.phase_by-requires-clause-below
 phase_by-requires-clause-below c =
     subst (λ (s : Standing). s.time <ℚ c.in-Some.end) c.self.view_is (MatchOption-at_some _
-        (λ (end : ℚ). c.self.inside.reached <ℚ end) c.in-Some.end c.in-Some.is c.in_ok-end.ensures.later)
+    (λ (end : ℚ). c.self.inside.reached <ℚ end) c.in-Some.end c.in-Some.is c.in_ok-end.ensures.later)
 
 pub extend_by-requires-clause-reaches : goal.extend_by-requires-clause-reaches
 extend_by-requires-clause-reaches c = c.requires.reaches

@@ -43,4 +43,4 @@ find_thin-requires-clause-base c =
 pub base-requires-clause-sets : goal.base-requires-clause-sets
 base-requires-clause-sets c =
     ap (λ (s : Sets). length s.active) c.requires.sets ∙ active_count c.args.net.now.net c.args.self.now.labels ∙ sym (hops_length c.args.net.now.net)
-        ∙ ap (λ (hs : List Hop). length hs) (sym c.hops.ensures.value)
+    ∙ ap (λ (hs : List Hop). length hs) (sym c.hops.ensures.value)

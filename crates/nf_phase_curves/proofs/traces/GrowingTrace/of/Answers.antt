@@ -15,7 +15,7 @@ pub invariant_of-result : goal.invariant_of-result
 invariant_of-result c =
     subst (AreBefore c.pop-last.new.self.items) (sym c.in_ok-curve.ensures.slope)
     (none_before c.in_ok-rates.rates.items c.pop-last.new.self.items c.pop-last.result c.in_ok-rates.rates.len
-        (omega (arith, c.in_ok-rates.rates.ok.0)) c.pop-last.ensures.items c.pop-last.ensures.variant)
+    (omega (arith, c.in_ok-rates.rates.ok.0)) c.pop-last.ensures.items c.pop-last.ensures.variant)
 
 pub returns : goal.returns
 returns c = λ i. record {

@@ -46,7 +46,7 @@ pub returns-in_err-times-clause-list : goal.returns-in_err-times-clause-list
 returns-in_err-times-clause-list c =
     let p = err_from_is_err_and c.from_residual-in_err-times.result c.from_residual-in_err-times.ensures.1 in
     rw (p.1, p.2) (time_passes passes_Q c.args.net.now.net c.args.amount _ c.args.self.now _ c.args.walk c.self.view_is c.walk.view_is c.push.new.self
-        c.in_ok-push.ensures.list c.in_err-times.field-0.0 c.in_err-times.ensures.list)
+    c.in_ok-push.ensures.list c.in_err-times.field-0.0 c.in_err-times.ensures.list)
 
 pub returns-in_err-push-2-clause-list : goal.returns-in_err-push-2-clause-list
 returns-in_err-push-2-clause-list c = let p = err_from_is_err_and c.from_residual-in_err-push-2.result c.from_residual-in_err-push-2.ensures.1 in rw (p.1, p.2) tt

@@ -10,7 +10,7 @@ pub returns-in-Some-2-clause-says : goal.returns-in-Some-2-clause-says
 returns-in-Some-2-clause-says c =
     begins_next c.args.net.now c.args.self.now c.requires (seen_kind c.args.kind) c.args.name.now c.in-Some.field-0 c.in-Some.is
     (subst (λ (k : ℕ). is_some_key (seen_kind c.args.kind) c.args.name.now (key_of_number c.args.net.now k) ≡ false) c.done_count-done.ensures
-        (sym c.is_key_at.ensures ∙ c.if-is_key_at.false))
+    (sym c.is_key_at.ensures ∙ c.if-is_key_at.false))
     (subst (λ (k : ℕ). is_some_key (seen_kind c.args.kind) c.args.name.now (key_of_number c.args.net.now (k + 1)) ≡ true) c.done_count-done.ensures (sym c.if-is_key_at-2.ensures))
 
 pub returns-in-Some-2-clause-can : goal.returns-in-Some-2-clause-can
@@ -34,7 +34,7 @@ pub returns-in_default-clause-says : goal.returns-in_default-clause-says
 returns-in_default-clause-says c =
     other_curve c.args.net.now c.args.self.now c.requires (seen_kind c.args.kind) c.args.name.now c.in-Some.field-0 c.in-Some.is
     (subst (λ (k : ℕ). is_some_key (seen_kind c.args.kind) c.args.name.now (key_of_number c.args.net.now k) ≡ false) c.done_count-done.ensures
-        (sym c.is_key_at.ensures ∙ c.if-is_key_at.false))
+    (sym c.is_key_at.ensures ∙ c.if-is_key_at.false))
     (subst (λ (k : ℕ). is_some_key (seen_kind c.args.kind) c.args.name.now (key_of_number c.args.net.now (k + 1)) ≡ false) c.done_count-done.ensures (sym c.if-is_key_at-2.ensures))
 
 pub returns-in_default-2-clause-says : goal.returns-in_default-2-clause-says

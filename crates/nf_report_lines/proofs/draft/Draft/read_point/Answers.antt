@@ -46,7 +46,7 @@ returns-in_err-value-clause-says c =
     rw (p.1, p.2) (point_by (seen_draft c.args.net.now c.args.self.now) (seen_kind c.args.kind) c.args.line.now.words c.at.result.now c.at-2.result.now c.at-3.result.now
     (three_behind c.args.line.now.words (sym c.len.ensures ∙ c.if-len-ne4.false) ∙ (λ i. sym c.at.ensures i ∷ sym c.at-2.ensures i ∷ sym c.at-3.ensures i ∷ []))
     (Ok (opened_by (seen_draft c.args.net.now c.args.self.now) c.in_ok-opening.opening)) c.in_ok-opening.ensures.says (Ok c.in_ok-time.time)
-        (Err c.in_err-value.field-0.0) (sym c.in_ok-time.ensures) (sym c.in_err-value.ensures))
+    (Err c.in_err-value.field-0.0) (sym c.in_ok-time.ensures) (sym c.in_err-value.ensures))
 
 pub returns-then-not-comes_after-clause-says : goal.returns-then-not-comes_after-clause-says
 returns-then-not-comes_after-clause-says c =

@@ -14,7 +14,7 @@ use Rattle.nf_report_lines.proofs.draft.Draft.read_rated.Goals as goal
 pub returns-then-len-ne5-clause-says : goal.returns-then-len-ne5-clause-says
 returns-then-len-ne5-clause-says c =
     trace_count (seen_draft c.args.net.now c.args.self.now) (seen_kind c.args.kind)
-        (words_behind (option_copied c.args.next)) c.args.line.now.words c.requires.words (λ e. c.if-len-ne5.true (c.len.ensures ∙ e))
+    (words_behind (option_copied c.args.next)) c.args.line.now.words c.requires.words (λ e. c.if-len-ne5.true (c.len.ensures ∙ e))
 
 pub at-name-requires : goal.at-name-requires
 at-name-requires c = omega (arith, c.len.ensures, c.if-len-ne5.false)
@@ -36,7 +36,7 @@ returns-in_err-opening-clause-says c =
     let p = err_from_is_err_and c.from_residual.result c.from_residual.ensures.1 in
     let words = c.args.line.now.words in
     rw (p.1, p.2) (rated_by (seen_draft c.args.net.now c.args.self.now) (seen_kind c.args.kind) words c.at-name.result.now (word_at words 2)
-        (word_at words 3) (words_behind (option_copied c.args.next)) (word_at words 4)
+    (word_at words 3) (words_behind (option_copied c.args.next)) (word_at words 4)
     (four_behind words (sym c.len.ensures ∙ c.if-len-ne5.false) ∙ (λ i. sym c.at-name.ensures i ∷ word_at words 2 ∷ word_at words 3 ∷ word_at words 4 ∷ []))
     (Err c.in_err-opening.field-0.0) c.in_err-opening.ensures.says _ _ refl refl)
 
@@ -45,7 +45,7 @@ returns-in_err-time-clause-says c =
     let p = err_from_is_err_and c.from_residual-in_err-time.result c.from_residual-in_err-time.ensures.1 in
     let words = c.args.line.now.words in
     rw (p.1, p.2) (rated_by (seen_draft c.args.net.now c.args.self.now) (seen_kind c.args.kind) words c.at-name.result.now c.at.result.now (word_at words 3)
-        (words_behind (option_copied c.args.next)) (word_at words 4)
+    (words_behind (option_copied c.args.next)) (word_at words 4)
     (four_behind words (sym c.len.ensures ∙ c.if-len-ne5.false) ∙ (λ i. sym c.at-name.ensures i ∷ sym c.at.ensures i ∷ word_at words 3 ∷ word_at words 4 ∷ []))
     (Ok (opened_by (seen_draft c.args.net.now c.args.self.now) c.in_ok-opening.opening)) c.in_ok-opening.ensures.says (Err c.in_err-time.field-0.0) _ (sym c.in_err-time.ensures) refl)
 
@@ -54,10 +54,10 @@ returns-in_err-value-clause-says c =
     let p = err_from_is_err_and c.from_residual-in_err-value.result c.from_residual-in_err-value.ensures.1 in
     let words = c.args.line.now.words in
     rw (p.1, p.2) (rated_by (seen_draft c.args.net.now c.args.self.now) (seen_kind c.args.kind) words c.at-name.result.now c.at.result.now c.at-2.result.now
-        (words_behind (option_copied c.args.next)) (word_at words 4)
+    (words_behind (option_copied c.args.next)) (word_at words 4)
     (four_behind words (sym c.len.ensures ∙ c.if-len-ne5.false) ∙ (λ i. sym c.at-name.ensures i ∷ sym c.at.ensures i ∷ sym c.at-2.ensures i ∷ word_at words 4 ∷ []))
     (Ok (opened_by (seen_draft c.args.net.now c.args.self.now) c.in_ok-opening.opening)) c.in_ok-opening.ensures.says (Ok c.in_ok-time.time)
-        (Err c.in_err-value.field-0.0) (sym c.in_ok-time.ensures) (sym c.in_err-value.ensures))
+    (Err c.in_err-value.field-0.0) (sym c.in_ok-time.ensures) (sym c.in_err-value.ensures))
 
 pub returns-in-Err-clause-says : goal.returns-in-Err-clause-says
 returns-in-Err-clause-says c =

@@ -9,7 +9,7 @@ use Rattle.nf_report_lines.proofs.draft.Draft.read_staged.Goals as goal
 pub returns-in-Version-clause-says : goal.returns-in-Version-clause-says
 returns-in-Version-clause-says c =
     ap (λ (s : Stage). staged_line c.args.net.now (seen_draft c.args.net.now c.args.self.now)
-        (words_behind (option_copied c.args.next)) c.args.line.now.words (seen_stage s)) c.in-Version.is
+    (words_behind (option_copied c.args.next)) c.args.line.now.words (seen_stage s)) c.in-Version.is
     ∙ c.read_version.ensures.says (seen_draft c.args.net.now c.args.self.now)
 
 pub returns-in-Version-clause-fits : goal.returns-in-Version-clause-fits
@@ -24,41 +24,41 @@ returns-in-End-clause-says c =
 pub returns-in-Err-read_reached-clause-says : goal.returns-in-Err-read_reached-clause-says
 returns-in-Err-read_reached-clause-says c =
     ap (λ (s : Stage). staged_line c.args.net.now (seen_draft c.args.net.now c.args.self.now)
-        (words_behind (option_copied c.args.next)) c.args.line.now.words (seen_stage s)) c.in-Reached.is
+    (words_behind (option_copied c.args.next)) c.args.line.now.words (seen_stage s)) c.in-Reached.is
     ∙ c.in-Err-read_reached.ensures c.args.net.now
 
 pub returns-in-Err-read_stop-clause-says : goal.returns-in-Err-read_stop-clause-says
 returns-in-Err-read_stop-clause-says c =
     ap (λ (s : Stage). staged_line c.args.net.now (seen_draft c.args.net.now c.args.self.now)
-        (words_behind (option_copied c.args.next)) c.args.line.now.words (seen_stage s)) c.in-Cause.is
+    (words_behind (option_copied c.args.next)) c.args.line.now.words (seen_stage s)) c.in-Cause.is
     ∙ c.in-Err-read_stop.ensures c.args.net.now
 
 pub returns-in-Ok-clause-says : goal.returns-in-Ok-clause-says
 returns-in-Ok-clause-says c =
     ap (λ (s : Stage). staged_line c.args.net.now (seen_draft c.args.net.now c.args.self.now)
-        (words_behind (option_copied c.args.next)) c.args.line.now.words (seen_stage s)) c.in-Horizon.is
+    (words_behind (option_copied c.args.next)) c.args.line.now.words (seen_stage s)) c.in-Horizon.is
     ∙ c.in-Ok.ensures (seen_draft c.args.net.now c.args.self.now)
 
 pub returns-in-Err-clause-says : goal.returns-in-Err-clause-says
 returns-in-Err-clause-says c =
     ap (λ (s : Stage). staged_line c.args.net.now (seen_draft c.args.net.now c.args.self.now)
-        (words_behind (option_copied c.args.next)) c.args.line.now.words (seen_stage s)) c.in-Horizon.is
+    (words_behind (option_copied c.args.next)) c.args.line.now.words (seen_stage s)) c.in-Horizon.is
     ∙ c.in-Err.ensures (seen_draft c.args.net.now c.args.self.now)
 
 pub returns-in-Ok-read_reached-clause-says : goal.returns-in-Ok-read_reached-clause-says
 returns-in-Ok-read_reached-clause-says c =
     ap (λ (s : Stage). staged_line c.args.net.now (seen_draft c.args.net.now c.args.self.now)
-        (words_behind (option_copied c.args.next)) c.args.line.now.words (seen_stage s)) c.in-Reached.is
+    (words_behind (option_copied c.args.next)) c.args.line.now.words (seen_stage s)) c.in-Reached.is
     ∙ c.in-Ok-read_reached.ensures c.args.net.now
 
 pub returns-in-Ok-read_stop-clause-says : goal.returns-in-Ok-read_stop-clause-says
 returns-in-Ok-read_stop-clause-says c =
     ap (λ (s : Stage). staged_line c.args.net.now (seen_draft c.args.net.now c.args.self.now)
-        (words_behind (option_copied c.args.next)) c.args.line.now.words (seen_stage s)) c.in-Cause.is
+    (words_behind (option_copied c.args.next)) c.args.line.now.words (seen_stage s)) c.in-Cause.is
     ∙ c.in-Ok-read_stop.ensures c.args.net.now
 
 pub returns-in-Body-clause-says : goal.returns-in-Body-clause-says
 returns-in-Body-clause-says c =
     ap (λ (s : Stage). staged_line c.args.net.now (seen_draft c.args.net.now c.args.self.now)
-        (words_behind (option_copied c.args.next)) c.args.line.now.words (seen_stage s)) c.in-Body.is
+    (words_behind (option_copied c.args.next)) c.args.line.now.words (seen_stage s)) c.in-Body.is
     ∙ c.read_body.ensures.says

@@ -17,4 +17,4 @@ pub returns-in-Some : goal.returns-in-Some
 returns-in-Some c =
     ap Some c.distance.ensures
     ∙ ap (option_map (λ (reach : Reach). reach.distance)) (reach_there c.self.inside.ways c.self.inside.places.items c.deref.result.now c.args.self.now
-        c.args.node c.args.node c.self.view_is c.deref.ensures.value refl (Some c.in-Some.way) (sym c.in-Some.is ∙ c.place_of.ensures))
+    c.args.node c.args.node c.self.view_is c.deref.ensures.value refl (Some c.in-Some.way) (sym c.in-Some.is ∙ c.place_of.ensures))

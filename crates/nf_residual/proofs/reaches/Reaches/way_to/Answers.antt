@@ -39,5 +39,5 @@ pub returns-in_ok-steps-in-Some : goal.returns-in_ok-steps-in-Some
 returns-in_ok-steps-in-Some c =
     ap Some (way_read c.self.inside.ways c.in-Some.way c.distance.result c.in_ok-steps-in-Some.steps.items c.distance.ensures c.in_ok-steps-in-Some.ensures)
     ∙ reach_there c.self.inside.ways c.self.inside.places.items c.deref.result.now c.args.self.now c.args.node c.index.result c.self.view_is
-        c.deref.ensures.value c.index.ensures (Some c.in-Some.way)
+    c.deref.ensures.value c.index.ensures (Some c.in-Some.way)
     (sym c.in-Some.is ∙ c.place_of.ensures)

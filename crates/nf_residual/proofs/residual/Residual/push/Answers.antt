@@ -31,7 +31,7 @@ returns-clause-sound c = pushed_sound passes_Q c.args.net.now.net c.args.self.no
     (c.copy_from_slice.ensures.items ∙ c.deref.ensures.value ∙ c.self.view_is)
     (c.deref-2.ensures.value ∙ ap (λ (w : Walk). w.steps) c.walk.view_is)
     (subst (λ (l : List ℚ). Ok l ≡ at_part Part.Quick (fold_checked (push_step passes_Q c.args.amount) c.copy_from_slice.new.self.items
-        c.deref-2.result.now)) (ap (λ (v : Vec ℚ Global). v.items) (sym c.swap.ensures.x_after)) c.in_ok-move_along.ensures.moved)
+    c.deref-2.result.now)) (ap (λ (v : Vec ℚ Global). v.items) (sym c.swap.ensures.x_after)) c.in_ok-move_along.ensures.moved)
 
 pub invariant_of-self : goal.invariant_of-self
 invariant_of-self c =

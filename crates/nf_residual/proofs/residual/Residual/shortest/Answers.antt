@@ -9,7 +9,7 @@ pub returns-in_err-known-clause-list : goal.returns-in_err-known-clause-list
 returns-in_err-known-clause-list c =
     let p = err_from_is_err_and c.from_residual.result c.from_residual.ensures.1 in
     rw (p.1, p.2) (shortest_stops passes_Q c.args.net.now.net c.args.self.now c.as_slice-flows.result.now
-        (c.as_slice-flows.ensures.value ∙ c.self.view_is) c.source.result c.source.ensures.value
+    (c.as_slice-flows.ensures.value ∙ c.self.view_is) c.source.result c.source.ensures.value
     c.in_err-known.field-0.0 c.in_err-known.ensures.list)
 
 pub with_room-requires-clause-walk : goal.with_room-requires-clause-walk
@@ -22,7 +22,7 @@ pub returns-in_err-walk-clause-list : goal.returns-in_err-walk-clause-list
 returns-in_err-walk-clause-list c =
     let p = err_from_is_err_and c.from_residual-in_err-walk.result c.from_residual-in_err-walk.ensures.1 in
     rw (p.1, p.2) (room_passes passes_Q c.args.net.now.net c.args.self.now c.as_slice-flows.result.now
-        (c.as_slice-flows.ensures.value ∙ c.self.view_is) c.source.result c.source.ensures.value
+    (c.as_slice-flows.ensures.value ∙ c.self.view_is) c.source.result c.source.ensures.value
     c.in_ok-known.known c.in_ok-known.ensures.list c.in_ok-way.way c.sink.result c.sink.ensures.value c.in_ok-way.ensures c.in_err-walk.field-0.0 c.in_err-walk.ensures)
 
 pub returns-clause-list : goal.returns-clause-list

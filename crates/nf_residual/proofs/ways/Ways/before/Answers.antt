@@ -11,5 +11,5 @@ returns-clause-value c = ap (λ (t : Twig). t.before) (twig_read c.self.inside.t
 pub returns-clause-within : goal.returns-clause-within
 returns-clause-within c =
     subst (λ (before : ℕ). before < length c.args.self.now) (sym (ap (λ (t : Twig). t.before)
-        (twig_read c.self.inside.twigs.items c.args.self.now c.args.way c.index.result.now c.self.view_is c.requires c.index.ensures)))
+    (twig_read c.self.inside.twigs.items c.args.self.now c.args.way c.index.result.now c.self.view_is c.requires c.index.ensures)))
     (before_within c.args.self.now c.args.way (subst IsPathTree c.self.view_is c.self.invariant) c.requires)

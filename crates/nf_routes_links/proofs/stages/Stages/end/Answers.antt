@@ -7,10 +7,10 @@ pub returns-in-Some-clause-sent : goal.returns-in-Some-clause-sent
 returns-in-Some-clause-sent c =
     sym (but_last-push passes_Q (map (λ (g : Grown). g.points) c.pop.new.self.items) c.in-Some.arrival.points)
     ∙ ap (but_last passes_Q) (sym (map-append (λ (g : Grown). g.points) c.pop.new.self.items _)
-        ∙ ap (λ (l : List Grown). map (λ (g : Grown). g.points) l) (sym c.in-Some.ensures.items) ∙ c.self.view_is)
+    ∙ ap (λ (l : List Grown). map (λ (g : Grown). g.points) l) (sym c.in-Some.ensures.items) ∙ c.self.view_is)
 
 pub returns-in-Some-clause-arrival : goal.returns-in-Some-clause-arrival
 returns-in-Some-clause-arrival c =
     sym (last_push (map (λ (g : Grown). g.points) c.pop.new.self.items) c.in-Some.arrival.points)
     ∙ ap last_entry (sym (map-append (λ (g : Grown). g.points) c.pop.new.self.items _)
-        ∙ ap (λ (l : List Grown). map (λ (g : Grown). g.points) l) (sym c.in-Some.ensures.items) ∙ c.self.view_is)
+    ∙ ap (λ (l : List Grown). map (λ (g : Grown). g.points) l) (sym c.in-Some.ensures.items) ∙ c.self.view_is)

@@ -11,4 +11,4 @@ returns c =
     let at = slice_get_read c.self.inside.curves.items _ (c.len.result - 1) c.index.result.now refl here c.index.ensures in
     sym (ap last_entry (sym c.self.view_is)
     ∙ last_at (map (λ (g : Grown). g.points) c.self.inside.curves.items) (c.len.result - 1) c.index.result.now.points
-        (slice_get-image (λ (g : Grown). g.points) c.self.inside.curves.items (c.len.result - 1) c.index.result.now at) (omega arith))
+    (slice_get-image (λ (g : Grown). g.points) c.self.inside.curves.items (c.len.result - 1) c.index.result.now at) (omega arith))

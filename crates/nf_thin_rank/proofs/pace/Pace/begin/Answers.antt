@@ -12,4 +12,4 @@ go_on-requires-clause-behind c other is =
     subst (λ (g : Given). IsBehind (question_in c.args.ranking.now) g c.args.pattern.now) (same_Some c.in_ok-all.all other is)
     (from_start (question_in c.args.ranking.now) c.in_ok-all.all c.args.pattern.now
     (c.in_ok-all.ensures.asked.asked ∙ ap (question_of c.args.ranking.now.net.now.net c.args.ranking.now.sets.now) c.in_ok-all.ensures.base)
-        c.in_ok-all.ensures.asked.start c.in_ok-all.ensures.place)
+    c.in_ok-all.ensures.asked.start c.in_ok-all.ensures.place)

@@ -29,7 +29,7 @@ returns-then-goes_on_to-clause-in_step c other all is =
     subst (λ (g : Given). StandsAt (question_in c.args.ranking.now) g c.args.pattern.now) (same_Some c.goes_on_to.new.patterns all is)
     (subst (λ (q : Question). StandsAt q c.goes_on_to.new.patterns c.args.pattern.now) (c.requires.behind c.in-Some.all c.in-Some.is).through.same
     (c.goes_on_to.ensures.stands c.if-goes_on_to.true (subst (λ (q : Question). IsListedBy q c.args.pattern.now)
-        (sym (c.requires.behind c.in-Some.all c.in-Some.is).through.same) c.requires.listed)))
+    (sym (c.requires.behind c.in-Some.all c.in-Some.is).through.same) c.requires.listed)))
 
 pub returns-else-goes_on_to-clause-told : goal.returns-else-goes_on_to-clause-told
 returns-else-goes_on_to-clause-told c =
