@@ -11,7 +11,7 @@ use Rattle.nf_complete_def.specs.SettleText.{settled_text}
 use Rattle.nf_forever_def.specs.ForeverText.{forever_text}
 use Rattle.nf_forever.specs.Seen.{forever_in}
 use Rattle.nf_routes_def.specs.RoutesText.{routed_text}
-use Rattle.nf_app_answers.specs.Carried.{with_entries}
+use Rattle.nf_app_answers.specs.Carried.{with_kept_entries}
 use Rattle.nf_app_answers.specs.declared.outcome.Computed.{Computed}
 use Rattle.nf_app_answers.specs.QuickText.{arrival_text}
 use Rattle.nf_app_answers.specs.GenText.{gen_text}
@@ -63,5 +63,5 @@ returns-in-SolvedForever g c =
 
 pub returns-in-Distributed : goal.returns-in-Distributed
 returns-in-Distributed g c =
-    same_text (routed_text c.args.net.now c.in-Distributed.routes c.in-Distributed.horizon (with_entries [] c.in-Distributed.routed)) (text_with c.args.net.now c.args.found.now)
+    same_text (routed_text c.args.net.now c.in-Distributed.routes c.in-Distributed.horizon (with_kept_entries [] c.in-Distributed.routed)) (text_with c.args.net.now c.args.found.now)
     (sym (ap (text_with c.args.net.now) c.in-Distributed.is)) c.write_routed.ensures
