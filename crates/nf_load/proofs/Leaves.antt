@@ -22,6 +22,7 @@ use Rattle.nf_curve.proofs.Pieces.{run_apart}
 use Rattle.nf_load.specs.Rates.{IsRate}
 use Rattle.nf_load.specs.Slopes.{Along, AreSlopes}
 use Rattle.nf_load.specs.Paces.{IsPace, IsPaceIf, ArePaces}
+use Rattle.nf_load.specs.InSteps.{moments_of}
 use Rattle.nf_load.specs.Leaving.{IsLeaving, IsLeavingIf, AreLeaving, AreExits, AreExitsOf, IsBusy, exit_slope_of}
 use Rattle.nf_load.specs.declared.waits.Pace.{Pace}
 use Rattle.nf_load.specs.declared.waits.Leaving.{Leaving}
@@ -189,6 +190,9 @@ module _ (capacity : Option ℚ) (transit : ℚ) where
       let there = all_exits waits rest.between rest.first in
       subst (λ (l : List lists.Exit). AreAll l × (map (λ y. y.waits) l ≡ w ∷ waits)) (same_Ok _ _ rest.next)
       ((here.0, there.0), (λ j. here.1 j ∷ there.1 j))
+
+  pub moments_are : (waits : List lists.Waits) (all : List lists.Exit) → each (exit_of passes_Q capacity transit) waits ≡ Ok all → moments_of all ≡ waits
+  moments_are waits all e = (all_exits waits all e).1
 
   exit_at : (all : List lists.Exit) (i : ℕ) (one : lists.Exit) → AreAll all → slice_get all i ≡ Some one → IsExit one
   exit_at [] i one h e = absurd (cc)

@@ -9,6 +9,10 @@ use Rattle.nf_curve_def.specs.Values.{checked_cut}
 use Rattle.nf_curve_def.specs.Short.{checked_short}
 use Rattle.nf_load_def.specs.Loading.{Waits, Exit, Loaded, queue_point, exit_point, outflow_points, exit_of, all_waits}
 
+-- the moments of exits
+abbrev pub moments_of : List Exit → List Waits
+moments_of all = map (λ one. one.waits) all
+
 -- the operations after the whole outflow is known
 unfoldable pub in_short_form : Passing → List Waits → List Exit → List Point → Checked Loaded
 in_short_form passes waits all whole = do

@@ -13,21 +13,20 @@ ghost use Rattle.nf_load_def.specs.Loading.{queue_point, exit_point};
 ghost use Rattle.nf_load.specs.Leaving.{AreLeaving, exit_slope_of, outflow_slope_of};
 ghost use Rattle.nf_load.specs.Slopes.{AreSlopes, flat};
 ghost use Rattle.nf_load.specs.Paces.{change_of};
+ghost use Rattle.nf_load.specs.InSteps.{moments_of};
 
 use crate::shortening::short_points;
-use crate::waiting::Moments;
-use crate::waits::{Exit, Leaving, Pace, Waits};
+use crate::waits::{Exit, Leaving, Pace};
 use nf_curve::{Curve, Point};
 use nf_frac::{Halt, Part, Q};
 use std::alloc::{AllocError, Global};
 
 // Returns the points of the queue.
-fn queue_points(alloc: Global, waits: &[Waits]) -> Result<Vec<Point>, AllocError>
-    ensures { IfOk result (λ points. points.items ≡ map queue_point waits.now) }
+fn queue_points(alloc: Global, all: &[Exit]) -> Result<Vec<Point>, AllocError>
+    ensures { IfOk result (λ points. points.items ≡ map (λ one. queue_point one.waits) all.now) }
 {
-    waits
-        .iter()
-        .map(|moment| (moment.time, moment.queue))
+    all.iter()
+        .map(|one| (one.waits.time, one.waits.queue))
         .collect(alloc)
 }
 
@@ -118,15 +117,19 @@ fn known_short(alloc: Global, points: &[Point], slopes: &[Option<Q>]) -> Result<
 }
 
 /// Returns the queue by time, in short form.
-pub(crate) fn queue_curve(alloc: Global, moments: &Moments) -> Result<Curve, Halt<Q>>
-    requires curve { IsCurve (map queue_point moments.now.waits.items) }
-    requires slopes { AreSlopes (map queue_point moments.now.waits.items)
-        (map (option_map change_of) moments.now.paces.items) }
+pub(crate) fn queue_curve(
+    alloc: Global,
+    all: &[Exit],
+    paces: &[Option<Pace>],
+) -> Result<Curve, Halt<Q>>
+    requires curve { IsCurve (map queue_point (moments_of all.now)) }
+    requires slopes { AreSlopes (map queue_point (moments_of all.now))
+        (map (option_map change_of) paces.now) }
     ensures { Gives (λ c. c.points) (λ q. q) result
-        (at_part Load (checked_short passes_Q (map queue_point moments.now.waits.items))) }
+        (at_part Load (checked_short passes_Q (map queue_point (moments_of all.now)))) }
 {
-    let points = queue_points(alloc, &moments.waits)?;
-    let slopes = queue_slopes(alloc, &moments.paces)?;
+    let points = queue_points(alloc, all)?;
+    let slopes = queue_slopes(alloc, paces)?;
     known_short(alloc, &points, &slopes)
 }
 

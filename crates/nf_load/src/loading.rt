@@ -16,13 +16,13 @@ ghost use Rattle.nf_load.specs.Leaving.{AreLeaving};
 ghost use Rattle.nf_load.specs.Paces.{ArePaces};
 ghost use Rattle.nf_load.specs.Rates.{AreRates};
 ghost use Rattle.nf_load.specs.Slopes.{AreSlopes};
-ghost use Rattle.nf_load.specs.InSteps.{AreCurves, LeadsToCurves, in_short_form, until_transit, behind_cut};
+ghost use Rattle.nf_load.specs.InSteps.{AreCurves, LeadsToCurves, in_short_form, moments_of, until_transit, behind_cut};
 
 use crate::curves::{Outflow, exit_curve, outflow_curve, outflow_until, queue_curve};
 use crate::exiting::all_exits;
 use crate::leaving::all_leaving;
 use crate::waiting::{Moments, all_waits};
-use crate::waits::{Exit, Leaving};
+use crate::waits::{Exit, Leaving, Pace};
 use nf_curve::{Curve, Trace, ends_at};
 use nf_frac::{Halt, Part, PassedAt, Q, at};
 use std::alloc::Global;
@@ -46,24 +46,24 @@ fn after_transit(time: Q, transit: Q) -> Result<Q, PassedAt<Q>>
     Ok(end)
 }
 
-// Returns queue, outflow and exits in short form, from the moments, their exits and the whole outflow.
+// Returns queue, outflow and exits in short form, from the exits of the moments and the whole outflow.
 fn short_curves(
     alloc: Global,
-    moments: &Moments,
+    paces: &[Option<Pace>],
     all: &[Exit],
     leaving: &[Option<Leaving>],
     whole_outflow: &Outflow,
 ) -> Result<Loaded, Halt<Q>>
-    requires curves { AreCurves moments.now.waits.items all.now }
+    requires curves { AreCurves (moments_of all.now) all.now }
     requires paces { (capacity : Option ℚ)
-        × ArePaces capacity moments.now.waits.items moments.now.paces.items }
+        × ArePaces capacity (moments_of all.now) paces.now }
     requires leaving { AreLeaving all.now leaving.now }
     requires outflow { AreSlopes whole_outflow.now.curve.points whole_outflow.now.slopes.items }
     ensures { Gives loaded_of (λ q. q) result
         (at_part Load
-        (in_short_form passes_Q moments.now.waits.items all.now whole_outflow.now.curve.points)) }
+        (in_short_form passes_Q (moments_of all.now) all.now whole_outflow.now.curve.points)) }
 {
-    let queue = queue_curve(alloc, moments)?;
+    let queue = queue_curve(alloc, all, paces)?;
     let outflow = outflow_curve(alloc, whole_outflow)?;
     let exit = exit_curve(alloc, all, leaving)?;
     Ok(Loaded {
@@ -78,24 +78,24 @@ fn curves_until(
     alloc: Global,
     transit: Q,
     capacity: &Option<Q>,
-    moments: &Moments,
+    paces: &[Option<Pace>],
     all: &[Exit],
     until: Q,
 ) -> Result<Loaded, Halt<Q>>
     requires transit { 0ℚ ≤ℚ transit }
     requires capacity { IsPositive capacity.now }
-    requires curves { AreCurves moments.now.waits.items all.now }
-    requires paces { ArePaces capacity.now moments.now.waits.items moments.now.paces.items }
-    requires exits { each (exit_of passes_Q capacity.now transit) moments.now.waits.items
+    requires curves { AreCurves (moments_of all.now) all.now }
+    requires paces { ArePaces capacity.now (moments_of all.now) paces.now }
+    requires exits { each (exit_of passes_Q capacity.now transit) (moments_of all.now)
         ≡ Ok all.now }
     requires until { 0ℚ ≤ℚ until }
     ensures { Gives loaded_of (λ q. q) result
-        (at_part Load (until_transit passes_Q transit moments.now.waits.items all.now until)) }
+        (at_part Load (until_transit passes_Q transit (moments_of all.now) all.now until)) }
 {
     let end = after_transit(until, transit)?;
-    let leaving = all_leaving(alloc, capacity, &moments.paces, all)?;
+    let leaving = all_leaving(alloc, capacity, paces, all)?;
     let whole_outflow = outflow_until(alloc, all, &leaving, end)?;
-    short_curves(alloc, moments, all, &leaving, &whole_outflow)
+    short_curves(alloc, paces, all, &leaving, &whole_outflow)
 }
 
 // Loads a link with an inflow that is cut at the time `until`. `rates` are known rates of its first pieces.
@@ -115,9 +115,10 @@ fn load_cut(
     ensures { Gives loaded_of (λ q. q) result
         (at_part Load (behind_cut passes_Q transit capacity cut.now.points until)) }
 {
-    let moments = all_waits(alloc, &capacity, cut, rates)?;
-    let exits = all_exits(alloc, &capacity, transit, &moments.waits)?;
-    curves_until(alloc, transit, &capacity, &moments, &exits, until)
+    let Moments { waits, paces } = all_waits(alloc, &capacity, cut, rates)?;
+    let exits = all_exits(alloc, &capacity, transit, &waits)?;
+    drop(waits);
+    curves_until(alloc, transit, &capacity, &paces, &exits, until)
 }
 
 /// Loads a link by the law of the point queue (Koch and Skutella 2011). Returns queue and exit by time up to `until`, and the outflow up to

@@ -7,7 +7,7 @@ use Rattle.nf_frac_def.specs.Checked.{checked, at_part}
 use Rattle.nf_curve_def.specs.Values.{checked_cut}
 use Rattle.nf_load_def.specs.Loading.{outflow_points}
 use Rattle.nf_curve.proofs.Exits.{was_ok, stops_on}
-use Rattle.nf_load.specs.InSteps.{until_transit}
+use Rattle.nf_load.specs.InSteps.{moments_of, until_transit}
 use Rattle.nf_load.proofs.LoadedCurves.{end_after_0}
 use Rattle.nf_load.proofs.LoadingSteps.{end_stops, whole_stops, whole_goes}
 use Rattle.nf_load.proofs.Leaves.{exits_of}
@@ -16,7 +16,7 @@ use Rattle.nf_load.proofs.loading.curves_until.Goals as goal
 pub returns-in_err-end : goal.returns-in_err-end
 returns-in_err-end c =
     let p = err_from_is_err_and c.from_residual.result c.from_residual.ensures.1 in
-    rw (p.1, p.2) (end_stops passes_Q Load c.args.transit c.args.moments.now.waits.items c.args.all.now c.args.until c.in_err-end.field-0.0 (sym c.in_err-end.ensures))
+    rw (p.1, p.2) (end_stops passes_Q Load c.args.transit (moments_of c.args.all.now) c.args.all.now c.args.until c.in_err-end.field-0.0 (sym c.in_err-end.ensures))
 
 pub outflow_until-requires-clause-curve : goal.outflow_until-requires-clause-curve
 outflow_until-requires-clause-curve c = c.requires.curves.outflow
@@ -29,22 +29,22 @@ pub returns-in_err-whole_outflow : goal.returns-in_err-whole_outflow
 returns-in_err-whole_outflow c =
     let p = err_from_is_err_and c.from_residual-in_err-whole_outflow.result c.from_residual-in_err-whole_outflow.ensures.1 in
     rw (p.1, p.2) (stops_on c.in_err-whole_outflow.field-0.0 (at_part Load (checked_cut passes_Q (outflow_points c.args.all.now) c.in_ok-end.end))
-    (at_part Load (until_transit passes_Q c.args.transit c.args.moments.now.waits.items c.args.all.now c.args.until))
-    (whole_stops passes_Q Load c.args.transit c.args.moments.now.waits.items c.args.all.now c.args.until c.in_ok-end.end (sym c.in_ok-end.ensures)) c.in_err-whole_outflow.ensures.list)
+    (at_part Load (until_transit passes_Q c.args.transit (moments_of c.args.all.now) c.args.all.now c.args.until))
+    (whole_stops passes_Q Load c.args.transit (moments_of c.args.all.now) c.args.all.now c.args.until c.in_ok-end.end (sym c.in_ok-end.ensures)) c.in_err-whole_outflow.ensures.list)
 
 pub short_curves-requires-clause-curves : goal.short_curves-requires-clause-curves
 short_curves-requires-clause-curves c = c.requires.curves
 
 pub returns : goal.returns
 returns c =
-    let e = whole_goes passes_Q Load c.args.transit c.args.moments.now.waits.items c.args.all.now c.args.until c.in_ok-end.end
+    let e = whole_goes passes_Q Load c.args.transit (moments_of c.args.all.now) c.args.all.now c.args.until c.in_ok-end.end
     (sym c.in_ok-end.ensures) c.in_ok-whole_outflow.whole_outflow.curve.points c.in_ok-whole_outflow.ensures.list in
     rw e c.short_curves.ensures
 
 pub all_leaving-requires-clause-exits : goal.all_leaving-requires-clause-exits
 all_leaving-requires-clause-exits c =
-    rw c.deref.ensures.value (exits_of c.args.capacity.now c.args.transit c.args.moments.now.waits.items c.args.moments.now.paces.items c.args.all.now
-    c.requires.exits c.requires.paces)
+    exits_of c.args.capacity.now c.args.transit (moments_of c.args.all.now) c.args.paces.now c.args.all.now
+    c.requires.exits c.requires.paces
 
 pub short_curves-requires-clause-paces : goal.short_curves-requires-clause-paces
 short_curves-requires-clause-paces c = (c.args.capacity.now, c.requires.paces)
