@@ -66,7 +66,7 @@ before-place time (x ∷ rest) i p g h = ⊎_elim
     at further (suc i) g h k = further i g (omega arith)
 
 -- all points of a curve come at or after its first
-first-least : (x : Point) (rest : List Point) (i : ℕ) (p : Point) → TimesRise (x ∷ rest) → slice_get (x ∷ rest) i ≡ Some p → x.0 ≤ℚ p.0
+pub first-least : (x : Point) (rest : List Point) (i : ℕ) (p : Point) → TimesRise (x ∷ rest) → slice_get (x ∷ rest) i ≡ Some p → x.0 ≤ℚ p.0
 first-least x rest zero p r g = subst (λ (q : Point). x.0 ≤ℚ q.0) (same_Some x p g) (≤ℚ_refl x.0)
 first-least x [] (suc i) p r g = absurd (none-some p g)
 first-least x (y ∷ rest) (suc i) p r g = ≤ℚ_trans _ _ _ (≤ℚ_of_lt _ _ r.0) (first-least y rest i p r.1 g)
@@ -226,6 +226,10 @@ around-place time points k p q r e o f g = below_all p.0 time q.0 (before-place 
 pub curve-rises : (points : List Point) → IsCurve points → TimesRise points
 curve-rises [] c = absurd c
 curve-rises (p ∷ rest) c = c.1
+
+-- a point of a curve comes before the next
+pub times_apart : (points : List Point) (i : ℕ) (p q : Point) → IsCurve points → slice_get points i ≡ Some p → slice_get points (i + 1) ≡ Some q → p.0 <ℚ q.0
+times_apart points i p q c e f = rise-pairs points i (i + 1) p q (curve-rises points c) e f (omega arith)
 
 -- ---- the exits of the value at a place
 module _ (passes : Passing) (part : Part) (time : ℚ) (points : List Point) (k : ℕ) (p : Point) (c : IsCurve points) (h : 0ℚ ≤ℚ time)
