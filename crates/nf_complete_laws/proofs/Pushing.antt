@@ -45,7 +45,7 @@ module _ (net : Network) (rate : ℚ) (flows : ℕ → ℚ) (e : ℕ) (link : Li
 
   pub spare-else : (v : ℕ) → v ≢ link.head → v ≢ link.tail → spare net rate pushed v ≡ spare net rate flows v
   spare-else v h t = moved_by_zero _ _ (only_at link.head 1ℚ v -ℚ only_at link.tail 1ℚ v) d
-      (same_differences _ _ 0ℚ 0ℚ (only_at-else link.head 1ℚ v (λ k. h (sym k))) (only_at-else link.tail 1ℚ v (λ k. t (sym k))) ∙ (less_itself 0ℚ)) (spare-moved v)
+      (same_differences _ _ 0ℚ 0ℚ (only_at-else link.head 1ℚ v (λ k. h (sym k))) (only_at-else link.tail 1ℚ v (λ k. t (sym k))) ∙ less_itself 0ℚ) (spare-moved v)
 
   pub spare-head : link.head ≢ link.tail → spare net rate pushed link.head ≡ spare net rate flows link.head +ℚ d
   spare-head h = moved_by_one _ _ (only_at link.head 1ℚ link.head -ℚ only_at link.tail 1ℚ link.head) d

@@ -21,8 +21,6 @@ use Rattle.nf_curve_laws.proofs.Composed.{rise_rest}
 use Rattle.nf_curve.specs.Places.{place_of, value_between}
 use Rattle.nf_rational_laws.proofs.Chains.{≤ℚ_refl, ≤ℚ_trans, ≤_<_trans}
 
--- ---- what the test of an order says
-
 -- ---- the place, by the first point's test
 pub place-behind : (time : ℚ) (p : Point) (rest : List Point) → time <ℚ p.0 → place_of time (p ∷ rest) ≡ zero
 place-behind time p rest h = ⊎_elim

@@ -69,5 +69,3 @@ cast_plain k h = to_z_pos w128 (omega arith)
 -- the greatest common divisor of a number and 1 is 1
 pub IsGcd-one : (a b : ℕ) → b ≡ 1 → IsGcd a b 1
 IsGcd-one a b e = subst (λ (k : ℕ). IsGcd a k 1) (sym e) (one-dvd a, one-dvd 1, λ g u v. v)
-
--- ---- magnitudes

@@ -25,7 +25,7 @@ transit_of-nn : (hops : List Hop) (e : ℕ) (hop : Hop) → NoNegativeTransit ho
 transit_of-nn hops e hop n p = subst (λ (t : ℚ). 0ℚ ≤ℚ t) (sym (transit_of-hop hops e hop p)) (n e hop p)
 
 pub transit_sum-nn : (hops : List Hop) (walk : List ℕ) (v w : ℕ) → NoNegativeTransit hops → IsWalk hops walk v w → 0ℚ ≤ℚ transit_sum hops walk
-transit_sum-nn hops [] v w n h = (≤ℚ_refl 0ℚ)
+transit_sum-nn hops [] v w n h = ≤ℚ_refl 0ℚ
 transit_sum-nn hops (e ∷ walk) v w n h = nn_plus _ _ (transit_of-nn hops e h.0 n h.1) (transit_sum-nn hops walk h.0.head w n h.3)
 
 -- ---- the nodes settled so far have their least sums

@@ -15,7 +15,6 @@ use Rattle.nf_text_def.proofs.LineParts.{lines_of_parts-more}
 use Rattle.nf_net_laws.proofs.AcceptedNamed.{every_append}
 use Rattle.nf_net_laws.proofs.NameFacts.{bytes_eq-self}
 
--- ---- tests
 -- ---- a byte of a word
 above_space : (b : ℕ) → is_word_byte b ≡ true → 33 ≤ b
 above_space b h = leb-true 33 b (first_so (nat_le 33 b) (nat_le b 126 && not (b == 35)) h)

@@ -7,7 +7,6 @@ use Rattle.nf_pattern.specs.Successor.{IsAssignment, Spares, earliest, later, ne
 use Rattle.nf_pattern.proofs.Successors.{changes_few, earliest_is, earliest_first, earliest_exists, else_given, else_none}
 use Rattle.nf_pattern.proofs.Later.{later_is, later_none, later_next}
 
--- ---- the base comes first
 -- ---- the next one
 module _ (i : ℕ) (base : Pattern) (us zs : List Bool) (valid : IsAssignment base us base) (p : Pattern) where
   pub next_is : (q : Pattern) → IsAssignment base us p → next_assignment i base us zs p ≡ Some q → IsAssignment base us q × IsBefore base p q

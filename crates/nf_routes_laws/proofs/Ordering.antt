@@ -8,7 +8,6 @@ use Rattle.nf_model_laws.proofs.Ways.{distinct_more, distinct_none}
 use Rattle.nf_routes_def.specs.Routes.{Route, AreRoutes, pairs_of, all_pairs, PrecedesOnRoute, LeadsOverRoutes, HoldCircle, is_taken, is_free, first_free, with_next, order_from, loading_order, takes_all}
 use Rattle.nf_routes_laws.proofs.Arriving.{walk-links}
 
--- ---- truth values
 -- ---- members of lists
 abbrev pub In : {A : Type 0} → A → List A → Type 0
 In x [] = ⊥

@@ -99,7 +99,6 @@ first_kept Every s e = refl
 first_kept Last s e = ap (λ (l : List Sent). record { links = s.links; entries = l }) e
 
 -- ---- computations, one after the other
--- ---- computations, one after the other
 abbrev alone : Checked Sent → Checked Sent
 alone r = r >>= λ sent. Ok (last_alone sent)
 
