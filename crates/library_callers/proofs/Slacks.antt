@@ -1,5 +1,5 @@
 -- A link is resetting exactly if the label of its head is later than that of its tail plus the transit time.
-use Rattle.std.proofs.Common.{◌≡◌, ℕ, Bool, List, [], Some, slice_get, map, IsTrue, sym, ap, ◌∙◌}
+use Rattle.std.proofs.Common.{◌≡◌, ℕ, Bool, List, Some, slice_get, map, IsTrue, sym, ap, ◌∙◌}
 use Rattle.std.specs.Prelude.{◌↔◌}
 use Rattle.std.proofs.lemmas.Option.{same_Some}
 use Rattle.nf_rational.specs.Rational.{ℚ}

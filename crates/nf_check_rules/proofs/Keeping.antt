@@ -1,5 +1,5 @@
 -- Exits that are kept in short form.
-use Rattle.std.proofs.Common.{◌≡◌, ℕ, zero, suc, List, [], length, set, replicate, ◌⊎◌, inl, inr, Option, Some, None, slice_get, sym, ap, subst, ◌∙◌}
+use Rattle.std.proofs.Common.{◌≡◌, ℕ, zero, suc, List, length, set, replicate, ◌⊎◌, inl, inr, Option, Some, None, slice_get, sym, ap, subst, ◌∙◌}
 use Rattle.std.specs.Prelude.{Ok, IfSome}
 use Rattle.std.proofs.lemmas.List.{length-set, length-replicate}
 use Rattle.nf_rational.specs.Rational.{ℚ}

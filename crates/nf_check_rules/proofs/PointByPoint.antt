@@ -19,7 +19,7 @@ use Rattle.nf_check_def.specs.Curves.{greatest_value, last_value}
 use Rattle.nf_model.specs.Network.{Network}
 use Rattle.nf_model.specs.Equilibrium.{Flow}
 use Rattle.nf_check_def.specs.CheckList as lists_of_check
-use Rattle.nf_rational_laws.proofs.Entries.{drop_entry, drop_next}
+use Rattle.nf_rational_laws.proofs.Entries.{drop_next}
 use Rattle.nf_check_rules.specs.declared.ended.Ended.{Ended}
 use Rattle.nf_check_rules.specs.Points.{first_fall, first_value}
 use Rattle.nf_check_rules.specs.Trials.{EndsAs}

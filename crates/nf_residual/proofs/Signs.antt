@@ -1,5 +1,5 @@
 -- The tests of the code: a number is above 0; the lesser of two numbers.
-use Rattle.std.proofs.Common.{◌≡◌, ℕ, Bool, true, false, not, ◌∙◌, refl, ap, [], arith}
+use Rattle.std.proofs.Common.{◌≡◌, ℕ, Bool, true, false, not, ◌∙◌, refl, ap, arith}
 use mathlib.Core.Path.{ap₂}
 use lib.IntN.{ℤ, pos, ◌*ℤ◌, zero-*ℤ}
 use lib.Signed.{le_z, lt_z}

@@ -8,7 +8,7 @@ use Rattle.nf_frac_def.specs.declared.Halt.{Halt}
 use Rattle.nf_frac_def.specs.Checked.{Checked, Stops, at_part, each}
 use Rattle.nf_frac_def.proofs.Each.{with_front, no_front}
 use Rattle.nf_curve.proofs.Exits.{each_goes, each_stops, each_ends, stops_on}
-use Rattle.nf_rational_laws.proofs.Entries.{drop_entry, drop_next}
+use Rattle.nf_rational_laws.proofs.Entries.{drop_next}
 
 pub record Front {A B : Type 0} (f : A → Checked B) (xs : List A) (k : ℕ) (front : List B) : Type 0 where
   pub same : with_front front (each f (drop k xs)) ≡ each f xs
