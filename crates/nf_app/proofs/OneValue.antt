@@ -1,4 +1,4 @@
--- An option has one value, and a result one value or one fault.
+-- An option has one value.
 use Rattle.std.proofs.Common.{◌≡◌}
 use Rattle.std.specs.Prelude.{Option, Some}
 
