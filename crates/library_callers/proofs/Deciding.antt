@@ -41,12 +41,3 @@ by_slope net flow tail true sink grows says =
 by_slope net flow tail false sink grows says = λ carries.
     let slope = number_at tail.slopes net.sink in
     not_both_ℚ 1ℚ slope (lt_of_test slope 1ℚ (sym says)) (≤ℚ_of_same slope 1ℚ (grows.least_cut.settles.1 carries))
-
--- one side of a test
-pub if_true : (test : Bool) (P N : Type 0) → MatchBool test P N → test ≡ true → P
-if_true true P N h e = h
-if_true false P N h e = absurd (cc)
-
-pub if_false : (test : Bool) (P N : Type 0) → MatchBool test P N → test ≡ false → N
-if_false true P N h e = absurd (cc)
-if_false false P N h e = h

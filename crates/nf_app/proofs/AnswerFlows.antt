@@ -16,9 +16,9 @@ use Rattle.nf_forever_def.specs.ForeverRun.{Forever}
 use Rattle.nf_forever_def.specs.Extended.{flow_until}
 use Rattle.nf_app_words.specs.Requests.{Request, Solve, SolveForever, Show, Load, Check, Quick, Gen, Settle, Resume, Routes}
 use Rattle.nf_app_answers.specs.Answers.{ProgramAnswer, Solved, SolvedForever, Shown, Loaded, Checked, Quickest, TooManyWalks, Generated, Settled, Distributed, MalformedLoads, MalformedFlows, MalformedRoutes, MalformedReport, Passes, Unbounded, NotThin, Earlier}
+use Rattle.nf_frac_def.proofs.Exact.{same_value}
 use Rattle.nf_app.specs.Results.{IsResultOf}
 use Rattle.nf_app.specs.AnswerFlows.{FlowFact, OfForever, OfYes, OfEachFlow}
-use Rattle.nf_app.proofs.OneValue.{same_ok}
 
 pub each_some : {A : Type 0} (P Q : A → Type 0) (o : Option A) → ((x : A) → P x → Q x) → IfSome o P → IfSome o Q
 each_some P Q None f h = tt
@@ -37,7 +37,7 @@ module _ (Holds : FlowFact) (of_equilibrium : (net : Network) (flow : Flow) → 
   of_yes : (n : Named) (text : List ℕ) (report : Report) (verdict : Verdict ℕ ℕ ℚ) → IsNetwork n.net → report_in n text ≡ Ok report
       → IsExact n.net report.flow verdict → OfYes Holds n text verdict
   of_yes n text report Yes good reads exact = λ other is.
-      subst (λ (r : Report). Holds n.net r.flow) (same_ok (report_in n text) report other reads is) (of_equilibrium n.net report.flow good exact)
+      subst (λ (r : Report). Holds n.net r.flow) (same_value (report_in n text) report other reads is) (of_equilibrium n.net report.flow good exact)
   of_yes n text report (No rule subject time left right) good reads exact = tt
 
   module _ (n : Named) (text : List ℕ) (good : IsNetwork n.net) (answer : ProgramAnswer) where

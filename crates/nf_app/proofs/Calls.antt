@@ -19,6 +19,7 @@ use Rattle.nf_app_files.specs.Sinks.{Took, TookAll, TookText}
 use Rattle.nf_app_files.specs.Shown.{IsShown}
 use Rattle.nf_app_files.proofs.Networks.{all_reached}
 use Rattle.nf_app_words.specs.Requests.{Request, request_of}
+use Rattle.nf_report_pages.proofs.Gathering.{nothing_more}
 use Rattle.nf_app.specs.Requests.{files_of, generated_by, OtherIsText}
 use Rattle.nf_app.specs.Results.{IsResultOf}
 use Rattle.nf_app.specs.Runs.{Call, FetchedUpTo, HasNetwork, IsRefusedCall, MayAnswer}
@@ -151,10 +152,6 @@ no_text (Refusal.Passes at) = refl
 no_text Refusal.Unbounded = refl
 no_text Refusal.NotThin = refl
 no_text Refusal.Earlier = refl
-
-nothing_more : (took : Option (List ℕ)) → took ≡ with_more took []
-nothing_more None = refl
-nothing_more (Some bytes) = ap Some (sym (append-nil bytes))
 
 pub took_no_text : (took : Option (List ℕ)) (refusal : Refusal) → took ≡ with_more took (out_text (answer_of refusal))
 took_no_text took refusal = nothing_more took ∙ ap (λ (text : List ℕ). with_more took text) (sym (no_text refusal))

@@ -5,6 +5,7 @@ use Rattle.std.proofs.lemmas.Option.{same_Some}
 use Rattle.std.proofs.lemmas.List.{append_cancel_left}
 use Rattle.nf_rational.specs.Rational.{ℚ}
 use Rattle.nf_frac_def.specs.Passing.{passes_Q}
+use Rattle.nf_frac_def.proofs.Exact.{same_value}
 use Rattle.nf_edge.specs.Taken.{with_more}
 use Rattle.nf_text_def.specs.Words.{line_of_words}
 use Rattle.nf_model.specs.Equilibrium.{Equilibrium}
@@ -25,6 +26,7 @@ use Rattle.nf_app_files.specs.Fetching.{NetworkReads}
 use Rattle.nf_app_files.specs.Sinks.{TookAll}
 use Rattle.nf_app_files.specs.Shown.{IsShown, IsShownWhole}
 use Rattle.nf_app_words.specs.Requests.{Request, Solve, Check, Resume, request_of}
+use Rattle.nf_rational_laws.proofs.Results.{Ok_not_Err}
 use Rattle.nf_app.specs.Requests.{files_of, generated_by, budgets_of, bounds_to}
 use Rattle.nf_app.specs.FullAnswers.{SolveAnswer}
 use Rattle.nf_app.specs.Results.{IsResultOf}
@@ -37,7 +39,6 @@ use Rattle.nf_app.proofs.ToldRequests.{Answers, told_answers}
 use Rattle.nf_app.proofs.Solving.{no_stop}
 use Rattle.nf_app.proofs.Resuming.{writes_report_of_one_run}
 use Rattle.nf_app.proofs.Only.{whole}
-use Rattle.nf_app.proofs.OneValue.{same_ok, ok_err}
 
 is_ok_so : {A E : Type 0} (r : Result A E) (x : A) → r ≡ Ok x → IsOk r
 is_ok_so r x e = ap is_ok e
@@ -147,7 +148,7 @@ module _ (shelf : Visit) (file text : List ℕ) (s : WroteReport shelf file text
   written_of : (bytes : List ℕ) (m : Named) → shelf.told file ≡ Some bytes → Reads bytes (Ok m) → Written m text bounds s.run.status
   written_of bytes m told read =
       let here : Result Named Broken = Ok computed.net in
-      let same : computed.net ≡ m = same_ok here computed.net m refl (reads_at_most_once bytes here (Ok m) (reads bytes told) read) in
+      let same : computed.net ≡ m = same_value here computed.net m refl (reads_at_most_once bytes here (Ok m) (reads bytes told) read) in
       subst (λ (x : Named). Written x text bounds s.run.status) same written
 
 -- ---- `check`
@@ -176,9 +177,9 @@ module _ (run : Run) (c : ChecksSolved run.call) where
 
   yes_given : (answer : ProgramAnswer) → IsResultOf n c.report.text (Check c.file c.report_name) answer → (answer ≡ Checked n Yes) ⊎ (status_of answer ≡ Status.Passed)
   yes_given answer (inl g) =
-      let same : g.report ≡ wrote.report = same_ok (report_in n c.report.text) g.report wrote.report g.read.reads wrote.reads_back in
+      let same : g.report ≡ wrote.report = same_value (report_in n c.report.text) g.report wrote.report g.read.reads wrote.reads_back in
       inl (g.is ∙ ap (Checked n) (is_yes g.verdict (subst (λ (r : Report). IsExact n.net r.flow g.verdict) same g.exact)))
-  yes_given answer (inr (inl g)) = absurd (ok_err (report_in n c.report.text) wrote.report g.0 wrote.reads_back g.2.breaks)
+  yes_given answer (inr (inl g)) = absurd (Ok_not_Err (report_in n c.report.text) wrote.report g.0 wrote.reads_back g.2.breaks)
   yes_given answer (inr (inr g)) = inr (ap status_of g.1)
 
   abbrev Says : Type 0

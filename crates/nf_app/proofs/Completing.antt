@@ -4,8 +4,10 @@ use Rattle.std.specs.Prelude.{Option, Some, None, IsSome, Ok, Err}
 use Rattle.nf_rational.specs.Rational.{ℚ}
 use Rattle.nf_rational.specs.Order.{◌≤ℚ◌}
 use Rattle.nf_rational_laws.proofs.Order.{not_both_ℚ}
+use Rattle.nf_rational_laws.proofs.Results.{IsOk-not_Err, Ok_not_Err}
 use Rattle.nf_frac_def.specs.Passing.{passes_Q}
 use Rattle.nf_frac_def.specs.declared.PassedAt.{PassedAt}
+use Rattle.nf_frac_def.proofs.Exact.{same_value}
 use Rattle.nf_model.specs.Network.{IsNetwork}
 use Rattle.nf_model.specs.Equilibrium.{Equilibrium}
 use Rattle.nf_net_def.specs.declared.Cause.{Cause}
@@ -35,7 +37,6 @@ use Rattle.nf_app.specs.Told.{second_bytes}
 use Rattle.nf_app.specs.Completeness.{endings, ToldRequest, endings_of, EndsWell, IsComplete}
 use Rattle.nf_app.proofs.Only.{whole}
 use Rattle.nf_app.proofs.ToldRequests.{Answers, told_answers}
-use Rattle.nf_app.proofs.OneValue.{same_ok, ok_err, ok_not_err}
 
 -- ---- by the stop of a run, or the verdict
 abbrev RunEnds : List Status → List Status
@@ -70,7 +71,7 @@ along ends answer other e h = subst (λ (a : ProgramAnswer). IsOneOf (status_of 
 -- ---- the commands
 module _ (n : Named) (text : List ℕ) (good : IsNetwork n.net) (answer : ProgramAnswer) where
   routes_once : (read : List NamedRoute) (broken : RoutesBroken) → ReadsRoutes n text (Ok read) → ReadsRoutes n text (Err broken) → ⊥
-  routes_once read broken h k = ok_err (routes_in n text) read broken (only_reading n text (Ok read) h) (only_reading n text (Err broken) k)
+  routes_once read broken h k = Ok_not_Err (routes_in n text) read broken (only_reading n text (Ok read) h) (only_reading n text (Err broken) k)
 
   all_end : (request : Request) → (endings n text request).second_reads → IsResultOf n text request answer → IsOneOf (status_of answer) (Status.Memory ∷ (endings n text request).may)
   all_end (Solve file horizon phases patterns) reads g = along (RunEnds []) answer _ g.is
@@ -79,10 +80,10 @@ module _ (n : Named) (text : List ℕ) (good : IsNetwork n.net) (answer : Progra
       (forever_ends g.forever.stop (never_forever passes_Q n.net phases patterns g.forever good g.run))
   all_end (Show file) reads g = inr (inl (ap status_of g.is))
   all_end (Load file loads horizon) reads (inl g) = inr (inl (ap status_of g.is))
-  all_end (Load file loads horizon) reads (inr (inl g)) = absurd (ok_not_err (loads_in n text) g.0 reads g.2)
+  all_end (Load file loads horizon) reads (inr (inl g)) = absurd (IsOk-not_Err (loads_in n text) g.0 reads g.2)
   all_end (Load file loads horizon) reads (inr (inr g)) = inr (inr (inl (ap status_of g.1)))
   all_end (Check file report) reads (inl g) = along (Status.Memory ∷ Status.Ok ∷ Status.NotEquilibrium ∷ Status.Passed ∷ []) answer _ g.is (verdict_ends (Status.Passed ∷ []) g.verdict)
-  all_end (Check file report) reads (inr (inl g)) = absurd (ok_not_err (report_in n text) g.0 reads g.2.breaks)
+  all_end (Check file report) reads (inr (inl g)) = absurd (IsOk-not_Err (report_in n text) g.0 reads g.2.breaks)
   all_end (Check file report) reads (inr (inr g)) = inr (inr (inr (inl (ap status_of g.1))))
   all_end (Quick file amount augments) reads (inl g) = inr (inl (ap status_of g.is))
   all_end (Quick file amount augments) reads (inr (inl g)) = inr (inr (inl (ap status_of g.1)))
@@ -91,13 +92,13 @@ module _ (n : Named) (text : List ℕ) (good : IsNetwork n.net) (answer : Progra
   all_end (Gen number rungs horizon phases patterns) reads g = along (RunEnds []) answer _ g.is
       (run_ends [] g.report.stop (never_report passes_Q n.net (bounds_to horizon phases patterns) g.report good g.solution.run))
   all_end (Settle file flows) reads (inl g) = inr (inl (ap status_of g.is))
-  all_end (Settle file flows) reads (inr (inl g)) = absurd (ok_not_err (flows_in n text) g.0 reads g.2)
+  all_end (Settle file flows) reads (inr (inl g)) = absurd (IsOk-not_Err (flows_in n text) g.0 reads g.2)
   all_end (Settle file flows) reads (inr (inr (inl g))) = inr (inr (inr (inl (ap status_of g.1))))
   all_end (Settle file flows) reads (inr (inr (inr g))) = inr (inr (inl (ap status_of g.0)))
   all_end (Resume file report horizon phases patterns) reads (inl g) = along (RunEnds (Status.NotEquilibrium ∷ Status.Earlier ∷ [])) answer _ g.is
       (run_ends (Status.NotEquilibrium ∷ Status.Earlier ∷ []) g.new.stop
       (never_resumed passes_Q n.net (bounds_to horizon phases patterns) g.old g.made g.new good g.read.well_formed g.resumed))
-  all_end (Resume file report horizon phases patterns) reads (inr (inl g)) = absurd (ok_not_err (report_in n text) g.0 reads g.2.breaks)
+  all_end (Resume file report horizon phases patterns) reads (inr (inl g)) = absurd (IsOk-not_Err (report_in n text) g.0 reads g.2.breaks)
   all_end (Resume file report horizon phases patterns) reads (inr (inr (inl g))) = inr (inr (inr (inr (inl (ap status_of g.1)))))
   all_end (Resume file report horizon phases patterns) reads (inr (inr (inr (inl g)))) = inr (inr (inr (inr (inr (inr (inl (ap status_of g.0)))))))
   all_end (Resume file report horizon phases patterns) reads (inr (inr (inr (inr g)))) =
@@ -125,10 +126,10 @@ module _ (n : Named) (text : List ℕ) (good : IsNetwork n.net) (answer : Progra
       inr (inl (ap status_of g.is ∙ ap status_of_forever (g.tail.0 (subst (λ (f : Forever). IsSome f.tail) same can.has_tail))))
   best_end (Show file) reads can g = inr (inl (ap status_of g.is))
   best_end (Load file loads horizon) reads can (inl g) = inr (inl (ap status_of g.is))
-  best_end (Load file loads horizon) reads can (inr (inl g)) = absurd (ok_not_err (loads_in n text) g.0 reads g.2)
+  best_end (Load file loads horizon) reads can (inr (inl g)) = absurd (IsOk-not_Err (loads_in n text) g.0 reads g.2)
   best_end (Load file loads horizon) reads can (inr (inr g)) = absurd (can g.0 g.2)
   best_end (Check file report) reads can (inl g) = along (Status.Memory ∷ Status.Ok ∷ Status.NotEquilibrium ∷ []) answer _ g.is (verdict_ends [] g.verdict)
-  best_end (Check file report) reads can (inr (inl g)) = absurd (ok_not_err (report_in n text) g.0 reads g.2.breaks)
+  best_end (Check file report) reads can (inr (inl g)) = absurd (IsOk-not_Err (report_in n text) g.0 reads g.2.breaks)
   best_end (Check file report) reads can (inr (inr g)) = absurd (can g.0 g.2)
   best_end (Quick file amount augments) reads can (inl g) = inr (inl (ap status_of g.is))
   best_end (Quick file amount augments) reads can (inr (inl g)) = inr (inr (inl (ap status_of g.1)))
@@ -138,23 +139,23 @@ module _ (n : Named) (text : List ℕ) (good : IsNetwork n.net) (answer : Progra
       let same : g.report ≡ can.report = one_report passes_Q n.net (bounds_to horizon phases patterns) g.report can.report g.solution.run can.is_report in
       inr (inl (ap status_of g.is ∙ ap (λ (r : Report). status_of_stop r.stop) same ∙ ap status_of_stop can.no_stop))
   best_end (Settle file flows) reads can (inl g) = inr (inl (ap status_of g.is))
-  best_end (Settle file flows) reads can (inr (inl g)) = absurd (ok_not_err (flows_in n text) g.0 reads g.2)
+  best_end (Settle file flows) reads can (inr (inl g)) = absurd (IsOk-not_Err (flows_in n text) g.0 reads g.2)
   best_end (Settle file flows) reads can (inr (inr (inl g))) = absurd (can g.0 g.2)
   best_end (Settle file flows) reads can (inr (inr (inr g))) = inr (inr (inl (ap status_of g.0)))
   best_end (Resume file report horizon phases patterns) reads can (inl g) =
-      let old : g.old ≡ can.old = same_ok (report_in n text) g.old can.old g.read.reads can.reads in
+      let old : g.old ≡ can.old = same_value (report_in n text) g.old can.old g.read.reads can.reads in
       let resumed : IsResumedReport passes_Q n.net (bounds_to horizon phases patterns) can.old g.made g.new =
       subst (λ (r : Report). IsResumedReport passes_Q n.net (bounds_to horizon phases patterns) r g.made g.new) old g.resumed in
       along (Status.Memory ∷ Status.Ok ∷ Status.Phases ∷ Status.Patterns ∷ []) answer _ g.is (rest_ends g.new.stop
       (never_resumed passes_Q n.net (bounds_to horizon phases patterns) g.old g.made g.new good g.read.well_formed g.resumed)
       (λ phase place at e. can.never_passes g.new g.made phase place at resumed e))
-  best_end (Resume file report horizon phases patterns) reads can (inr (inl g)) = absurd (ok_not_err (report_in n text) g.0 reads g.2.breaks)
+  best_end (Resume file report horizon phases patterns) reads can (inr (inl g)) = absurd (IsOk-not_Err (report_in n text) g.0 reads g.2.breaks)
   best_end (Resume file report horizon phases patterns) reads can (inr (inr (inl g))) = absurd (can.fits g.0 g.2)
   best_end (Resume file report horizon phases patterns) reads can (inr (inr (inr (inl g)))) =
-      let old : can.old ≡ g.1.old = same_ok (report_in n text) can.old g.1.old can.reads g.1.read.reads in
+      let old : can.old ≡ g.1.old = same_value (report_in n text) can.old g.1.old can.reads g.1.read.reads in
       absurd (not_both_ℚ _ _ g.1.earlier (subst (λ (r : Report). r.flow.reached ≤ℚ horizon) old can.not_earlier))
   best_end (Resume file report horizon phases patterns) reads can (inr (inr (inr (inr g)))) =
-      let old : can.old ≡ g.2.old = same_ok (report_in n text) can.old g.2.old can.reads g.2.read.reads in
+      let old : can.old ≡ g.2.old = same_value (report_in n text) can.old g.2.old can.reads g.2.read.reads in
       absurd (g.2.refused.none (subst (λ (r : Report). Equilibrium n.net r.flow) old can.equilibrium))
   best_end (Routes file routes horizon) reads can (inl g) = inr (inl (ap status_of g.is))
   best_end (Routes file routes horizon) reads can (inr (inl g)) = absurd (routes_once reads.0 g.0 reads.1 g.2)

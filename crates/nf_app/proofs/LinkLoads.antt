@@ -1,21 +1,14 @@
 -- The links of a network with their pieces, one after the other.
 use Rattle.std.proofs.Common.{◌≡◌, ℕ, zero, suc, ◌+◌, List, [], ◌∷◌, length, drop, refl, ap, add-one, arith}
-use Rattle.std.specs.Prelude.{Option, Some, None, Result, Ok, Err, slice_get, zip}
-use Rattle.nf_frac_def.proofs.Each.{with_front}
+use Rattle.std.specs.Prelude.{Some, slice_get, zip}
 use Rattle.nf_model.specs.Network.{Link, Piece}
 use Rattle.nf_report_def.specs.LoadsFile.{pieces_at}
+use Rattle.nf_rational_laws.proofs.Results.{Some_not_None}
 use Rattle.nf_app.proofs.OneValue.{same_some}
-
-pub no_front : {B E : Type 0} (r : Result (List B) E) → with_front [] r ≡ r
-no_front (Ok ys) = refl
-no_front (Err p) = refl
-
-some_none : {A : Type 0} (o : Option A) (x : A) → o ≡ Some x → o ≡ None → ⊥
-some_none o x h k = cc
 
 zip_suc : (links : List Link) (pieces : List (List Piece)) (e : ℕ) (link : Link) → length pieces ≡ length links → slice_get links e ≡ Some link
     → drop e (zip links pieces) ≡ (link, pieces_at pieces e) ∷ drop (suc e) (zip links pieces)
-zip_suc [] pieces e link many is = absurd (some_none (slice_get [] e) link is refl)
+zip_suc [] pieces e link many is = absurd (Some_not_None (slice_get [] e) link is refl)
 zip_suc (l ∷ links) [] e link many is = absurd (omega arith)
 zip_suc (l ∷ links) (p ∷ pieces) zero link many is = let same : l ≡ link = same_some (Some l) l link refl is in ap (λ (k : Link). (k, p) ∷ zip links pieces) same
 zip_suc (l ∷ links) (p ∷ pieces) (suc e) link many is = zip_suc links pieces e link (omega arith) is

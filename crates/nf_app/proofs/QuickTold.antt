@@ -8,6 +8,7 @@ use Rattle.nf_rational.specs.Rational.{ℚ}
 use Rattle.nf_rational.specs.Operations.{0ℚ}
 use Rattle.nf_rational.specs.Order.{◌≤ℚ◌}
 use Rattle.nf_rational_laws.proofs.Chains.{≤ℚ_refl}
+use Rattle.nf_rational_laws.proofs.Entries.{last-append}
 use Rattle.nf_frac_def.specs.Passing.{passes_Q}
 use Rattle.nf_frac_def.specs.declared.PassedAt.{PassedAt}
 use Rattle.nf_model.specs.Curve.{Point, Within, value, IsCurve}
@@ -42,10 +43,6 @@ use Rattle.nf_app.specs.Lists.{flow_list, departs_list}
 use Rattle.nf_app.specs.Arrivals.{arrival_of, ArrivesIn, IsArrivalOf}
 
 -- ---- the last point of a curve
-last_end : {A : Type 0} (d : Option A) (front : List A) (p : A) → last_or d (front ++ p ∷ []) ≡ Some p
-last_end d [] p = refl
-last_end d (x ∷ front) p = last_end (Some x) front p
-
 last_split : {A : Type 0} (points : List A) (p : A) → slice_get points (length points - 1) ≡ Some p → (front : List A) × (points ≡ front ++ p ∷ [])
 last_split [] p e = absurd (cc)
 last_split {A} (x ∷ []) p e = let same : x ≡ p = cc in ([], ap (λ (z : A). z ∷ []) same)
@@ -61,7 +58,7 @@ last_split {A} (x ∷ y ∷ rest) p e =
 pub value_at_end : (points : List Point) (p : Point) (time : ℚ) → IsCurve points → slice_get points (length points - 1) ≡ Some p → end_of points ≡ time → value points time ≡ p.1
 value_at_end points p time curve is ends =
     let h = last_split points p is in
-    let last : last_or None points ≡ Some p = ap (λ (l : List Point). last_or None l) h.1 ∙ last_end None h.0 p in
+    let last : last_or None points ≡ Some p = ap (λ (l : List Point). last_or None l) h.1 ∙ last-append None h.0 p in
     let at : p.0 ≡ time = sym (ap (λ (o : Option Point). option_map_or (λ point. point.0) o 0ℚ) last) ∙ ends in
     EndsAt-value points p time (record { front = h.0; same = h.1; curve = curve }) (subst (λ (t : ℚ). p.0 ≤ℚ t) at (≤ℚ_refl p.0))
 

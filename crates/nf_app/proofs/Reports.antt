@@ -9,8 +9,8 @@ use Rattle.nf_report_laws.specs.Readable.{IsReadable}
 use Rattle.nf_report_laws.proofs.ReportBack.{report_back}
 use Rattle.nf_report_laws.proofs.ReportFit.{fit}
 use Rattle.nf_report_laws.proofs.ReportKept.{report_kept}
+use Rattle.nf_rational_laws.proofs.Results.{Ok_not_Err}
 use Rattle.nf_app.specs.Reports.{IsReportText, IsNoReportText}
-use Rattle.nf_app.proofs.OneValue.{ok_err}
 
 module _ (n : Named) (named : IsNamed n) (text : List ℕ) where
   pub a_report : (report : Report) → report_in n text ≡ Ok report → IsReportText n text report
@@ -21,4 +21,4 @@ module _ (n : Named) (named : IsNamed n) (text : List ℕ) where
     where
       no_text : (report : Report) → IsWellFormed n.net report → IsReadable report → text ≢ report_text n report
       no_text report formed readable is =
-          ok_err (report_in n text) report broken (ap (λ (t : List ℕ). report_in n t) is ∙ report_back n report named (fit n report named formed readable)) e
+          Ok_not_Err (report_in n text) report broken (ap (λ (t : List ℕ). report_in n t) is ∙ report_back n report named (fit n report named formed readable)) e

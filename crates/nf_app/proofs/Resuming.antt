@@ -3,6 +3,7 @@ use Rattle.std.proofs.Common.{◌≡◌, ℕ, List, refl, sym, ap, subst, ◌∙
 use Rattle.std.specs.Prelude.{None}
 use Rattle.nf_rational.specs.Rational.{ℚ}
 use Rattle.nf_frac_def.specs.Passing.{passes_Q}
+use Rattle.nf_frac_def.proofs.Exact.{same_value}
 use Rattle.nf_model.specs.Network.{IsNetwork}
 use Rattle.nf_model.specs.Equilibrium.{Equilibrium}
 use Rattle.nf_net_def.specs.Named.{Named}
@@ -25,13 +26,12 @@ use Rattle.nf_app.specs.Told.{second_bytes}
 use Rattle.nf_app.specs.Resumption.{AsksToResumeRun, WritesReportOfOneRun, ReportIsOfOneRun, AnswerIsOfOneRun, ComputesReportOfOneRun}
 use Rattle.nf_app.proofs.ToldRequests.{Answers, told_answers}
 use Rattle.nf_app.proofs.Solving.{no_stop}
-use Rattle.nf_app.proofs.OneValue.{same_ok}
 
 -- ---- the report that was read in this call
 module _ (n : Named) (text : List ℕ) (horizon : ℚ) (phases patterns : ℕ) (good : IsNetwork n.net) where
   one_run : (answer : ProgramAnswer) (g : ResumeAnswer n text (bounds_to horizon phases patterns) answer) → ReportIsOfOneRun n text (bounds_to horizon phases patterns) g.new
   one_run answer g r ended =
-      let same : g.old ≡ r.old = same_ok (report_in n text) g.old r.old g.read.reads r.reads in
+      let same : g.old ≡ r.old = same_value (report_in n text) g.old r.old g.read.reads r.reads in
       let on : IsResumedReport passes_Q n.net (bounds_to horizon phases patterns) r.old g.made g.new =
       subst (λ (o : Report). IsResumedReport passes_Q n.net (bounds_to horizon phases patterns) o g.made g.new) same g.resumed in
       resumed-solved passes_Q n.net good r.first_bounds (bounds_of horizon r.later_budgets) (bounds_to horizon phases patterns) r.old r.later.report g.new g.made
@@ -101,7 +101,7 @@ module _ (run : Run) (r : AsksToResumeRun run.call) where
   whole_text answer good (inr (inr (inl g))) e = absurd (ok_passed (status_of answer) (ap status_of g.1) e)
   whole_text answer good (inr (inr (inr (inl g)))) e = absurd (ok_earlier (status_of answer) (ap status_of g.0) e)
   whole_text answer good (inr (inr (inr (inr g)))) e =
-      let same : r.resumes.old ≡ g.2.old = same_ok (report_in n text) r.resumes.old g.2.old r.resumes.reads g.2.read.reads in
+      let same : r.resumes.old ≡ g.2.old = same_value (report_in n text) r.resumes.old g.2.old r.resumes.reads g.2.read.reads in
       absurd (g.2.refused.none (subst (λ (old : Report). Equilibrium n.net old.flow) same (report_equilibrium passes_Q n.net good r.resumes.first_bounds r.resumes.old r.resumes.first)))
 
   by_answer : (answer : ProgramAnswer) → status_of answer ≡ Status.Ok → Answers run.call r.told answer → HasWritten answer

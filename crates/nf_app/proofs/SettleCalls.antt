@@ -1,6 +1,6 @@
 -- What settling at departure 0 answers, from what its calls answer.
-use Rattle.std.proofs.Common.{◌≡◌, List, Bool, true, false, refl, sym, ap, subst, ◌∙◌}
-use Rattle.std.specs.Prelude.{Some, None, Result, Ok, Err, IsOk, is_ok, MatchBool}
+use Rattle.std.proofs.Common.{◌≡◌, List, refl, sym, ap, subst, ◌∙◌}
+use Rattle.std.specs.Prelude.{Some, None, Result, Ok, Err, IsOk, is_ok}
 use Rattle.nf_rational.specs.Rational.{ℚ}
 use Rattle.nf_rational.specs.Operations.{0ℚ}
 use Rattle.nf_rational.specs.Order.{◌≤ℚ◌}
@@ -28,24 +28,16 @@ use Rattle.nf_complete_laws.specs.SettleLaws.{AreGoodSets}
 use Rattle.nf_complete.specs.FitSets.{AreFitSets}
 use Rattle.nf_complete.specs.declared.settled.Settled.{Settled}
 use Rattle.nf_complete.specs.Settling.{SettlesTo}
+use Rattle.nf_rational_laws.proofs.Results.{one_Err, Ok_not_Err}
 use Rattle.nf_app.specs.Settling.{SlacksFit, TestFits, AreThin, PassesFirst, at_slack, at_test, at_settling}
 use Rattle.nf_app.specs.SettlingSteps.{AreStartSets, SettlesAtStart}
 use Rattle.nf_app.proofs.Starting.{start_sets_good, start_source, start_rate}
-use Rattle.nf_app.proofs.OneValue.{same_err, ok_err}
 
 -- ---- what a test says
-pub some_of : (test : Bool) (P N : Type 0) → MatchBool test P N → test ≡ true → P
-some_of true P N h e = h
-some_of false P N h e = let never : ⊥ = cc in absurd never
-
-pub none_of : (test : Bool) (P N : Type 0) → MatchBool test P N → test ≡ false → N
-none_of true P N h e = let never : ⊥ = cc in absurd never
-none_of false P N h e = h
-
 -- an operation that passes in a part
 passed_in : {A : Type 0} (part : Part) (r : Result A (Passed ℚ)) (at : PassedAt ℚ) → at_part part r ≡ Err at → (p : Passed ℚ) × (r ≡ Err p) × (placed part p ≡ at)
-passed_in part (Ok x) at e = absurd (ok_err (Ok x) x at refl e)
-passed_in part (Err p) at e = (p, refl, same_err (Err (placed part p)) (placed part p) at refl e)
+passed_in part (Ok x) at e = absurd (Ok_not_Err (Ok x) x at refl e)
+passed_in part (Err p) at e = (p, refl, one_Err (Err (placed part p)) (placed part p) at refl e)
 
 -- ---- the slacks, of the hops and labels that the call was given
 module _ (net : Network) (labels : List ℚ) (are : AreStartLabels net labels) (hops_now : List Hop) (labels_now : List ℚ) (hops_are : hops_now ≡ hops net)

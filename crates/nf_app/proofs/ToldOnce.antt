@@ -6,11 +6,13 @@ use Rattle.nf_rational.specs.Rational.{ℚ}
 use Rattle.nf_rational.specs.Operations.{0ℚ}
 use Rattle.nf_rational.specs.Order.{◌<ℚ◌}
 use Rattle.nf_rational_laws.proofs.Order.{<ℚ_irrefl, not_both_ℚ}
+use Rattle.nf_rational_laws.proofs.Results.{IsOk-not_Err, one_Err, Ok_not_Err}
 use Rattle.nf_frac_def.specs.Passing.{passes_Q}
 use Rattle.nf_frac_def.specs.Checked.{placed}
 use Rattle.nf_frac_def.specs.declared.Part.TheVariants.{Slack, Verdict}
 use Rattle.nf_frac_def.specs.declared.Passed.{Passed}
 use Rattle.nf_frac_def.specs.declared.PassedAt.{PassedAt}
+use Rattle.nf_frac_def.proofs.Exact.{same_value}
 use Rattle.nf_model.specs.Network.{Network, IsNetwork, hops, rate_at}
 use Rattle.nf_model.specs.Equilibrium.{label}
 use Rattle.nf_model.specs.ThinFlow.{sets_at}
@@ -55,7 +57,7 @@ use Rattle.nf_app.specs.Told.{Telling, Texts, second_bytes, IsToldText, AreTold,
 use Rattle.nf_app.proofs.Gives.{Arrives, DepartsGive, FlowGives, QuickGives, StartGives, SettleGives, RestGives, ResumeGives, Gives}
 use Rattle.nf_app.proofs.ToldResult.{result_so}
 use Rattle.nf_app.proofs.Starting.{start_sets_good}
-use Rattle.nf_app.proofs.OneValue.{same_some, same_ok, same_err, ok_err, ok_not_err}
+use Rattle.nf_app.proofs.OneValue.{same_some}
 
 -- ---- the arrival beside a quickest flow
 one_arrival : (net : Network) (departs : Option ℚ) (arrival other : Arrival) → Arrives net departs arrival → Arrives net departs other → arrival ≡ other
@@ -107,33 +109,33 @@ module _ (net : Network) where
     one_settled r s h k = one_settling passes_Q net (sets_at net labels) given.slopes given.flows r s good h k
 
     settled_or_passes : (pattern : Pattern) (flows : List ℚ) (at : PassedAt ℚ) → AreSettled net labels given pattern flows → PassesFirst net labels given at → ⊥
-    settled_or_passes pattern flows _ s (at_slack p e) = ok_not_err (slack_list passes_Q (hops net) labels) p s.slacks e
-    settled_or_passes pattern flows _ s (at_test p fit e) = ok_not_err (thin_list passes_Q net (sets_at net labels) (rate_at net 0ℚ) given.flows given.slopes) p s.test e
-    settled_or_passes pattern flows _ s (at_settling p slacks test thin k) = ok_err (Ok flows) flows p refl (one_settled (Ok flows) (Err p) s.computed k)
+    settled_or_passes pattern flows _ s (at_slack p e) = IsOk-not_Err (slack_list passes_Q (hops net) labels) p s.slacks e
+    settled_or_passes pattern flows _ s (at_test p fit e) = IsOk-not_Err (thin_list passes_Q net (sets_at net labels) (rate_at net 0ℚ) given.flows given.slopes) p s.test e
+    settled_or_passes pattern flows _ s (at_settling p slacks test thin k) = Ok_not_Err (Ok flows) flows p refl (one_settled (Ok flows) (Err p) s.computed k)
 
     not_thin_or_passes : (at : PassedAt ℚ) → AreNotThin net labels given → PassesFirst net labels given at → ⊥
-    not_thin_or_passes _ s (at_slack p e) = ok_not_err (slack_list passes_Q (hops net) labels) p s.slacks e
-    not_thin_or_passes _ s (at_test p fit e) = ok_not_err (thin_list passes_Q net (sets_at net labels) (rate_at net 0ℚ) given.flows given.slopes) p s.test e
+    not_thin_or_passes _ s (at_slack p e) = IsOk-not_Err (slack_list passes_Q (hops net) labels) p s.slacks e
+    not_thin_or_passes _ s (at_test p fit e) = IsOk-not_Err (thin_list passes_Q net (sets_at net labels) (rate_at net 0ℚ) given.flows given.slopes) p s.test e
     not_thin_or_passes _ s (at_settling p slacks test thin k) = s.not_thin thin
 
     one_passing : (at other : PassedAt ℚ) → PassesFirst net labels given at → PassesFirst net labels given other → at ≡ other
-    one_passing _ _ (at_slack p e) (at_slack q f) = ap (λ (x : Passed ℚ). placed Slack x) (same_err (slack_list passes_Q (hops net) labels) p q e f)
-    one_passing _ _ (at_slack p e) (at_test q fit f) = absurd (ok_not_err (slack_list passes_Q (hops net) labels) p fit e)
-    one_passing _ _ (at_slack p e) (at_settling q fit test thin k) = absurd (ok_not_err (slack_list passes_Q (hops net) labels) p fit e)
-    one_passing _ _ (at_test p fit e) (at_slack q f) = absurd (ok_not_err (slack_list passes_Q (hops net) labels) q fit f)
+    one_passing _ _ (at_slack p e) (at_slack q f) = ap (λ (x : Passed ℚ). placed Slack x) (one_Err (slack_list passes_Q (hops net) labels) p q e f)
+    one_passing _ _ (at_slack p e) (at_test q fit f) = absurd (IsOk-not_Err (slack_list passes_Q (hops net) labels) p fit e)
+    one_passing _ _ (at_slack p e) (at_settling q fit test thin k) = absurd (IsOk-not_Err (slack_list passes_Q (hops net) labels) p fit e)
+    one_passing _ _ (at_test p fit e) (at_slack q f) = absurd (IsOk-not_Err (slack_list passes_Q (hops net) labels) q fit f)
     one_passing _ _ (at_test p fit e) (at_test q fit' f) =
-        ap (λ (x : Passed ℚ). placed Verdict x) (same_err (thin_list passes_Q net (sets_at net labels) (rate_at net 0ℚ) given.flows given.slopes) p q e f)
+        ap (λ (x : Passed ℚ). placed Verdict x) (one_Err (thin_list passes_Q net (sets_at net labels) (rate_at net 0ℚ) given.flows given.slopes) p q e f)
     one_passing _ _ (at_test p fit e) (at_settling q fit' test thin k) =
-        absurd (ok_not_err (thin_list passes_Q net (sets_at net labels) (rate_at net 0ℚ) given.flows given.slopes) p test e)
-    one_passing _ _ (at_settling p fit test thin k) (at_slack q f) = absurd (ok_not_err (slack_list passes_Q (hops net) labels) q fit f)
+        absurd (IsOk-not_Err (thin_list passes_Q net (sets_at net labels) (rate_at net 0ℚ) given.flows given.slopes) p test e)
+    one_passing _ _ (at_settling p fit test thin k) (at_slack q f) = absurd (IsOk-not_Err (slack_list passes_Q (hops net) labels) q fit f)
     one_passing _ _ (at_settling p fit test thin k) (at_test q fit' f) =
-        absurd (ok_not_err (thin_list passes_Q net (sets_at net labels) (rate_at net 0ℚ) given.flows given.slopes) q test f)
+        absurd (IsOk-not_Err (thin_list passes_Q net (sets_at net labels) (rate_at net 0ℚ) given.flows given.slopes) q test f)
     one_passing _ _ (at_settling p fit test thin k) (at_settling q fit' test' thin' l) =
-        ap (λ (x : Passed ℚ). placed Verdict x) (same_err (Err p) p q refl (one_settled (Err p) (Err q) k l))
+        ap (λ (x : Passed ℚ). placed Verdict x) (one_Err (Err p) p q refl (one_settled (Err p) (Err q) k l))
 
     module _ (are : AreStartLabels net labels) where
       one_flows : (pattern other : Pattern) (flows more : List ℚ) → AreSettled net labels given pattern flows → AreSettled net labels given other more → flows ≡ more
-      one_flows pattern other flows more s t = same_ok (Ok flows) flows more refl (one_settled (Ok flows) (Ok more) s.computed t.computed)
+      one_flows pattern other flows more s t = same_value (Ok flows) flows more refl (one_settled (Ok flows) (Ok more) s.computed t.computed)
 
       one_settled_pattern : (pattern other : Pattern) (flows : List ℚ) → AreSettled net labels given pattern flows → AreSettled net labels given other flows → pattern ≡ other
       one_settled_pattern pattern other flows s t =
@@ -215,18 +217,18 @@ module _ (request : Request) (texts : Texts) where
   one_broken : (broken other : Broken) → NetworkIs (generated_by request) texts.network (Err broken) → NetworkIs (generated_by request) texts.network (Err other) → broken ≡ other
   one_broken broken other h k =
       let read : Result Named Broken = Err broken in
-      same_err read broken other refl (one_network (generated_by request) texts.network read (Err other) h k)
+      one_Err read broken other refl (one_network (generated_by request) texts.network read (Err other) h k)
 
   broken_or_not : (broken : Broken) (n : Named) → NetworkIs (generated_by request) texts.network (Err broken) → NetworkIs (generated_by request) texts.network (Ok n) → ⊥
   broken_or_not broken n h k =
       let read : Result Named Broken = Err broken in
-      ok_err read n broken (one_network (generated_by request) texts.network read (Ok n) h k) refl
+      Ok_not_Err read n broken (one_network (generated_by request) texts.network read (Ok n) h k) refl
 
   one_answered : (n m : Named) (a b : ProgramAnswer) → NetworkIs (generated_by request) texts.network (Ok n) → NetworkIs (generated_by request) texts.network (Ok m)
       → IsResultOf n (second_bytes texts) request a → IsResultOf m (second_bytes texts) request b → a ≡ b
   one_answered n m a b h k g i =
       let read : Result Named Broken = Ok n in
-      let same : n ≡ m = same_ok read n m refl (one_network (generated_by request) texts.network read (Ok m) h k) in
+      let same : n ≡ m = same_value read n m refl (one_network (generated_by request) texts.network read (Ok m) h k) in
       one_result m (second_bytes texts) request (named_in (generated_by request) texts.network m k) a b (subst (λ (x : Named). IsResultOf x (second_bytes texts) request a) same g) i
 
   one_of_texts : (a b : ProgramAnswer) → TextsGive request texts a → TextsGive request texts b → a ≡ b

@@ -1,7 +1,7 @@
 -- What a call answers whose files are known, within their limits and well formed: that of its command; or an allocation failed, or the
 -- shelf.
 use Rattle.std.proofs.Common.{◌≡◌, ◌⊎◌, ℕ, ◌<◌, List, length, refl, sym, subst, ◌∙◌, inl, inr, arith}
-use Rattle.std.specs.Prelude.{Option, Some, None, IfSome, Result, Ok, Err}
+use Rattle.std.specs.Prelude.{Option, Some, IfSome, Result, Ok, Err}
 use Rattle.std.specs.List.{All}
 use Rattle.std.proofs.lemmas.Option.{same_Some}
 use Rattle.nf_edge.specs.Faults.{Rose}
@@ -13,6 +13,8 @@ use Rattle.nf_app_answers.specs.Answers.{ProgramAnswer, Solved, SolvedForever, S
 use Rattle.nf_app_files.specs.Files.{Wanted, FetchedTo, HasTooMany}
 use Rattle.nf_app_files.specs.Fetching.{NetworkReads}
 use Rattle.nf_app_words.specs.Requests.{Request, request_of}
+use Rattle.nf_rational_laws.proofs.Results.{Ok_not_Err, Some_not_None}
+use Rattle.nf_frac_def.proofs.Exact.{same_value}
 use Rattle.nf_app.specs.Requests.{files_of, other_of, generated_by, OtherIsText}
 use Rattle.nf_app.specs.Results.{IsResultOf}
 use Rattle.nf_app.specs.Runs.{Call, Asks, FetchedUpTo, HasNetwork, IsRefusedCall, IsComputed, MayAnswer}
@@ -20,10 +22,6 @@ use Rattle.nf_app.specs.Told.{second_bytes}
 use Rattle.nf_app.specs.Completeness.{ToldRequest}
 use Rattle.nf_app.proofs.Texts.{Holds, all_held, network_so, same_second, result_there, in_the_middle}
 use Rattle.nf_app.proofs.ToldOnce.{one_network}
-use Rattle.nf_app.proofs.OneValue.{same_ok, ok_err}
-
-some_none : {A : Type 0} (o : Option A) (x : A) → o ≡ Some x → o ≡ None → ⊥
-some_none o x h k = cc
 
 module _ (call : Call) (t : ToldRequest call) where
   abbrev pub Failed : Type 0
@@ -63,12 +61,12 @@ module _ (call : Call) (t : ToldRequest call) where
 
   refused : (answer : ProgramAnswer) → IsRefusedCall call answer → Answers answer
   refused NoMemory h = inl refl
-  refused NoRequest h = absurd (some_none (request_of call.words) t.request t.asks h.0)
+  refused NoRequest h = absurd (Some_not_None (request_of call.words) t.request t.asks h.0)
   refused ShelfFailed h = inr (inl (refl, h.2.1))
   refused ShelfTooLong h = inr (inl (refl, too_long_fails h.0 h.1 h.2))
   refused (Malformed broken) h =
       let read : Result Named Broken = Err broken in
-      absurd (ok_err read t.net broken (read_once h.0 read h.1) refl)
+      absurd (Ok_not_Err read t.net broken (read_once h.0 read h.1) refl)
   refused (Solved n report) h = absurd h
   refused (SolvedForever n forever) h = absurd h
   refused (Shown n) h = absurd h
@@ -91,7 +89,7 @@ module _ (call : Call) (t : ToldRequest call) where
   computed : (answer : ProgramAnswer) → IsComputed call answer → IsNamed t.net × IsResultOf t.net (second_bytes t.texts) t.request answer
   computed answer h =
       let read : Result Named Broken = Ok h.net in
-      let same_net : h.net ≡ t.net = same_ok read h.net t.net refl (read_once h.request read h.has_network) in
+      let same_net : h.net ≡ t.net = same_value read h.net t.net refl (read_once h.request read h.has_network) in
       let same_request : h.request ≡ t.request = one_request h.request h.has_network.asks in
       let second : OtherIsText call.shelf t.request h.second = subst (λ (q : Request). OtherIsText call.shelf q h.second) same_request h.is_second in
       let same_text : IfSome (other_of t.request) (λ file. h.second ≡ second_bytes t.texts) = same_second call.shelf (other_of t.request) h.second t.texts.second second t.told.second in

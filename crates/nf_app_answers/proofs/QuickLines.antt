@@ -6,9 +6,9 @@ use Rattle.std.proofs.lemmas.List.{drop_all}
 use Rattle.std.proofs.lemmas.List.FromFn.{length-enumerate_from}
 use Rattle.nf_text_def.specs.Words.{line_of_words}
 use Rattle.nf_thin_laws.proofs.Ending.{enumerated}
-use Rattle.nf_thin_laws.proofs.Numbered.{drop_at}
 use Rattle.nf_report_pages.specs.Written.{after_words}
 use Rattle.nf_report_pages.proofs.Parts.{line_joined, next_part, all_parts}
+use Rattle.nf_rational_laws.proofs.Entries.{drop_entry}
 
 -- a line, in pieces
 pub line_put : (o o1 o2 o3 o4 key number : List ℕ) (words : List (List ℕ)) → o1 ≡ o ++ key → o2 ≡ o1 ++ 32 ∷ number → o3 ≡ o2 ++ after_words words → o4 ≡ o3 ++ 10 ∷ []
@@ -42,7 +42,7 @@ module _ {A : Type 0} (f : A → List ℕ) (xs : List A) where
   part_suc : (i : ℕ) (x : A) (now next all : List ℕ) → slice_get xs i ≡ Some x → now ++ flat_map f (drop i xs) ≡ all → next ≡ now ++ f x → next ++ flat_map f (drop (suc i) xs) ≡ all
   part_suc i x now next all at h k =
       ap (λ (l : List ℕ). l ++ flat_map f (drop (suc i) xs)) k ∙ append_assoc now (f x) (flat_map f (drop (suc i) xs))
-      ∙ ap (λ (l : List A). now ++ flat_map f l) (sym (drop_at xs i x at)) ∙ h
+      ∙ ap (λ (l : List A). now ++ flat_map f l) (sym (drop_entry xs i x at)) ∙ h
 
   pub part_more : (i : ℕ) (x : A) (now next all : List ℕ) → slice_get xs i ≡ Some x → now ++ flat_map f (drop i xs) ≡ all → next ≡ now ++ f x → next ++ flat_map f (drop (i + 1) xs) ≡ all
   part_more i x now next all at h k = ap (λ (n : ℕ). next ++ flat_map f (drop n xs)) (add-one i) ∙ part_suc i x now next all at h k
@@ -54,7 +54,7 @@ module _ {A : Type 0} (f : A → List ℕ) (xs : List A) where
       → next ++ after_words (map f (drop (suc i) xs)) ≡ all
   word_suc i x now next all at h k =
       ap (λ (l : List ℕ). l ++ after_words (map f (drop (suc i) xs))) k ∙ append_assoc now (32 ∷ f x) (after_words (map f (drop (suc i) xs)))
-      ∙ ap (λ (l : List A). now ++ after_words (map f l)) (sym (drop_at xs i x at)) ∙ h
+      ∙ ap (λ (l : List A). now ++ after_words (map f l)) (sym (drop_entry xs i x at)) ∙ h
 
   pub word_more : (i : ℕ) (x : A) (now next all : List ℕ) → slice_get xs i ≡ Some x → now ++ after_words (map f (drop i xs)) ≡ all → next ≡ now ++ 32 ∷ f x
       → next ++ after_words (map f (drop (i + 1) xs)) ≡ all

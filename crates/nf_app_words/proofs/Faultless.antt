@@ -19,6 +19,7 @@ use Rattle.clap.specs.declared.builder.action.ArgAction.TheVariants as action
 use Rattle.clap.specs.declared.error.kind.ErrorKind.{ErrorKind}
 use Rattle.clap.proofs.TakesLemmas.{leaf_takes}
 use Rattle.clap.proofs.FaultLemmas.{leaf_fault}
+use Rattle.nf_rational_laws.proofs.Results.{not_or}
 
 -- ---- tests
 -- neither of two steps fails
@@ -241,10 +242,6 @@ all_given given (a ∷ rest) e =
     let here = one_given a.required (given a) (list_any (λ a. a.required && not (given a)) rest) e in
     and_from _ _ here.0 (all_given given rest here.1)
 
-off : (asked more : Bool) → asked ≡ false → (not asked || more) ≡ true
-off true more e = cc
-off false more e = refl
-
 -- a command without subcommands, without defaults, and without rules of arguments on each other
 pub record IsPlainShape (s : Shape) : Type 0 where
   pub no_help : s.arg_required_else_help ≡ false
@@ -261,7 +258,7 @@ level_goes s h words plain e =
     let second = neither (settle_fault s.rules s.args_override_self end) (or_else (defaults_fault (settled s.rules end).rows s.rules) (check_fault s rows false)) first.second in
     let third = neither (defaults_fault (settled s.rules end).rows s.rules) (check_fault s rows false) second.second in
     let present = all_given (λ a. is_given a.id rows) s.rules (none_missing s.subcommand_negates_reqs _ (no_check _ _ _ third.second)) in
-    let valid = and_from _ _ (off s.arg_required_else_help _ plain.no_help) (and_from _ _ (off s.subcommand_required _ plain.no_need)
+    let valid = and_from _ _ (not_or s.arg_required_else_help _ plain.no_help) (and_from _ _ (not_or s.subcommand_required _ plain.no_need)
     (and_from _ _ plain.free (or_right (s.subcommand_negates_reqs && false) _ present))) in
     and_from _ _ (walk_goes s [] (walk_from h) words first.first) (and_from _ _ (settles s.rules s.args_override_self end second.first) (and_from _ _ plain.defaults valid))
 

@@ -1,8 +1,8 @@
 -- Curves by their numbers.
-use Rattle.std.proofs.Common.{◌≡◌, ◌≢◌, ℕ, ◌+◌, ◌<◌, List, [], ◌∷◌, ◌++◌, take, length, map, get_or, Some, Option, slice_get, unwrap_or, option_map, ⊎_elim, true, false, eqb, refl, sym, ap, subst, ◌∙◌, arith}
+use Rattle.std.proofs.Common.{◌≡◌, ◌≢◌, ℕ, ◌+◌, ◌<◌, List, [], ◌∷◌, ◌++◌, take, length, map, get_or, Some, Option, slice_get, unwrap_or, ⊎_elim, true, false, eqb, refl, sym, ap, subst, ◌∙◌, arith}
 use Rattle.std.proofs.lemmas.Bool.Decides.{eqb_tells}
 use Rattle.std.proofs.lemmas.List.{take_more}
-use Rattle.std.proofs.lemmas.Option.{slice_get_read, slice_get-map, slice_get_within, get_or_from_slice_get}
+use Rattle.std.proofs.lemmas.Option.{slice_get_read, slice_get_within, get_or_from_slice_get}
 use Rattle.nf_model.specs.Curve.{Point, IsCurve}
 use Rattle.nf_model.specs.Equilibrium as model
 use Rattle.nf_model.specs.Equilibrium.{points_at, points_of}
@@ -14,36 +14,34 @@ use Rattle.nf_curve.specs.Flows.{trace_of}
 use Rattle.nf_curve.specs.declared.flow.Trace.{Trace}
 use Rattle.nf_load.specs.Loadings.{loaded_of}
 use Rattle.nf_load.specs.declared.loading.Loaded.{Loaded}
+use Rattle.nf_rational_laws.proofs.Entries.{slice_get-image}
 use Rattle.nf_check_rules.specs.Kept.{curves_of, loadings_of}
-
-pub get_map : {A B : Type 0} (f : A → B) (xs : List A) (k : ℕ) (x : A) → slice_get xs k ≡ Some x → slice_get (map f xs) k ≡ Some (f x)
-get_map {A} {B} f xs k x e = slice_get-map f xs k ∙ ap (option_map f) e
 
 module _ (curves : List Grown) (k : ℕ) (curve : Grown) (is : slice_get curves k ≡ Some curve) where
   pub curve_there : curve.points ≡ points_at (curves_of curves) k
-  curve_there = sym (ap (λ (o : Option (List Point)). unwrap_or o []) (get_map (λ (c : Grown). c.points) curves k curve is))
+  curve_there = sym (ap (λ (o : Option (List Point)). unwrap_or o []) (slice_get-image (λ (c : Grown). c.points) curves k curve is))
 
 -- one more of the first curves
 pub curves_more : (curves : List Grown) (k : ℕ) (curve : Grown) → slice_get curves k ≡ Some curve
     → take (k + 1) (curves_of curves) ≡ take k (curves_of curves) ++ points_at (curves_of curves) k ∷ []
 curves_more curves k curve is =
-    let there : slice_get (curves_of curves) k ≡ Some curve.points = get_map (λ (c : Grown). c.points) curves k curve is in
+    let there : slice_get (curves_of curves) k ≡ Some curve.points = slice_get-image (λ (c : Grown). c.points) curves k curve is in
     take_more (curves_of curves) k [] (slice_get_within (curves_of curves) k curve.points there)
     ∙ ap (λ (x : List Point). take k (curves_of curves) ++ x ∷ []) (get_or_from_slice_get (curves_of curves) k curve.points [] there ∙ curve_there curves k curve is)
 
 module _ (traces : List Trace) (k : ℕ) (trace : Trace) (is : slice_get traces k ≡ Some trace) where
   pub trace_there : slice_get (map trace_of traces) k ≡ Some (trace_of trace)
-  trace_there = get_map trace_of traces k trace is
+  trace_there = slice_get-image trace_of traces k trace is
 
   pub trace_same : trace_of trace ≡ lists_of_check.trace_of (map trace_of traces) k
   trace_same = sym (ap (λ (o : Option model.Trace). unwrap_or o (record { points = []; rates = [] })) trace_there)
 
   pub trace_points : trace.curve.points ≡ points_at (points_of (map trace_of traces)) k
-  trace_points = sym (ap (λ (o : Option (List Point)). unwrap_or o []) (get_map (λ (t : model.Trace). t.points) (map trace_of traces) k (trace_of trace) trace_there))
+  trace_points = sym (ap (λ (o : Option (List Point)). unwrap_or o []) (slice_get-image (λ (t : model.Trace). t.points) (map trace_of traces) k (trace_of trace) trace_there))
 
 module _ (loaded : List Loaded) (k : ℕ) (one : Loaded) (is : slice_get loaded k ≡ Some one) where
   pub loaded_there : loaded_of one ≡ loaded_at (loadings_of loaded) k
-  loaded_there = sym (ap (λ (o : Option lists.Loaded). unwrap_or o (record { queue = []; outflow = []; exit = [] })) (get_map loaded_of loaded k one is))
+  loaded_there = sym (ap (λ (o : Option lists.Loaded). unwrap_or o (record { queue = []; outflow = []; exit = [] })) (slice_get-image loaded_of loaded k one is))
 
 -- ---- one more of the first ones
 one_more : (P : ℕ → Type 0) (i : ℕ) → ((k : ℕ) → k < i → P k) → P i → (k : ℕ) → k < i + 1 → P k

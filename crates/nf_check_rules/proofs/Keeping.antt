@@ -1,5 +1,5 @@
 -- Exits that are kept in short form.
-use Rattle.std.proofs.Common.{◌≡◌, ℕ, zero, suc, List, [], ◌∷◌, length, set, replicate, ◌⊎◌, inl, inr, Option, Some, None, slice_get, refl, sym, ap, subst, ◌∙◌}
+use Rattle.std.proofs.Common.{◌≡◌, ℕ, zero, suc, List, length, set, replicate, ◌⊎◌, inl, inr, Option, Some, None, slice_get, sym, ap, subst, ◌∙◌}
 use Rattle.std.specs.Prelude.{Ok, IfSome}
 use Rattle.std.proofs.lemmas.List.{length-set, length-replicate}
 use Rattle.nf_rational.specs.Rational.{ℚ}
@@ -23,6 +23,7 @@ use Rattle.nf_check_def.specs.declared.Subject.TheVariants.{Link as OfLink}
 use Rattle.nf_check_def.specs.Trial.{in_part, unless}
 use Rattle.nf_curve.specs.Points.{Grown}
 use Rattle.nf_curve.proofs.Exits.{was_ok}
+use Rattle.nf_rational_laws.proofs.Entries.{set_cases}
 use Rattle.nf_check_rules.specs.declared.exits.Exits.{Exits}
 use Rattle.nf_check_rules.specs.declared.worked.Worked.{Worked}
 use Rattle.nf_check_rules.specs.Exits.{AreKept, Keeps, exits_along}
@@ -32,17 +33,6 @@ use Rattle.nf_check_rules.specs.Trials.{of_halt, EndsAs}
 use Rattle.nf_check_rules.proofs.Trying.{ends, part_ends, part_goes}
 
 -- ---- entries of a list of which one was set
-set_cases : {A : Type 0} (xs : List A) (v w : ℕ) (o x : A) → slice_get (set xs v o) w ≡ Some x → ((w ≡ v) × (x ≡ o)) ⊎ (slice_get xs w ≡ Some x)
-set_cases [] v w o x e = inr e
-set_cases (y ∷ xs) zero zero o x e = inl (refl, let same : o ≡ x = cc in sym same)
-set_cases (y ∷ xs) zero (suc w) o x e = inr e
-set_cases (y ∷ xs) (suc v) zero o x e = inr e
-set_cases {A} (y ∷ xs) (suc v) (suc w) o x e = next (set_cases xs v w o x e)
-  where
-    next : ((w ≡ v) × (x ≡ o)) ⊎ (slice_get xs w ≡ Some x) → ((suc w ≡ suc v) × (x ≡ o)) ⊎ (slice_get xs w ≡ Some x)
-    next (inl d) = inl (ap suc d.0, d.1)
-    next (inr d) = inr d
-
 pub same_some : {A : Type 0} (x y : A) → Some x ≡ Some y → x ≡ y
 same_some x y e = cc
 

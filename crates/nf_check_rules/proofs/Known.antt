@@ -1,7 +1,7 @@
 -- What is known of the labels and inflows once the first rules hold.
 use Rattle.std.proofs.Common.{◌≡◌, ℕ, zero, suc, ◌+◌, ◌-◌, ◌<◌, true, List, [], ◌∷◌, length, map, Option, Some, None, slice_get, unwrap_or, refl, sym, ap, subst, ◌∙◌, arith}
 use Rattle.std.proofs.lemmas.List.{length-map}
-use Rattle.std.specs.Prelude.{Result, Ok, Err}
+use Rattle.std.specs.Prelude.{Ok, Err}
 use Rattle.std.specs.List.{AllByRecursion, enumerate_from, range_with_len}
 use Rattle.nf_rational.specs.Rational.{ℚ}
 use Rattle.nf_rational.specs.Operations.{0ℚ}
@@ -30,6 +30,7 @@ use Rattle.nf_curve.specs.Flows.{flow_of, trace_of}
 use Rattle.nf_curve.specs.declared.flow.Flow as code
 use Rattle.nf_load.specs.Loadings.{loaded_of}
 use Rattle.nf_load.specs.declared.loading.Loaded.{Loaded}
+use Rattle.nf_rational_laws.proofs.Results.{same_Ok}
 use Rattle.nf_check_rules.specs.Kept.{IsFromZero, IsWorked, curves_of, loadings_of}
 use Rattle.nf_check_rules.specs.Trials.{done}
 use Rattle.nf_check_rules.proofs.PointByPoint.{all_from_0}
@@ -53,9 +54,6 @@ unless_came : (rule : CheckRule) (subject : Subject ℕ ℕ) (o : Option Sides) 
 unless_came rule subject None x e = refl
 unless_came rule subject (Some sides) x e = absurd (cc)
 
-ok_same : {A E : Type 0} (x y : A) → ◌≡◌ {A = Result A E} (Ok x) (Ok y) → x ≡ y
-ok_same x y e = cc
-
 -- one of some numbers in order
 each_came : {A : Type 0} (f : ℕ → Trial A) (n i k : ℕ) (ys : List A) → each f (range_with_len i n) ≡ Ok ys → k < n → Came (f (i + k))
 each_came f zero i k ys e h = absurd (omega arith)
@@ -75,31 +73,31 @@ each_at f d zero i k ys e h = absurd (omega arith)
 each_at {A} f d (suc n) i zero ys e h =
     let w = both_came (f i) _ ys e in
     let v = both_came (each f (range_with_len (i + 1) n)) _ ys w.next in
-    let is : w.first ∷ v.first ≡ ys = ok_same _ _ v.next in
+    let is : w.first ∷ v.first ≡ ys = same_Ok _ _ v.next in
     let same : i ≡ i + 0 = omega arith in
     subst (λ (j : ℕ). f j ≡ Ok (unwrap_or (slice_get ys 0) d)) same (w.came ∙ ap (λ (l : List A). Ok (unwrap_or (slice_get l 0) d)) is)
 each_at {A} f d (suc n) i (suc k) ys e h =
     let w = both_came (f i) _ ys e in
     let v = both_came (each f (range_with_len (i + 1) n)) _ ys w.next in
-    let is : w.first ∷ v.first ≡ ys = ok_same _ _ v.next in
+    let is : w.first ∷ v.first ≡ ys = same_Ok _ _ v.next in
     let same : (i + 1) + k ≡ i + suc k = omega arith in
     subst (λ (j : ℕ). f j ≡ Ok (unwrap_or (slice_get ys (suc k)) d)) same
     (each_at f d n (i + 1) k v.first v.came (omega arith) ∙ ap (λ (l : List A). Ok (unwrap_or (slice_get l (suc k)) d)) is)
 
 each_many : {A : Type 0} (f : ℕ → Trial A) (n i : ℕ) (ys : List A) → each f (range_with_len i n) ≡ Ok ys → length ys ≡ n
-each_many f zero i ys e = let is : [] ≡ ys = ok_same _ _ e in sym (ap length is)
+each_many f zero i ys e = let is : [] ≡ ys = same_Ok _ _ e in sym (ap length is)
 each_many f (suc n) i ys e =
     let w = both_came (f i) _ ys e in
     let v = both_came (each f (range_with_len (i + 1) n)) _ ys w.next in
-    let is : w.first ∷ v.first ≡ ys = ok_same _ _ v.next in
+    let is : w.first ∷ v.first ≡ ys = same_Ok _ _ v.next in
     sym (ap length is) ∙ ap suc (each_many f n (i + 1) v.first v.came)
 
 links_many : {A X : Type 0} (f : ℕ × X → Trial A) (links : List X) (i : ℕ) (ys : List A) → each f (enumerate_from i links) ≡ Ok ys → length ys ≡ length links
-links_many f [] i ys e = let is : [] ≡ ys = ok_same _ _ e in sym (ap length is)
+links_many f [] i ys e = let is : [] ≡ ys = same_Ok _ _ e in sym (ap length is)
 links_many f (x ∷ links) i ys e =
     let w = both_came (f (i, x)) _ ys e in
     let v = both_came (each f (enumerate_from (i + 1) links)) _ ys w.next in
-    let is : w.first ∷ v.first ≡ ys = ok_same _ _ v.next in
+    let is : w.first ∷ v.first ≡ ys = same_Ok _ _ v.next in
     sym (ap length is) ∙ ap suc (links_many f links (i + 1) v.first v.came)
 
 from_0 : (k : ℕ) → 0 + k ≡ k
@@ -114,7 +112,7 @@ module _ (passes : Passing) (net : Network) (flow : Flow) (given : CanBeChecked 
       let none : negative_point w.first ≡ None = unless_came C1 (Node v) (negative_point w.first) u.first u.came in
       let exact : w.first ≡ cut_of net flow given v = checked_cut-exact passes (points_at flow.labels v) flow.reached w.first
       (given.shape.labels.each v h) given.reached (part_came _ w.first w.came) in
-      let is : w.first ≡ cut = ok_same _ _ u.next in
+      let is : w.first ≡ cut = same_Ok _ _ u.next in
       let l : IsLabel net flow given v (cut_of net flow given v) = label-cut net flow given v h (subst (λ (c : List Point). negative_point c ≡ None) exact none) in
       subst (λ (c : List Point). IsFromZero c) is (record { curve = subst (λ (c : List Point). IsCurve c) (sym exact) l.curve; none_negative = negative-none w.first none })
 

@@ -1,12 +1,12 @@
 -- Trials for each of some numbers or links in order: what is left to be tried says what all of them say.
 use Rattle.std.proofs.Common.{◌≡◌, ◌≢◌, ℕ, zero, suc, ◌+◌, ◌-◌, ◌<◌, ◌≤◌, List, [], ◌∷◌, ◌++◌, length, drop, filter, Bool, true, false, not, eqb, cond, Some, slice_get, refl, sym, ap, ◌∙◌, append-nil, arith}
-use Rattle.std.specs.Prelude.{Result, Ok, Err}
+use Rattle.std.specs.Prelude.{Ok, Err}
 use Rattle.std.specs.List.{enumerate_from, range_with_len}
 use Rattle.std.proofs.lemmas.Bool.{eqb-true, eqb-false}
 use Rattle.std.proofs.lemmas.List.{drop_more, drop_all}
 use Rattle.std.proofs.lemmas.Option.{slice_get_within, get_or_from_slice_get}
 use Rattle.nf_frac_def.specs.Checked.{each, ◌>>=◌}
-use Rattle.nf_frac_def.proofs.Each.{with_front, each_ok}
+use Rattle.nf_frac_def.proofs.Each.{with_front, each_ok, no_front}
 use Rattle.nf_check_def.specs.Trial.{Trial}
 use Rattle.nf_check_rules.specs.declared.ended.Ended.{Ended}
 use Rattle.nf_check_rules.specs.Trials.{EndsAs, done}
@@ -37,10 +37,6 @@ module _ {A B : Type 0} (f : A → Trial B) (front : List B) (x : A) (later : Li
 
   front_goes : (y : B) → f x ≡ Ok y → with_front (front ++ y ∷ []) (each f later) ≡ all
   front_goes y h = sym (each_ok f front x later y h) ∙ so_far
-
-nothing_before : {B E : Type 0} (r : Result (List B) E) → with_front [] r ≡ r
-nothing_before (Ok ys) = refl
-nothing_before (Err p) = refl
 
 -- ---- the numbers below one
 range_first : (n : ℕ) → range_with_len 0 (n - 0) ≡ range_with_len 0 n
@@ -109,7 +105,7 @@ pub record FrontBelow {B : Type 0} (f : ℕ → Trial B) (n k : ℕ) (front : Li
 module _ {B : Type 0} (f : ℕ → Trial B) (n : ℕ) where
   pub kept_first : (front : List B) → front ≡ [] → FrontBelow f n 0 front
   kept_first front e = record {
-    same = ap (λ (l : List B). with_front l (each f (range_with_len 0 (n - 0)))) e ∙ nothing_before (each f (range_with_len 0 (n - 0))) ∙ ap (each f) (range_first n);
+    same = ap (λ (l : List B). with_front l (each f (range_with_len 0 (n - 0)))) e ∙ no_front (each f (range_with_len 0 (n - 0))) ∙ ap (each f) (range_first n);
   }
 
   module _ (k : ℕ) (front : List B) (left : FrontBelow f n k front) where
@@ -157,7 +153,7 @@ pub record FrontLinks {B X : Type 0} (f : ℕ × X → Trial B) (links : List X)
 
 module _ {B X : Type 0} (f : ℕ × X → Trial B) (links : List X) where
   pub keep_first : (front : List B) → front ≡ [] → FrontLinks f links 0 front
-  keep_first front e = record { same = ap (λ (l : List B). with_front l (each f (enumerate_from 0 links))) e ∙ nothing_before (each f (enumerate_from 0 links)) }
+  keep_first front e = record { same = ap (λ (l : List B). with_front l (each f (enumerate_from 0 links))) e ∙ no_front (each f (enumerate_from 0 links)) }
 
   module _ (k : ℕ) (front : List B) (left : FrontLinks f links k front) where
     pub keep_last : length links ≤ k → each f (enumerate_from 0 links) ≡ Ok front

@@ -4,15 +4,13 @@ use Rattle.std.specs.Prelude.{Ok, Err, if◌then◌else◌}
 use Rattle.std.specs.List.{AllByRecursion}
 use Rattle.nf_rational.specs.Rational.{ℚ}
 use Rattle.nf_rational.specs.Operations.{0ℚ}
-use Rattle.nf_rational.specs.Order.{◌≤ℚ◌, ◌<ℚ◌, lt_ℚ, max_ℚ}
+use Rattle.nf_rational.specs.Order.{◌≤ℚ◌, lt_ℚ, max_ℚ}
 use Rattle.nf_frac_def.specs.Passing.{Passing}
 use Rattle.nf_frac_def.specs.Checked.{at_part, ◌>>=◌}
 use Rattle.nf_frac_def.specs.declared.Part.TheVariants.{Check}
 use Rattle.nf_frac_def.specs.declared.PassedAt.{PassedAt}
-use Rattle.nf_model.specs.Curve.{Point, IsCurve}
+use Rattle.nf_model.specs.Curve.{Point}
 use Rattle.nf_curve_def.specs.Lines.{checked_slope}
-use Rattle.nf_curve.proofs.Placing.{rise-pairs, curve-rises}
-use Rattle.nf_curve.proofs.Shortening.{drop-at}
 use Rattle.nf_check_def.specs.declared.CheckRule.TheVariants.{C2}
 use Rattle.nf_check_def.specs.declared.Subject.{Subject}
 use Rattle.nf_check_def.specs.Trial.{Passes, in_part, unless}
@@ -21,13 +19,11 @@ use Rattle.nf_check_def.specs.Curves.{greatest_value, last_value}
 use Rattle.nf_model.specs.Network.{Network}
 use Rattle.nf_model.specs.Equilibrium.{Flow}
 use Rattle.nf_check_def.specs.CheckList as lists_of_check
+use Rattle.nf_rational_laws.proofs.Entries.{drop_next}
 use Rattle.nf_check_rules.specs.declared.ended.Ended.{Ended}
 use Rattle.nf_check_rules.specs.Points.{first_fall, first_value}
 use Rattle.nf_check_rules.specs.Trials.{EndsAs}
 use Rattle.nf_check_rules.proofs.Trying.{ends, ends_as, goes_on, part_ok, part_passes}
-
-pub drop_one : {A : Type 0} (xs : List A) (i : ℕ) (x : A) → slice_get xs i ≡ Some x → drop i xs ≡ x ∷ drop (i + 1) xs
-drop_one {A} xs i x e = drop-at xs i x e ∙ ap (λ (k : ℕ). x ∷ drop k xs) (let same : suc i ≡ i + 1 = omega arith in same)
 
 pub drop_none : {A : Type 0} (xs : List A) (i : ℕ) → length xs ≤ i → drop i xs ≡ []
 drop_none [] zero h = refl
@@ -47,16 +43,16 @@ few_left {A} xs i some h = go xs (i - 1) (omega arith)
 
 pub drop_two : {A : Type 0} (xs : List A) (i : ℕ) (x y : A) → 0 < i → slice_get xs (i - 1) ≡ Some x → slice_get xs i ≡ Some y → drop (i - 1) xs ≡ x ∷ y ∷ drop (i + 1) xs
 drop_two {A} xs i x y some at next =
-    drop_one xs (i - 1) x at ∙ ap (λ (l : List A). x ∷ l) (ap (λ (k : ℕ). drop k xs) (let same : (i - 1) + 1 ≡ i = omega arith in same) ∙ drop_one xs i y next)
+    drop_next xs (i - 1) x at ∙ ap (λ (l : List A). x ∷ l) (ap (λ (k : ℕ). drop k xs) (let same : (i - 1) + 1 ≡ i = omega arith in same) ∙ drop_next xs i y next)
 
-pub drop_next : {A : Type 0} (xs : List A) (i : ℕ) (y : A) → slice_get xs i ≡ Some y → drop ((i + 1) - 1) xs ≡ y ∷ drop (i + 1) xs
-drop_next {A} xs i y next = ap (λ (k : ℕ). drop k xs) (let same : (i + 1) - 1 ≡ i = omega arith in same) ∙ drop_one xs i y next
+pub drop_again : {A : Type 0} (xs : List A) (i : ℕ) (y : A) → slice_get xs i ≡ Some y → drop ((i + 1) - 1) xs ≡ y ∷ drop (i + 1) xs
+drop_again {A} xs i y next = ap (λ (k : ℕ). drop k xs) (let same : (i + 1) - 1 ≡ i = omega arith in same) ∙ drop_next xs i y next
 
 -- ---- the first negative point
 module _ (points : List Point) (i : ℕ) (so_far : negative_point (drop i points) ≡ negative_point points) where
   module _ (p : Point) (at : slice_get points i ≡ Some p) where
     by_first : (if lt_ℚ p.1 0ℚ then Some (record { time = p.0; left = p.1; right = 0ℚ }) else negative_point (drop (i + 1) points)) ≡ negative_point points
-    by_first = sym (ap negative_point (drop_one points i p at)) ∙ so_far
+    by_first = sym (ap negative_point (drop_next points i p at)) ∙ so_far
 
     pub is_negative : lt_ℚ p.1 0ℚ ≡ true → negative_point points ≡ Some (record { time = p.0; left = p.1; right = 0ℚ })
     is_negative t = sym (sym (ap (λ (b : Bool). if b then Some (record { time = p.0; left = p.1; right = 0ℚ }) else negative_point (drop (i + 1) points)) t) ∙ by_first)
@@ -83,7 +79,7 @@ module _ (points : List Point) (i : ℕ) (some : 0 < i) (so_far : first_fall (dr
 
     pub rises : lt_ℚ q.1 p.1 ≡ false → first_fall (drop ((i + 1) - 1) points) ≡ first_fall points
     rises t =
-        ap first_fall (drop_next points i q next)
+        ap first_fall (drop_again points i q next)
         ∙ sym (ap (λ (b : Bool). if b then Some (record { time = p.0; left = p.1; right = q.1 }) else falling_from q (drop (i + 1) points)) t) ∙ by_pair
 
 -- ---- rates
@@ -99,13 +95,13 @@ module _ (passes : Passing) (subject : Subject ℕ ℕ) (points : List Point) (r
 
   module _ (p q : Point) (rate : ℚ) (at : slice_get points i ≡ Some p) (next : slice_get points (i + 1) ≡ Some q) (here : slice_get rates i ≡ Some rate) where
     from_next : drop (i + 1) points ≡ q ∷ drop ((i + 1) + 1) points
-    from_next = drop_one points (i + 1) q next
+    from_next = drop_next points (i + 1) q next
 
     by_rate : (in_part Check (checked_slope passes p q) >>= λ k. unless C2 subject (if_other p.0 rate k) >>= λ _. rates_from passes subject q
         (drop ((i + 1) + 1) points) (drop (i + 1) rates)) ≡ rates_list passes subject points rates
     by_rate =
-        sym (ap (λ (l : List Point). rates_list passes subject l (drop i rates)) (drop_one points i p at ∙ ap (λ (l : List Point). p ∷ l) from_next)
-        ∙ ap (rates_list passes subject (p ∷ q ∷ drop ((i + 1) + 1) points)) (drop_one rates i rate here))
+        sym (ap (λ (l : List Point). rates_list passes subject l (drop i rates)) (drop_next points i p at ∙ ap (λ (l : List Point). p ∷ l) from_next)
+        ∙ ap (rates_list passes subject (p ∷ q ∷ drop ((i + 1) + 1) points)) (drop_next rates i rate here))
         ∙ so_far
 
     pub slope_ends : (passed : PassedAt ℚ) → at_part Check (checked_slope passes p q) ≡ Err passed → rates_list passes subject points rates ≡ Err (Passes passed)
@@ -123,15 +119,11 @@ module _ (passes : Passing) (subject : Subject ℕ ℕ) (points : List Point) (r
       rate_fits h = ap (λ (l : List Point). rates_list passes subject l (drop (i + 1) rates)) from_next
           ∙ sym (goes_on (unless C2 subject (if_other p.0 rate slope)) _ tt h) ∙ by_slope
 
--- neighbouring points
-pub times_apart : (points : List Point) (i : ℕ) (p q : Point) → IsCurve points → slice_get points i ≡ Some p → slice_get points (i + 1) ≡ Some q → p.0 <ℚ q.0
-times_apart points i p q c e f = rise-pairs points i (i + 1) p q (curve-rises points c) e f (omega arith)
-
 -- ---- values
 pub greater_before : (points : List Point) (left next : ℕ) (p : Point) (greatest : ℚ) → left ≡ next + 1 → slice_get points next ≡ Some p → greatest ≡ greatest_value (drop left points)
     → max_ℚ p.1 greatest ≡ greatest_value (drop next points)
 greater_before points left next p greatest n e g =
-    ap (max_ℚ p.1) (g ∙ ap (λ (k : ℕ). greatest_value (drop k points)) n) ∙ sym (ap greatest_value (drop_one points next p e))
+    ap (max_ℚ p.1) (g ∙ ap (λ (k : ℕ). greatest_value (drop k points)) n) ∙ sym (ap greatest_value (drop_next points next p e))
 
 pub first_same : (passes : Passing) (net : Network) (flow : Flow) (points : List Point) → first_value points ≡ lists_of_check.first_value passes net flow points
 first_same passes net flow [] = refl

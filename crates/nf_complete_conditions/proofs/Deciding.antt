@@ -8,7 +8,7 @@ use Rattle.nf_rational.specs.Rational.{ℚ}
 use Rattle.nf_rational.specs.Operations.{0ℚ}
 use Rattle.nf_rational.specs.Order.{◌≤ℚ◌, ◌<ℚ◌, le_ℚ, lt_ℚ}
 use Rattle.nf_rational_laws.proofs.Order.{≤ℚ_of_same, ≤ℚ_antisymm}
-use Rattle.nf_rational_laws.proofs.Tests.{le_of_test, lt_of_test, test_of_le, less_of_test, test_of_less}
+use Rattle.nf_rational_laws.proofs.Tests.{le_of_test, test_of_le, less_of_test, test_of_less}
 use Rattle.nf_model.specs.Entries.{Has}
 use Rattle.nf_complete_conditions.specs.Testing.{same_test}
 use Rattle.nf_complete_conditions.specs.ThinParts.{KeepsSlopes, keeps_test}
@@ -45,20 +45,6 @@ Decides-less x y = (less_of_test x y, test_of_less x y)
 pub Decides-same : (x y : ℚ) → Decides (same_test x y) (x ≡ y)
 Decides-same x y = Decides-like (same_test x y) (λ (w : (x ≤ℚ y) × (y ≤ℚ x)). ≤ℚ_antisymm x y w.0 w.1) (λ (e : x ≡ y). (≤ℚ_of_same x y e, ≤ℚ_of_same y x (sym e)))
     (Decides-and (le_ℚ x y) (le_ℚ y x) (Decides-le x y) (Decides-le y x))
-
-pub negative_of : (x : ℚ) (b : Bool) → b ≡ not (le_ℚ 0ℚ x) → b ≡ true → x <ℚ 0ℚ
-negative_of x b e h = go (le_ℚ 0ℚ x) refl (sym e ∙ h)
-  where
-    go : (t : Bool) → le_ℚ 0ℚ x ≡ t → not t ≡ true → x <ℚ 0ℚ
-    go true k n = absurd (cc)
-    go false k n = lt_of_test 0ℚ x k
-
-pub not_negative_of : (x : ℚ) (b : Bool) → b ≡ not (le_ℚ 0ℚ x) → b ≡ false → 0ℚ ≤ℚ x
-not_negative_of x b e h = go (le_ℚ 0ℚ x) refl (sym e ∙ h)
-  where
-    go : (t : Bool) → le_ℚ 0ℚ x ≡ t → not t ≡ false → 0ℚ ≤ℚ x
-    go true k n = le_of_test 0ℚ x k
-    go false k n = absurd (cc)
 
 pub Decides-keeps : (resets : Bool) (full : Option ℚ) (x s t : ℚ) → Decides (keeps_test resets full x s t) (KeepsSlopes resets full x s t)
 Decides-keeps resets None x s t = Decides-and (le_ℚ t s) (le_ℚ x 0ℚ || le_ℚ s t) (Decides-le t s) (Decides-or (le_ℚ x 0ℚ) (le_ℚ s t) (Decides-le x 0ℚ) (Decides-le s t))

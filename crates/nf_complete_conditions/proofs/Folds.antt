@@ -8,8 +8,8 @@ use Rattle.nf_frac_def.specs.declared.Passed.{Passed}
 use Rattle.nf_frac_def.specs.declared.PassedAt.{PassedAt}
 use Rattle.nf_frac_def.specs.Checked.{fold_checked, placed, at_part}
 use Rattle.nf_frac_def.proofs.Each.{fold_ok, fold_err}
-use Rattle.nf_thin_laws.proofs.Numbered.{drop_at}
 use Rattle.nf_rational_laws.proofs.Results.{same_Err}
+use Rattle.nf_rational_laws.proofs.Entries.{drop_entry}
 
 module _ {A B : Type 0} (f : B → A → Result B (Passed ℚ)) (xs : List A) (start : B) where
   abbrev pub FoldsOn : B → ℕ → Type 0
@@ -17,14 +17,14 @@ module _ {A B : Type 0} (f : B → A → Result B (Passed ℚ)) (xs : List A) (s
 
   module _ (so_far : B) (i : ℕ) (x : A) (at : slice_get xs i ≡ Some x) (so : FoldsOn so_far i) where
     pub folds_more : (next : B) → f so_far x ≡ Ok next → FoldsOn next (suc i)
-    folds_more next e = so ∙ (ap (fold_checked f so_far) (drop_at xs i x at) ∙ fold_ok f so_far x (drop (suc i) xs) next e)
+    folds_more next e = so ∙ (ap (fold_checked f so_far) (drop_entry xs i x at) ∙ fold_ok f so_far x (drop (suc i) xs) next e)
 
     pub fold_stops : (part : Part) (p : PassedAt ℚ) → at_part part (f so_far x) ≡ Err p → at_part part (fold_checked f start xs) ≡ Err p
     fold_stops part p e = go (f so_far x) refl e
       where
         go : (r : Result B (Passed ℚ)) → f so_far x ≡ r → at_part part r ≡ Err p → at_part part (fold_checked f start xs) ≡ Err p
         go (Ok y) k e = absurd (cc)
-        go (Err q) k e = ap (at_part part) (so ∙ (ap (fold_checked f so_far) (drop_at xs i x at) ∙ fold_err f so_far x (drop (suc i) xs) q k))
+        go (Err q) k e = ap (at_part part) (so ∙ (ap (fold_checked f so_far) (drop_entry xs i x at) ∙ fold_err f so_far x (drop (suc i) xs) q k))
             ∙ ap Err (same_Err {A = B} (placed part q) p e)
 
   pub fold_ends : (so_far : B) (i : ℕ) → length xs ≤ i → FoldsOn so_far i → fold_checked f start xs ≡ Ok so_far

@@ -14,7 +14,7 @@ use Rattle.nf_frac_def.specs.Passing.{Passing}
 use Rattle.nf_model.specs.Entries.{number_at, Has}
 use Rattle.nf_model.specs.Network.{Link, Network, IsLink}
 use Rattle.nf_model.specs.ThinFlow.{Sets}
-use Rattle.nf_rational_laws.proofs.Entries.{entry, slice_get-image}
+use Rattle.nf_rational_laws.proofs.Entries.{entry, slice_get-image, slice_get-range}
 use Rattle.nf_thin_laws.proofs.Flags.{flag, flag-cases}
 use Rattle.nf_complete_def.specs.Interior.{IsInterior}
 use Rattle.nf_complete_def.specs.Cancelling.{fulls_list}
@@ -22,7 +22,6 @@ use Rattle.nf_complete_conditions.specs.ThinParts.{filling}
 use Rattle.nf_complete_conditions.specs.InteriorFlags.{is_inside, interior_test, interior_flags}
 use Rattle.nf_complete_conditions.proofs.Deciding.{Decides-less}
 use Rattle.nf_complete_conditions.proofs.Filling.{fulls_at}
-use Rattle.nf_complete_conditions.proofs.Telling.{range_at}
 
 Decides-flag : (flags : List Bool) (e : ℕ) → Decides (flag flags e) (Has flags e)
 Decides-flag flags e = ⊎_elim
@@ -46,7 +45,7 @@ Decides-between (Some full) x = Decides-like (lt_ℚ 0ℚ x && lt_ℚ x full)
 -- ---- the flags so far
 module _ (sets : Sets) (fulls : List (Option ℚ)) (flows : List ℚ) where
   pub test_at : (e : ℕ) (b : Bool) → e < length flows → b ≡ interior_test sets fulls flows e → slice_get (interior_flags sets fulls flows) e ≡ Some b
-  test_at e b h same = slice_get-image (interior_test sets fulls flows) (range_with_len 0 (length flows)) e (0 + e) (range_at 0 (length flows) e h)
+  test_at e b h same = slice_get-image (interior_test sets fulls flows) (range_with_len 0 (length flows)) e (0 + e) (slice_get-range 0 (length flows) e h)
       ∙ ap (λ (k : ℕ). Some (interior_test sets fulls flows k)) (let z : 0 + e ≡ e = omega arith in z) ∙ ap (λ (t : Bool). Some t) (sym same)
 
   pub flags_by_flows : length (interior_flags sets fulls flows) ≡ length flows

@@ -10,6 +10,7 @@ use Rattle.nf_frac_def.specs.declared.PassedAt.{PassedAt}
 use Rattle.nf_frac_def.specs.Checked.{Checked, each, at_part, placed, ◌>>=◌}
 use Rattle.nf_rational_laws.proofs.Naturals.{before_or_at}
 use Rattle.nf_rational_laws.proofs.Results.{same_Err}
+use Rattle.nf_rational_laws.proofs.Entries.{slice_get-below}
 use Rattle.nf_thin_laws.proofs.Ending.{enumerated}
 use Rattle.nf_complete_conditions.specs.Testing.{AnswersWhether}
 use Rattle.nf_complete_conditions.proofs.Deciding.{says_like, says_both}
@@ -107,11 +108,6 @@ module _ {A B : Type 0} (f : A → Checked B) where
         within k y s = let w = slice_get_within xs k y s in omega arith
 
 -- ---- the entries of a range
-pub range_at : (a n k : ℕ) → k < n → slice_get (range_with_len a n) k ≡ Some (a + k)
-range_at a zero k h = absurd (omega arith)
-range_at a (suc n) zero h = ap (λ (j : ℕ). Some j) (let e : a ≡ a + 0 = omega arith in e)
-range_at a (suc n) (suc k) h = range_at (a + 1) n k (omega arith) ∙ ap (λ (j : ℕ). Some j) (let e : (a + 1) + k ≡ a + suc k = omega arith in e)
-
 pub in_range : (a n k v : ℕ) → slice_get (range_with_len a n) k ≡ Some v → (k < n) × (v ≡ a + k)
 in_range a zero k v h = absurd (none-some v h)
 in_range a (suc n) zero v h = (omega arith, let e : a ≡ v = same_Some a v h in omega arith)
@@ -123,15 +119,11 @@ in_numbered a [] k p h = absurd (none-some p h)
 in_numbered {A = A} a (y ∷ xs) zero p h = let e = same_Some (a, y) p h in (let n : a ≡ p.0 = ap (λ (q : ℕ × A). q.0) e in omega arith, ap (λ (q : ℕ × A). Some q.1) e)
 in_numbered a (y ∷ xs) (suc k) p h = let r = in_numbered (a + 1) xs k p h in (let n = r.0 in omega arith, r.1)
 
--- from 0 on
-pub node_at : (n v : ℕ) → v < n → slice_get (range_with_len 0 n) v ≡ Some v
-node_at n v h = range_at 0 n v h ∙ ap (λ (k : ℕ). Some k) (let z : 0 + v ≡ v = omega arith in z)
-
 pub link_at : {A : Type 0} (xs : List A) (k : ℕ) (x : A) → slice_get xs k ≡ Some x → slice_get (enumerate_from 0 xs) k ≡ Some (k, x)
 link_at {A = A} xs k x h = enumerated 0 xs k x h ∙ ap (λ (j : ℕ). Some (j, x)) (let z : 0 + k ≡ k = omega arith in z)
 
 pub each_node : (P : ℕ → Type 0) (n : ℕ) → ((k v : ℕ) → slice_get (range_with_len 0 n) k ≡ Some v → P v) → (v : ℕ) → v < n → P v
-each_node P n f v h = f v v (node_at n v h)
+each_node P n f v h = f v v (slice_get-below n v h)
 
 pub node_each : (P : ℕ → Type 0) (n : ℕ) → ((v : ℕ) → v < n → P v) → (k v : ℕ) → slice_get (range_with_len 0 n) k ≡ Some v → P v
 node_each P n f k v s = let r = in_range 0 n k v s in f v (omega arith)

@@ -2,6 +2,7 @@
 -- conditions hold.
 use Rattle.std.proofs.Common.{◌≡◌, ◌≢◌, ◌⊎◌, inl, inr, ⊎_elim, ℕ, ◌<◌, Bool, true, false, if◌then◌else◌, eqb, List, [], ◌∷◌, length, None, sym, ap, subst, refl, ◌∙◌}
 use Rattle.std.proofs.lemmas.Bool.Decides.{eqb_tells}
+use Rattle.std.proofs.lemmas.Bool.{cases_eq}
 use Rattle.nf_rational.specs.Rational.{ℚ}
 use Rattle.nf_rational.specs.Operations.{0ℚ, ◌+ℚ◌, ◌-ℚ◌}
 use Rattle.nf_rational.specs.Order.{◌≤ℚ◌}
@@ -16,9 +17,9 @@ use Rattle.nf_model_laws.proofs.Sums.{sum_in-same, sum_out-same, sum_in-none}
 use Rattle.nf_thin_laws.specs.ActiveLinks.{NoneEntersSource}
 use Rattle.nf_thin_laws.proofs.Flags.{flag, flag-cases}
 use Rattle.nf_thin_laws.proofs.Slopes.{link_law}
+use Rattle.nf_thin_laws.proofs.Bases.{has_or_not}
 use Rattle.nf_model_laws.proofs.Totals.{IsThinFlow-sink}
 use Rattle.nf_complete_laws.specs.SettleLaws.{AreGoodSets}
-use Rattle.nf_complete_laws.proofs.Bare.{flagged, same_node}
 use Rattle.nf_complete_laws.proofs.Deciding.{same_or_not}
 use Rattle.nf_complete_laws.proofs.Classes.{empty_exit}
 use Rattle.nf_complete_conditions.specs.ThinParts.{active_flow, brought, taken_away, IsBalanced, KeepsAt, IsLevelAt, Brings, Takes, CarriesOnActive, IsProper}
@@ -77,7 +78,7 @@ module _ (net : Network) (sets : Sets) (rate : ℚ) (flows slopes : List ℚ) (g
     source_in = sum_in-same net.links (number_at flows) (λ _. 0ℚ) net.source (λ e link p at. ⊎_elim
         (λ (a : Has sets.active e). absurd (none_in e link (record { is_link = p; active = a; head = at })))
         (λ (n : Has sets.active e → ⊥). only e n)
-        (flagged sets.active e)) ∙ sum_in-none net.links net.source
+        (has_or_not sets.active e)) ∙ sum_in-none net.links net.source
 
     brought_source : brought net sets rate flows net.source ≡ rate
     brought_source = if_same net.source net.source rate (sum_in net.links (active_flow sets flows) net.source) refl
@@ -168,8 +169,8 @@ module _ (net : Network) (sets : Sets) (rate : ℚ) (flows slopes : List ℚ) (g
         (λ (t : v ≡ net.sink). balanced_sink thin.active_only v s t (subst (λ (k : ℕ). surplus net flows k ≡ 0ℚ -ℚ rate) (sym t)
         (IsThinFlow-sink net good.network sets rate flows slopes thin)))
         (λ (t : v ≢ net.sink). balanced_inner thin.active_only v s t (thin.inner v h s t))
-        (same_node v net.sink))
-        (same_node v net.source)
+        (cases_eq v net.sink))
+        (cases_eq v net.source)
 
     pub kept-thin : Kept
     kept-thin e link p a = law-keeps (flag sets.resetting e) link.capacity (number_at flows e) (number_at slopes link.tail) (number_at slopes link.head)

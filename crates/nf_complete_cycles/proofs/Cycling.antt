@@ -318,10 +318,6 @@ pub if-ok : {A E : Type 0} (r : Result A E) (P Q : A → Type 0) → ((x : A) �
 if-ok (Ok x) P Q f h = f x h
 if-ok (Err e) P Q f h = tt
 
-pub not_true : (b : Bool) → not b ≡ true → b ≡ false
-not_true true h = cc
-not_true false h = refl
-
 pub not_false : (b : Bool) → not b ≡ false → b ≡ true
 not_false true h = refl
 not_false false h = cc

@@ -1,11 +1,12 @@
 -- Systems describe oversupplies. So there is an oversupply with the least sum of slopes, and among those, one with the least flow out of
 -- the source.
 use Rattle.std.proofs.Common.{◌≡◌, ◌≢◌, ℕ, zero, suc, ◌<◌, ◌⊎◌, Option, Some, None, sym, ap, subst, refl, ◌∙◌}
+use Rattle.std.proofs.lemmas.Bool.{cases_eq}
+use Rattle.nf_thin_laws.proofs.Bases.{has_or_not}
 use Rattle.nf_complete_laws.proofs.Common.{none-some, same_Some, ℚ, 0ℚ, 1ℚ, ◌+ℚ◌, ◌-ℚ◌, ◌*ℚ◌, ◌≤ℚ◌, Has, Link, Network, IsNetwork, sum_in, sum_out, Sets}
 use Rattle.nf_complete_laws.proofs.Common.{Enters, NeedsState, Fills, sum_to, sum_to-nn, form_value, Fits, demand, IsOversupply}
 use Rattle.nf_linear_laws.proofs.Choices.{MeetsOne, LeastOfTwo, least_of_two}
 use Rattle.nf_complete_laws.proofs.Deciding.{both}
-use Rattle.nf_complete_laws.proofs.Bare.{flagged, same_node}
 use Rattle.nf_complete_laws.proofs.ExistsDeciding.{not_so, SomeLink}
 use Rattle.nf_complete_laws.proofs.LinkSums.{sum_out-not_negative}
 use Rattle.nf_complete_laws.proofs.Spare.{not_negative}
@@ -144,8 +145,8 @@ module _ (net : Network) (sets : Sets) (rate : ℚ) where
 
   led_by_described : (v e : ℕ) (link : Link) → Described (LedBy v e link)
   led_by_described v e link = Described-both (λ x. Has sets.active e × (link.head ≡ v)) (λ x. Has sets.resetting e ⊎ (slopes_of x link.tail ≤ℚ slopes_of x link.head))
-      (Described-decided (Has sets.active e × (link.head ≡ v)) (both (flagged sets.active e) (same_node link.head v)))
-      (Described-either (λ x. Has sets.resetting e) (λ x. slopes_of x link.tail ≤ℚ slopes_of x link.head) (Described-decided (Has sets.resetting e) (flagged sets.resetting e))
+      (Described-decided (Has sets.active e × (link.head ≡ v)) (both (has_or_not sets.active e) (cases_eq link.head v)))
+      (Described-either (λ x. Has sets.resetting e) (λ x. slopes_of x link.tail ≤ℚ slopes_of x link.head) (Described-decided (Has sets.resetting e) (has_or_not sets.resetting e))
       (Described-le (λ x. slopes_of x link.tail) (λ x. slopes_of x link.head) (slope link.tail) (slope link.head)))
 
   led_at_described : (v : ℕ) → Described (LedAt v)
@@ -156,11 +157,11 @@ module _ (net : Network) (sets : Sets) (rate : ℚ) where
 
   led_described : Described Led
   led_described =
-      Described-to net.nodes (λ v x. v ≢ net.source → LedAt v x) (λ v _. Described-when (v ≢ net.source) (LedAt v) (not_so (same_node v net.source))
+      Described-to net.nodes (λ v x. v ≢ net.source → LedAt v x) (λ v _. Described-when (v ≢ net.source) (LedAt v) (not_so (cases_eq v net.source))
       (λ _. led_at_described v))
 
   enough_described : Described Enough
-  enough_described = Described-to net.nodes (λ v x. v ≢ net.source → EnoughAt v x) (λ v _. Described-when (v ≢ net.source) (EnoughAt v) (not_so (same_node v net.source))
+  enough_described = Described-to net.nodes (λ v x. v ≢ net.source → EnoughAt v x) (λ v _. Described-when (v ≢ net.source) (EnoughAt v) (not_so (cases_eq v net.source))
       (λ _. Described-le (λ x. sum_out net.links (flows_of x) v +ℚ demand net rate v) (λ x. sum_in net.links (flows_of x) v)
       (Affine-plus (λ x. sum_out net.links (flows_of x) v) (λ x. demand net rate v) (Affine-sum_out net.links (λ e x. flows_of x e) v flow) (Affine-constant (demand net rate v)))
       (Affine-sum_in net.links (λ e x. flows_of x e) v flow)))
@@ -176,16 +177,16 @@ module _ (net : Network) (sets : Sets) (rate : ℚ) where
   OthersAt e link x = NeedsState sets e → FitsAt e link.capacity link.tail link.head x
 
   inactive_described : Described (EachLink net.links InactiveAt)
-  inactive_described = Described-links net.links InactiveAt (λ e link. Described-when (Has sets.active e → ⊥) (λ x. flows_of x e ≡ 0ℚ) (not_so (flagged sets.active e))
+  inactive_described = Described-links net.links InactiveAt (λ e link. Described-when (Has sets.active e → ⊥) (λ x. flows_of x e ≡ 0ℚ) (not_so (has_or_not sets.active e))
       (λ _. Described-same (λ x. flows_of x e) (λ x. 0ℚ) (flow e) (Affine-constant 0ℚ)))
 
   resetting_described : Described (EachLink net.links ResettingAt)
-  resetting_described = Described-links net.links ResettingAt (λ e link. Described-when (Has sets.resetting e) (FillsAt e link.capacity link.head) (flagged sets.resetting e)
+  resetting_described = Described-links net.links ResettingAt (λ e link. Described-when (Has sets.resetting e) (FillsAt e link.capacity link.head) (has_or_not sets.resetting e)
       (λ _. fills_described e link.capacity link.head))
 
   others_described : Described (EachLink net.links OthersAt)
   others_described = Described-links net.links OthersAt (λ e link. Described-when (NeedsState sets e) (FitsAt e link.capacity link.tail link.head)
-      (both (flagged sets.active e) (not_so (flagged sets.resetting e))) (λ _. fits_described e link.capacity link.tail link.head))
+      (both (has_or_not sets.active e) (not_so (has_or_not sets.resetting e))) (λ _. fits_described e link.capacity link.tail link.head))
 
   abbrev AtNodes : (ℕ → ℚ) → Type 0
   AtNodes x = (Starts x × NotNegative x) × (Led x × Enough x)

@@ -1,12 +1,13 @@
 -- Pushes: starting with flows that send the least out of the source, they end with flows whose nodes with excess are closed.
 use Rattle.std.proofs.Common.{◌≡◌, ◌≢◌, ℕ, zero, suc, ◌<◌, ◌≤◌, [], ◌∷◌, ◌⊎◌, inl, inr, ⊎_elim, Option, Some, None, sym, subst, refl, ◌∙◌, arith}
+use Rattle.std.proofs.lemmas.Bool.{cases_eq}
+use Rattle.nf_thin_laws.proofs.Bases.{has_or_not}
 use Rattle.nf_complete_laws.proofs.Common.{none-some, same_Some, ℚ, 0ℚ, 1ℚ, ◌+ℚ◌, ◌-ℚ◌, ◌*ℚ◌, ◌/ℚ◌, ◌≤ℚ◌, ◌<ℚ◌, min_ℚ, reading_of, ≤ℚ_of_lt, le, lt, eq}
 use Rattle.nf_complete_laws.proofs.Common.{linear_le, linear_lt, linear_eq, linear_false, min_left, min_right, min_keeps, nn_after_less, nn_less_part}
 use Rattle.nf_complete_laws.proofs.Common.{less_some_le, Has, Link, Network, IsLink, IsNetwork, sum_out, Sets, NeedsState, HoldNoCycle, EachIsEntered}
 use Rattle.nf_complete_laws.proofs.Common.{NoneEntersSource, NoneEntersSource-acyclic, IsOversupply}
 use Rattle.nf_rational_laws.proofs.Quotient.{/ℚ-times, ps_apart}
 use Rattle.nf_complete_laws.proofs.Deciding.{Decided, both, same_or_not, NoLink}
-use Rattle.nf_complete_laws.proofs.Bare.{flagged, same_node}
 use Rattle.nf_complete_laws.proofs.ExistsDeciding.{not_so, less_or_not, SomeLink, some_link}
 use Rattle.nf_complete_laws.proofs.Fitting.{IsAtMost, HasRoom, room_or_not}
 use Rattle.nf_complete_laws.proofs.Spare.{spare, HasSpare, spare_or_not, spare_of_enough}
@@ -131,8 +132,8 @@ module _ (net : Network) (sets : Sets) (rate : ℚ) (slopes : ℕ → ℚ) (good
             (λ (k : v ≢ giver). ⊎_elim
             (λ (m : v ≡ gainer). subst (λ (j : ℕ). P (spare net rate new j)) (sym m) (positive _ at_gainer))
             (λ (m : v ≢ gainer). subst P (sym (others v k m)) same)
-            (same_node v gainer))
-            (same_node v giver)
+            (cases_eq v gainer))
+            (cases_eq v giver)
 
         grown : Grows net sets rate slopes flows
         grown = record {
@@ -184,7 +185,7 @@ module _ (net : Network) (sets : Sets) (rate : ℚ) (slopes : ℕ → ℚ) (good
             (λ (k : v ≡ link.head). subst (λ (j : ℕ). 0ℚ ≤ℚ spare net rate (pushed net rate flows e link p d) j) (sym k)
             (nn_after_less (spare net rate flows link.head) _ a (spare-head net rate flows e link p d apart) (≤ℚ_of_lt _ _ part.1.less)))
             (λ (k : v ≢ link.head). subst (λ (z : ℚ). 0ℚ ≤ℚ z) (sym (spare-else net rate flows e link p d v k (λ t. other (t ∙ at)))) (spare-not_negative v l other))
-            (same_node v link.head)
+            (cases_eq v link.head)
 
         -- The link does not leave the source.
         from_source : link.tail ≢ net.source
@@ -208,7 +209,7 @@ module _ (net : Network) (sets : Sets) (rate : ℚ) (slopes : ℕ → ℚ) (good
     Back e link = Level e link × ((0ℚ <ℚ flows e) × (HasSpare net rate flows link.head × (HasSpare net rate flows link.tail → ⊥)))
 
     level_or_not : (e : ℕ) (link : Link) → Decided (Level e link)
-    level_or_not e link = both (both (flagged sets.active e) (not_so (flagged sets.resetting e))) (same_or_not (slopes link.head) (slopes link.tail))
+    level_or_not e link = both (both (has_or_not sets.active e) (not_so (has_or_not sets.resetting e))) (same_or_not (slopes link.head) (slopes link.tail))
 
     forth_or_not : (e : ℕ) (link : Link) → Decided (Forth e link)
     forth_or_not e link = both (level_or_not e link) (both (room_or_not link.capacity (flows e) (slopes link.head))

@@ -1,9 +1,10 @@
 -- The excess of a node in an oversupply, its inflow less its outflow and demand; and properties of the links.
 use Rattle.std.proofs.Common.{◌≢◌, ℕ, ◌==◌, if◌then◌else◌, Bool, true, false, [], ◌∷◌, ◌⊎◌, inl, inr, ⊎_elim, sym}
+use Rattle.std.proofs.lemmas.Bool.{cases_eq}
+use Rattle.nf_thin_laws.proofs.Bases.{has_or_not}
 use Rattle.nf_complete_laws.proofs.Common.{ℚ, 0ℚ, ◌+ℚ◌, ◌-ℚ◌, ◌≤ℚ◌, ◌<ℚ◌, reading_of, ≤ℚ_of_same, ≤ℚ_refl, le, lt, linear_le, linear_lt, Has, Link, Network}
 use Rattle.nf_complete_laws.proofs.Common.{IsLink, IsNetwork, sum_in, sum_out, Sets, NeedsState, IsPositive-link, HasIn, sum_in-some, demand, IsOversupply}
 use Rattle.nf_complete_laws.proofs.Deciding.{Decided, both}
-use Rattle.nf_complete_laws.proofs.Bare.{flagged, same_node}
 use Rattle.nf_complete_laws.proofs.ExistsDeciding.{not_so, less_or_not}
 use Rattle.nf_complete_laws.proofs.LinkSums.{sum_out-not_negative}
 use Rattle.nf_complete_laws.proofs.Fitting.{IsAtMost, IsAtMost-fills, IsAtMost-none, not_negative-fills}
@@ -16,7 +17,7 @@ abbrev pub HasSpare : Network → ℚ → (ℕ → ℚ) → ℕ → Type 0
 HasSpare net rate flows v = (v ≢ net.source) × (0ℚ <ℚ spare net rate flows v)
 
 pub spare_or_not : (net : Network) (rate : ℚ) (flows : ℕ → ℚ) (v : ℕ) → Decided (HasSpare net rate flows v)
-spare_or_not net rate flows v = both (not_so (same_node v net.source)) (less_or_not 0ℚ (spare net rate flows v))
+spare_or_not net rate flows v = both (not_so (cases_eq v net.source)) (less_or_not 0ℚ (spare net rate flows v))
 
 pub enough_of_spare : (i o d : ℚ) → 0ℚ ≤ℚ i -ℚ (o +ℚ d) → o +ℚ d ≤ℚ i
 enough_of_spare i o d h = linear_le (i ∷ o ∷ d ∷ []) (le h ∷ []) (search reading_of) tt
@@ -38,8 +39,8 @@ kind_of sets e = ⊎_elim
     (λ (r : Has sets.resetting e → ⊥). ⊎_elim
     (λ (a : Has sets.active e). inr (inl (a, r)))
     (λ (a : Has sets.active e → ⊥). inr (inr a))
-    (flagged sets.active e))
-    (flagged sets.resetting e)
+    (has_or_not sets.active e))
+    (has_or_not sets.resetting e)
 
 module _ (net : Network) (sets : Sets) (rate : ℚ) (flows slopes : ℕ → ℚ) (good : IsNetwork net) (over : IsOversupply net sets rate flows slopes) where
   pub not_negative : (e : ℕ) (link : Link) → IsLink net e link → 0ℚ ≤ℚ flows e

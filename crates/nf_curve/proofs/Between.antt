@@ -7,17 +7,18 @@ use Rattle.std.proofs.lemmas.List.{reverse-append}
 use Rattle.std.proofs.lemmas.List.Folds.{drop_split}
 use Rattle.nf_rational.specs.Rational.{ℚ}
 use Rattle.nf_rational.specs.Order.{◌≤ℚ◌, ◌<ℚ◌, lt_ℚ}
-use Rattle.nf_rational_laws.proofs.Order.{≤ℚ_of_lt, not_both_ℚ}
-use Rattle.nf_rational_laws.proofs.Tests.{lt_ℚ_cases, test_of_less}
+use Rattle.nf_rational_laws.proofs.Order.{≤ℚ_of_lt}
+use Rattle.nf_rational_laws.proofs.Tests.{lt_ℚ_cases, test_of_less, test_of_not_less}
 use Rattle.nf_frac_def.specs.declared.Part.{Part}
 use Rattle.nf_frac_def.specs.declared.PassedAt.{PassedAt}
 use Rattle.nf_frac_def.specs.Checked.{Checked, at_part, each, ◌>>=◌}
 use Rattle.nf_model.specs.Curve.{Point, TimesRise}
 use Rattle.nf_model_laws.proofs.Affine.{<_≤_trans}
 use Rattle.nf_curve_def.specs.Composed.{points_between, points_along}
+use Rattle.nf_curve_laws.proofs.Composed.{rise_rest}
 use Rattle.nf_curve.specs.Places.{place_of}
 use Rattle.nf_curve.specs.Steps.{behind}
-use Rattle.nf_curve.proofs.Placing.{place-behind, place-past, place-rises, rises-rest}
+use Rattle.nf_curve.proofs.Placing.{place-behind, place-past, place-rises}
 use Rattle.nf_curve.proofs.Composing.{point_first}
 use Rattle.nf_curve.proofs.Exits.{after_err, was_ok}
 
@@ -28,9 +29,6 @@ AllLater time (p ∷ rest) = (time <ℚ p.0) × AllLater time rest
 
 abbrev lies_between : ℚ → ℚ → Point → Bool
 lies_between low high p = lt_ℚ low p.0 && lt_ℚ p.0 high
-
-not_below_test : (x y : ℚ) → y ≤ℚ x → lt_ℚ x y ≡ false
-not_below_test x y h = ⊎_elim (λ (w : (lt_ℚ x y ≡ true) × (x <ℚ y)). absurd (not_both_ℚ x y w.1 h)) (λ (w : (lt_ℚ x y ≡ false) × (y ≤ℚ x)). w.0) (lt_ℚ_cases x y)
 
 second_false : (a b : Bool) → b ≡ false → (a && b) ≡ false
 second_false true b e = e
@@ -59,7 +57,7 @@ later-from-place time [] r = tt
 later-from-place time (p ∷ rest) r = ⊎_elim
     (λ (w : (lt_ℚ time p.0 ≡ true) × (time <ℚ p.0)). subst (λ (k : ℕ). AllLater time (drop k (p ∷ rest))) (sym (place-behind time p rest w.1)) (first-later time p rest r w.1))
     (λ (w : (lt_ℚ time p.0 ≡ false) × (p.0 ≤ℚ time)). subst (λ (k : ℕ). AllLater time (drop k (p ∷ rest))) (sym (place-past time p rest w.1))
-    (later-from-place time rest (rises-rest p rest r)))
+    (later-from-place time rest (rise_rest p rest r)))
     (lt_ℚ_cases time p.0)
 
 later-front : (time : ℚ) (front back : List Point) → AllLater time (front ++ back) → AllLater time front
@@ -72,7 +70,7 @@ unfolding AllLater
 none-behind low high [] a = refl
 none-behind low high (p ∷ rest) a =
     ap (λ (b : Bool). cond b (p ∷ filter (lies_between low high) rest) (filter (lies_between low high) rest))
-    (second_false (lt_ℚ low p.0) (lt_ℚ p.0 high) (not_below_test p.0 high (≤ℚ_of_lt _ _ a.0)))
+    (second_false (lt_ℚ low p.0) (lt_ℚ p.0 high) (test_of_not_less p.0 high (≤ℚ_of_lt _ _ a.0)))
     ∙ none-behind low high rest a.1
 
 one-test : (low high : ℚ) (points : List Point) → AllLater low points → filter (lies_between low high) points ≡ filter (λ (p : Point). lt_ℚ p.0 high) points
@@ -119,7 +117,7 @@ along-up first last points i j r h e f = ap (λ (b : Bool). points_along b first
 
 pub along-down : (first last : ℚ) (points : List Point) (i j : ℕ) → TimesRise points → last <ℚ first → i ≡ place_of first points → j ≡ place_of last points
     → points_along (lt_ℚ first last) first last points ≡ filter (λ (p : Point). lt_ℚ p.0 first) (reverse (slice_range points j i))
-along-down first last points i j r h e f = ap (λ (b : Bool). points_along b first last points) (not_below_test first last (≤ℚ_of_lt _ _ h))
+along-down first last points i j r h e f = ap (λ (b : Bool). points_along b first last points) (test_of_not_less first last (≤ℚ_of_lt _ _ h))
     ∙ ap reverse (between-places last first points j i r (≤ℚ_of_lt _ _ h) f e) ∙ sym (filter-reverse (λ (p : Point). lt_ℚ p.0 first) (slice_range points j i))
 
 -- none lies between equal ones
@@ -131,7 +129,7 @@ along-level first last points s t = ap (λ (b : Bool). points_along b first last
     none (p ∷ rest) = ⊎_elim
         (λ (w : (lt_ℚ p.0 first ≡ true) × (p.0 <ℚ first)).
         ap (λ (b : Bool). cond (b && lt_ℚ p.0 first) (p ∷ filter (lies_between last first) rest) (filter (lies_between last first) rest))
-        (not_below_test last p.0 (below w.1)) ∙ none rest)
+        (test_of_not_less last p.0 (below w.1)) ∙ none rest)
         (λ (w : (lt_ℚ p.0 first ≡ false) × (first ≤ℚ p.0)).
         ap (λ (b : Bool). cond b (p ∷ filter (lies_between last first) rest) (filter (lies_between last first) rest)) (second_false (lt_ℚ last p.0) (lt_ℚ p.0 first) w.0) ∙ none rest)
         (lt_ℚ_cases p.0 first)

@@ -9,9 +9,10 @@ use Rattle.nf_frac_def.specs.Checked.{Checked, at_part, ◌>>=◌}
 use Rattle.nf_model.specs.Curve.{Point}
 use Rattle.nf_curve_def.specs.Values.{checked_value, checked_cut}
 use Rattle.nf_curve_def.specs.Composed.{composed_piece, composed_all, checked_composed}
+use Rattle.nf_rational_laws.proofs.Entries.{drop_entry}
 use Rattle.nf_curve.specs.Steps.{behind}
 use Rattle.nf_curve.proofs.Exits.{after_err, after_ok, was_ok, err_before, ok_before}
-use Rattle.nf_curve.proofs.Shortening.{drop-at, drop-two}
+use Rattle.nf_curve.proofs.Shortening.{drop-two}
 
 -- ---- a point first, and what comes behind it
 pub point_first : (front : List Point) (p : Point) (r : Checked (List Point)) → behind front (r >>= λ more. Ok (p ∷ more)) ≡ behind (front ++ p ∷ []) r
@@ -37,7 +38,7 @@ module _ (passes : Passing) (part : Part) (outer inner : List Point) (front : Li
   module _ (h i : ℕ) (p q : Point) (next : i ≡ suc h) (e : slice_get inner h ≡ Some p) (f : slice_get inner i ≡ Some q)
       (so_far : behind front (composed_all passes outer (drop h inner)) ≡ all) where
     is_piece : behind front (composed_piece passes outer p q >>= λ piece. composed_all passes outer (drop i inner) >>= λ later. Ok (piece ++ later)) ≡ all
-    is_piece = ap (behind front) (ap (λ (l : List Point). composed_piece passes outer p q >>= λ piece. composed_all passes outer l >>= λ later. Ok (piece ++ later)) (drop-at inner i q f)
+    is_piece = ap (behind front) (ap (λ (l : List Point). composed_piece passes outer p q >>= λ piece. composed_all passes outer l >>= λ later. Ok (piece ++ later)) (drop_entry inner i q f)
         ∙ ap (composed_all passes outer) (sym (drop-two inner h i p q next e f))) ∙ so_far
 
     pub pieces_stop : (a : PassedAt ℚ) → at_part part (behind front (composed_piece passes outer p q)) ≡ Err a → at_part part all ≡ Err a
@@ -60,7 +61,7 @@ module _ (passes : Passing) (part : Part) (outer inner : List Point) (front : Li
     none (x ∷ xs) (suc k) e = none xs k (let same : length xs ≡ k = omega arith in same)
 
     is_last : behind front (checked_value passes outer p.1 >>= λ y. Ok ((p.0, y) ∷ [])) ≡ all
-    is_last = ap (λ (l : List Point). behind front (composed_all passes outer l)) (sym (drop-at inner h p e ∙ ap (λ (l : List Point). p ∷ l) (none inner (suc h) last))) ∙ so_far
+    is_last = ap (λ (l : List Point). behind front (composed_all passes outer l)) (sym (drop_entry inner h p e ∙ ap (λ (l : List Point). p ∷ l) (none inner (suc h) last))) ∙ so_far
 
     pub last_stops : (a : PassedAt ℚ) → at_part part (checked_value passes outer p.1) ≡ Err a → at_part part all ≡ Err a
     last_stops a g = ap (at_part part) (sym is_last) ∙ after_err part (checked_value passes outer p.1 >>= λ y. Ok ((p.0, y) ∷ [])) _ a

@@ -6,8 +6,6 @@ use Rattle.nf_rational.specs.Rational.{ℚ}
 use Rattle.nf_rational.specs.Operations.{0ℚ}
 use Rattle.nf_rational.specs.Order.{◌≤ℚ◌, ◌<ℚ◌, lt_ℚ}
 use Rattle.nf_rational_laws.proofs.Order.{≤ℚ_of_lt, ≤ℚ_of_same, ≤ℚ_antisymm, not_both_ℚ}
-use Rattle.nf_rational_laws.proofs.Polynomial.{reading_of}
-use Rattle.nf_rational_laws.proofs.Linear.{le, lt, linear_lt}
 use Rattle.nf_rational_laws.proofs.Tests.{lt_ℚ_cases}
 use Rattle.nf_frac_def.specs.Passing.{Passing}
 use Rattle.nf_frac_def.specs.Checked.{at_part}
@@ -19,13 +17,9 @@ use Rattle.nf_rational.specs.Signs.{is_same}
 use Rattle.nf_curve_def.specs.Lines.{checked_line}
 use Rattle.nf_curve_def.specs.Values.{value_from, checked_value}
 use Rattle.nf_curve_laws.proofs.Operations.{is_same_cases}
+use Rattle.nf_curve_laws.proofs.Composed.{rise_rest}
 use Rattle.nf_curve.specs.Places.{place_of, value_between}
-use Rattle.nf_rational_laws.proofs.Chains.{≤ℚ_refl, ≤ℚ_trans}
-
--- ---- what the test of an order says
-
-pub not_below_of : (x y : ℚ) → lt_ℚ x y ≡ false → y ≤ℚ x
-not_below_of x y t = ⊎_elim (λ (w : (lt_ℚ x y ≡ true) × (x <ℚ y)). absurd (cc)) (λ (w : (lt_ℚ x y ≡ false) × (y ≤ℚ x)). w.1) (lt_ℚ_cases x y)
+use Rattle.nf_rational_laws.proofs.Chains.{≤ℚ_refl, ≤ℚ_trans, ≤_<_trans}
 
 -- ---- the place, by the first point's test
 pub place-behind : (time : ℚ) (p : Point) (rest : List Point) → time <ℚ p.0 → place_of time (p ∷ rest) ≡ zero
@@ -39,10 +33,6 @@ place-past time p rest h = ⊎_elim
     (λ (w : (lt_ℚ time p.0 ≡ true) × (time <ℚ p.0)). absurd (not_both_ℚ time p.0 w.1 h))
     (λ (w : (lt_ℚ time p.0 ≡ false) × (p.0 ≤ℚ time)). ap (λ (b : Bool). if b then zero else suc (place_of time rest)) w.0)
     (lt_ℚ_cases time p.0)
-
-pub rises-rest : (p : Point) (rest : List Point) → TimesRise (p ∷ rest) → TimesRise rest
-rises-rest p [] r = tt
-rises-rest p (q ∷ rest) r = r.1
 
 -- ---- points before the place, and behind it
 pub place_within : (time : ℚ) (points : List Point) → place_of time points ≤ length points
@@ -66,7 +56,7 @@ before-place time (x ∷ rest) i p g h = ⊎_elim
     at further (suc i) g h k = further i g (omega arith)
 
 -- all points of a curve come at or after its first
-first-least : (x : Point) (rest : List Point) (i : ℕ) (p : Point) → TimesRise (x ∷ rest) → slice_get (x ∷ rest) i ≡ Some p → x.0 ≤ℚ p.0
+pub first-least : (x : Point) (rest : List Point) (i : ℕ) (p : Point) → TimesRise (x ∷ rest) → slice_get (x ∷ rest) i ≡ Some p → x.0 ≤ℚ p.0
 first-least x rest zero p r g = subst (λ (q : Point). x.0 ≤ℚ q.0) (same_Some x p g) (≤ℚ_refl x.0)
 first-least x [] (suc i) p r g = absurd (none-some p g)
 first-least x (y ∷ rest) (suc i) p r g = ≤ℚ_trans _ _ _ (≤ℚ_of_lt _ _ r.0) (first-least y rest i p r.1 g)
@@ -84,7 +74,7 @@ pub from-place : (time : ℚ) (points : List Point) (i : ℕ) (p : Point) → Ti
 from-place time [] i p r g h = absurd (none-some p g)
 from-place time (x ∷ rest) i p r g h = ⊎_elim
     (λ (w : (lt_ℚ time x.0 ≡ true) × (time <ℚ x.0)). <_≤_trans _ _ _ w.1 (first-least x rest i p r g))
-    (λ (w : (lt_ℚ time x.0 ≡ false) × (x.0 ≤ℚ time)). at (λ i g k. from-place time rest i p (rises-rest x rest r) g k) i g (let e = place-past time x rest w.1 in omega arith))
+    (λ (w : (lt_ℚ time x.0 ≡ false) × (x.0 ≤ℚ time)). at (λ i g k. from-place time rest i p (rise_rest x rest r) g k) i g (let e = place-past time x rest w.1 in omega arith))
     (lt_ℚ_cases time x.0)
   where
     at : ((i : ℕ) → slice_get rest i ≡ Some p → place_of time rest ≤ i → time <ℚ p.0) → (i : ℕ) → slice_get (x ∷ rest) i ≡ Some p → suc (place_of time rest) ≤ i → time <ℚ p.0
@@ -215,17 +205,18 @@ value-at passes time points k p next c h e f g =
     ∙ ap (λ (o : Option Point). value_between passes time o (slice_get points k)) f
     ∙ ap (λ (o : Option Point). value_between passes time (Some p) o) g
 
-below_all : (x y z : ℚ) → x ≤ℚ y → y <ℚ z → x <ℚ z
-below_all x y z h k = linear_lt (x ∷ y ∷ z ∷ []) (le h ∷ lt k ∷ []) (search reading_of depth 12) tt
-
 -- a point before the place and one at it
 pub around-place : (time : ℚ) (points : List Point) (k : ℕ) (p q : Point) → TimesRise points → k ≡ place_of time points → 0 < k
     → slice_get points (k - 1) ≡ Some p → slice_get points k ≡ Some q → p.0 <ℚ q.0
-around-place time points k p q r e o f g = below_all p.0 time q.0 (before-place time points (k - 1) p f (omega arith)) (from-place time points k q r g (omega arith))
+around-place time points k p q r e o f g = ≤_<_trans p.0 time q.0 (before-place time points (k - 1) p f (omega arith)) (from-place time points k q r g (omega arith))
 
 pub curve-rises : (points : List Point) → IsCurve points → TimesRise points
 curve-rises [] c = absurd c
 curve-rises (p ∷ rest) c = c.1
+
+-- a point of a curve comes before the next
+pub times_apart : (points : List Point) (i : ℕ) (p q : Point) → IsCurve points → slice_get points i ≡ Some p → slice_get points (i + 1) ≡ Some q → p.0 <ℚ q.0
+times_apart points i p q c e f = rise-pairs points i (i + 1) p q (curve-rises points c) e f (omega arith)
 
 -- ---- the exits of the value at a place
 module _ (passes : Passing) (part : Part) (time : ℚ) (points : List Point) (k : ℕ) (p : Point) (c : IsCurve points) (h : 0ℚ ≤ℚ time)

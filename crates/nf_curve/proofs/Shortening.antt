@@ -11,6 +11,7 @@ use Rattle.nf_model.specs.Curve.{Point}
 use Rattle.nf_rational.specs.Signs.{is_same}
 use Rattle.nf_curve_def.specs.Lines.{checked_slope}
 use Rattle.nf_curve_def.specs.Short.{turning, checked_slopes, checked_short}
+use Rattle.nf_rational_laws.proofs.Entries.{drop_entry}
 use Rattle.nf_curve.proofs.Exits.{after_err, was_ok, front_err, front_more}
 
 -- the points from one on that turn, with the slope before it
@@ -67,13 +68,8 @@ module _ (passes : Passing) where
       by_slope (Ok before) = by_slopes before (checked_slopes passes (q ∷ rest)) ∙ ap (with_front (p ∷ [])) (short_from-slopes before q rest)
 
 -- ---- the points from a number on
-pub drop-at : {A : Type 0} (xs : List A) (i : ℕ) (x : A) → slice_get xs i ≡ Some x → drop i xs ≡ x ∷ drop (suc i) xs
-drop-at [] i x e = absurd (cc)
-drop-at (y ∷ xs) zero x e = let same : y ≡ x = cc in ap (λ (z : _). z ∷ xs) same
-drop-at (y ∷ xs) (suc i) x e = drop-at xs i x e
-
 pub drop-two : {A : Type 0} (xs : List A) (i j : ℕ) (x y : A) → j ≡ suc i → slice_get xs i ≡ Some x → slice_get xs j ≡ Some y → drop i xs ≡ x ∷ y ∷ drop (suc j) xs
-drop-two xs i j x y h e f = drop-at xs i x e ∙ ap (λ (l : List _). x ∷ l) (ap (λ (k : ℕ). drop k xs) (sym h) ∙ drop-at xs j y f)
+drop-two xs i j x y h e f = drop_entry xs i x e ∙ ap (λ (l : List _). x ∷ l) (ap (λ (k : ℕ). drop k xs) (sym h) ∙ drop_entry xs j y f)
 
 -- ---- a step
 module _ (passes : Passing) (part : Part) (points : List Point) where
@@ -82,7 +78,7 @@ module _ (passes : Passing) (part : Part) (points : List Point) where
     begins : checked_short passes points ≡ (checked_slope passes p q >>= λ before. with_front (p ∷ []) (short_from passes before (drop 1 points)))
     begins =
         let two : points ≡ p ∷ q ∷ drop 2 points = drop-two points 0 1 p q refl e f in
-        let one : drop 1 points ≡ q ∷ drop 2 points = drop-at points 1 q f in
+        let one : drop 1 points ≡ q ∷ drop 2 points = drop_entry points 1 q f in
         ap (checked_short passes) two ∙ short-begins passes p q (drop 2 points)
         ∙ ap (λ (l : List Point). checked_slope passes p q >>= λ before. with_front (p ∷ []) (short_from passes before l)) (sym one)
 
@@ -99,7 +95,7 @@ module _ (passes : Passing) (part : Part) (points : List Point) where
     is_step : with_front front (checked_slope passes q r >>= λ after. short_from passes after (drop j points) >>= λ later. Ok
         ((if is_same before after then [] else q ∷ []) ++ later)) ≡ checked_short passes points
     is_step = ap (with_front front) (ap (λ (l : List Point). checked_slope passes q r >>= λ after. short_from passes after l >>= λ later. Ok
-        ((if is_same before after then [] else q ∷ []) ++ later)) (drop-at points j r f)
+        ((if is_same before after then [] else q ∷ []) ++ later)) (drop_entry points j r f)
         ∙ ap (short_from passes before) (sym (drop-two points i j q r next e f))) ∙ so_far
 
     pub step_stops : (a : PassedAt ℚ) → at_part part (checked_slope passes q r) ≡ Err a → at_part part (checked_short passes points) ≡ Err a
@@ -124,7 +120,7 @@ module _ (passes : Passing) (part : Part) (points : List Point) where
       → at_part part (checked_short passes points) ≡ Ok (front ++ q ∷ [])
   short_ends front before i q e n so_far =
       ap (at_part part) (sym so_far ∙ ap (λ (l : List Point). with_front front (short_from passes before l))
-      (drop-at points i q e ∙ ap (λ (l : List Point). q ∷ l) (none points (suc i) n)))
+      (drop_entry points i q e ∙ ap (λ (l : List Point). q ∷ l) (none points (suc i) n)))
     where
       none : (xs : List Point) (k : ℕ) → length xs ≡ k → drop k xs ≡ []
       none [] k e = Rattle.std.proofs.Math.Seq.drop-nil k

@@ -10,10 +10,11 @@ use Rattle.nf_rational_laws.proofs.Tests.{lt_ℚ_cases}
 use Rattle.nf_model.specs.Curve.{Point, TimesRise, IsCurve}
 use Rattle.nf_curve_def.specs.Times.{merged, times_of, both_times}
 use Rattle.nf_curve_laws.proofs.Times.{merged_from-cases}
+use Rattle.nf_curve_laws.proofs.Composed.{rise_rest}
 use Rattle.nf_curve.specs.Places.{place_of, later, times_after, earlier_of, ComesNext}
 use Rattle.nf_curve.specs.Moments.{IsMoment, times_left}
 use Rattle.nf_curve.specs.declared.walk.Moment.{Moment}
-use Rattle.nf_curve.proofs.Placing.{rises-rest, curve-rises}
+use Rattle.nf_curve.proofs.Placing.{curve-rises}
 use Rattle.nf_rational_laws.proofs.Chains.{≤ℚ_refl, ≤ℚ_trans}
 use Rattle.nf_rational_laws.proofs.Extremes.{min_left, min_right, min_is_left, min_is_right}
 
@@ -59,7 +60,7 @@ pub later-steps : (time : ℚ) (points : List Point) (p : Point) (rest : List Po
 later-steps time [] p rest r e = absurd (cc)
 later-steps time (x ∷ xs) p rest r e = ⊎_elim
     (λ (w : (lt_ℚ time x.0 ≡ true) × (time <ℚ x.0)). first w.1 (sym (later-behind time x xs w.1) ∙ e))
-    (λ (w : (lt_ℚ time x.0 ≡ false) × (x.0 ≤ℚ time)). further w.1 (later-steps time xs p rest (rises-rest x xs r) (sym (later-past time x xs w.1) ∙ e)))
+    (λ (w : (lt_ℚ time x.0 ≡ false) × (x.0 ≤ℚ time)). further w.1 (later-steps time xs p rest (rise_rest x xs r) (sym (later-past time x xs w.1) ∙ e)))
     (lt_ℚ_cases time x.0)
   where
     first : time <ℚ x.0 → x ∷ xs ≡ p ∷ rest → Steps time (x ∷ xs) p rest

@@ -1,45 +1,39 @@
 -- A curve that ends at the time of its cut is its own cut.
-use Rattle.std.proofs.Common.{◌≡◌, ℕ, zero, suc, ◌+◌, ◌-◌, ◌<◌, ◌≤◌, List, [], ◌∷◌, ◌++◌, length, ⊎_elim, Bool, true, false, refl, sym, ap, ◌∙◌, arith}
+use Rattle.std.proofs.Common.{◌≡◌, ℕ, zero, suc, ◌+◌, ◌-◌, ◌<◌, ◌≤◌, List, [], ◌∷◌, ◌++◌, length, Bool, refl, sym, ap, ◌∙◌, arith}
 use Rattle.std.proofs.lemmas.Option.{none-some, same_Some, slice_get_past}
 use Rattle.std.specs.Prelude.{Some, None, slice_get, Ok, if◌then◌else◌}
 use Rattle.nf_rational.specs.Rational.{ℚ}
 use Rattle.nf_rational.specs.Operations.{0ℚ}
-use Rattle.nf_rational.specs.Order.{◌≤ℚ◌, ◌<ℚ◌, lt_ℚ}
-use Rattle.nf_rational_laws.proofs.Order.{<ℚ_irrefl, not_both_ℚ}
-use Rattle.nf_rational_laws.proofs.Tests.{lt_ℚ_cases}
+use Rattle.nf_rational.specs.Order.{◌≤ℚ◌, ◌<ℚ◌}
+use Rattle.nf_rational_laws.proofs.Tests.{not_less_itself, test_of_less}
 use Rattle.nf_frac_def.specs.Passing.{Passing}
 use Rattle.nf_frac_def.specs.Checked.{Checked, ◌>>=◌}
 use Rattle.nf_model.specs.Curve.{Point, TimesRise, IsCurve}
 use Rattle.nf_curve_def.specs.Values.{points_before, checked_value, checked_cut}
+use Rattle.nf_curve_laws.proofs.Composed.{rise_rest}
 use Rattle.nf_curve.specs.Places.{place_of}
-use Rattle.nf_curve.proofs.Placing.{rises-rest, place_within, rise-pairs, not-yet, value-at, curve-rises}
-
-not_below_self : (x : ℚ) → lt_ℚ x x ≡ false
-not_below_self x = ⊎_elim (λ (w : (lt_ℚ x x ≡ true) × (x <ℚ x)). absurd (<ℚ_irrefl x w.1)) (λ (w : (lt_ℚ x x ≡ false) × (x ≤ℚ x)). w.0) (lt_ℚ_cases x x)
-
-is_below : (x y : ℚ) → x <ℚ y → lt_ℚ x y ≡ true
-is_below x y h = ⊎_elim (λ (w : (lt_ℚ x y ≡ true) × (x <ℚ y)). w.0) (λ (w : (lt_ℚ x y ≡ false) × (y ≤ℚ x)). absurd (not_both_ℚ x y h w.1)) (lt_ℚ_cases x y)
+use Rattle.nf_curve.proofs.Placing.{place_within, rise-pairs, not-yet, value-at, curve-rises}
 
 -- the points before the last one's time, and the last one, are all
 before_end : (points : List Point) (n : ℕ) (p : Point) → TimesRise points → length points ≡ suc n → slice_get points n ≡ Some p → points_before p.0 points ++ p ∷ [] ≡ points
 before_end [] n p r e g = absurd (none-some p g)
 before_end (q ∷ []) zero p r e g =
     let same : q ≡ p = same_Some q p g in
-    ap (λ (x : Point). points_before x.0 (q ∷ []) ++ x ∷ []) (sym same) ∙ ap (λ (b : Bool). (if b then q ∷ [] else []) ++ q ∷ []) (not_below_self q.0)
+    ap (λ (x : Point). points_before x.0 (q ∷ []) ++ x ∷ []) (sym same) ∙ ap (λ (b : Bool). (if b then q ∷ [] else []) ++ q ∷ []) (not_less_itself q.0)
 before_end (q ∷ []) (suc n) p r e g = absurd (omega (arith, e))
 before_end (q ∷ x ∷ rest) zero p r e g = absurd (omega (arith, e))
 before_end (q ∷ x ∷ rest) (suc n) p r e g =
     let earlier : q.0 <ℚ p.0 = rise-pairs (q ∷ x ∷ rest) 0 (suc n) q p r refl g (omega arith) in
     let fewer : length (x ∷ rest) ≡ suc n = omega (arith, e) in
-    ap (λ (b : Bool). (if b then q ∷ points_before p.0 (x ∷ rest) else []) ++ p ∷ []) (is_below q.0 p.0 earlier)
-    ∙ ap (λ (l : List Point). q ∷ l) (before_end (x ∷ rest) n p (rises-rest q (x ∷ rest) r) fewer g)
+    ap (λ (b : Bool). (if b then q ∷ points_before p.0 (x ∷ rest) else []) ++ p ∷ []) (test_of_less q.0 p.0 earlier)
+    ∙ ap (λ (l : List Point). q ∷ l) (before_end (x ∷ rest) n p (rise_rest q (x ∷ rest) r) fewer g)
 
 pub whole_cut : (passes : Passing) (points : List Point) (n : ℕ) (p : Point) → IsCurve points → length points ≡ suc n → slice_get points n ≡ Some p → 0ℚ ≤ℚ p.0
     → checked_cut passes points p.0 ≡ Ok points
 unfolding checked_cut
 whole_cut passes points n p c e g h =
     let rises : TimesRise points = curve-rises points c in
-    let late : n < place_of p.0 points = not-yet p.0 points n p rises g (not_below_self p.0) in
+    let late : n < place_of p.0 points = not-yet p.0 points n p rises g (not_less_itself p.0) in
     let within : place_of p.0 points ≤ length points = place_within p.0 points in
     let place : suc n ≡ place_of p.0 points = omega (arith, late, within, e) in
     let past : slice_get points (suc n) ≡ None = slice_get_past points (suc n) (omega (arith, e)) in

@@ -23,7 +23,7 @@ use Rattle.nf_forever_def.specs.ForeverRun.{End, Stops, NeverEnds, RunsForever, 
 use Rattle.nf_forever_def.specs.Extended.{flow_until}
 use Rattle.nf_forever_def.specs.ForeverText.{HasForm}
 use Rattle.nf_thin_laws.proofs.OneRun.{goes_knows, start_knows}
-use Rattle.nf_forever_laws.proofs.Run.{well_forever, Equilibrium-forever, Equilibrium-until}
+use Rattle.nf_forever_laws.proofs.Run.{well_forever, Equilibrium-forever, Equilibrium-until, Equilibrium-forever_of}
 use Rattle.nf_forever_laws.specs.TailGrowth.{TailGrows}
 use Rattle.nf_settling_laws.proofs.Tail.{TailGrows-forever}
 use Rattle.nf_forever.specs.declared.forever.Tail as code
@@ -67,10 +67,6 @@ module _ (net : Network) (good : IsNetwork net) (last : Standing) (well : WellRu
     tail = (counts.1, counts.2);
   }
 
-equilibrium_of : (net : Network) (last : Standing) (end : End) → Equilibrium net (flow_of last) → Equilibrium net (forever_of last end).flow
-equilibrium_of net last (Stops cause) h = h
-equilibrium_of net last (NeverEnds pattern tail) h = h
-
 -- The flow extended by the tail is an equilibrium up to every departure.
 abbrev pub GoesOn : Network → Forever → Type 0
 GoesOn net forever = IfSome forever.tail (λ tail. (until : ℚ) → 0ℚ ≤ℚ until → Equilibrium net (flow_until net forever.flow tail until))
@@ -99,7 +95,7 @@ module _ (passes : Passing) (net : Network) (good : IsNetwork net) (phases patte
 
     pub equilibrium_told : Equilibrium net forever.flow
     equilibrium_told = subst (λ (f : Forever). Equilibrium net f.flow) (sym is.forever_is)
-        (equilibrium_of net is.last is.end (Equilibrium-forever passes net good phases patterns is.last is.end is.run))
+        (Equilibrium-forever_of net is.last is.end (Equilibrium-forever passes net good phases patterns is.last is.end is.run))
 
     pub goes_on_told : GoesOn net forever
     goes_on_told = subst (GoesOn net) (sym is.forever_is) (goes_on_of is.last is.end is.run)

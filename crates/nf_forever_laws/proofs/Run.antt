@@ -2,7 +2,7 @@
 use Rattle.std.proofs.Common.{◌≡◌, ℕ, List, Bool, true, false, if◌then◌else◌, ⊎_elim, sym, subst, refl, Option, Some, None, Result, Ok, Err}
 use Rattle.nf_forever_laws.proofs.Common.{ℚ, 0ℚ, ◌≤ℚ◌, ◌<ℚ◌, lt_ℚ, lt_ℚ_cases, Passing, checked, ◌>>=◌, Network, IsNetwork, hops, rate_at, slacks_of, sets_at}
 use Rattle.nf_forever_laws.proofs.Common.{IsThinFlow, Pattern, IsUnending, Equilibrium, Standing, Bounds, flow_of, AreSets-sets_at, same_Ok, WellRun}
-use Rattle.nf_forever_laws.proofs.Common.{WellRun-start, Tail, End, NeverEnds, RunsForever, at_phases, fails, never_ends, goes, IsForeverRun, extended, up_to}
+use Rattle.nf_forever_laws.proofs.Common.{WellRun-start, Tail, End, Stops, NeverEnds, forever_of, RunsForever, at_phases, fails, never_ends, goes, IsForeverRun, extended, up_to}
 use Rattle.nf_forever_laws.proofs.Common.{flow_until}
 use Rattle.nf_frac_def.specs.declared.Op.TheVariants.{Sum}
 use Rattle.nf_frac_def.specs.declared.Passed.{Passed}
@@ -13,6 +13,11 @@ use Rattle.nf_phase_laws.proofs.Run.{HasShape-well, HasSlopes-well, Equilibrium-
 use Rattle.nf_phase_def.specs.ToEnd.{end_after, end_list, GoesForever}
 use Rattle.nf_forever_laws.proofs.Before.{Equilibrium-before}
 use Rattle.nf_forever_laws.proofs.Tails.{Equilibrium-extended}
+
+-- ---- the last flow of a run that stops or never ends
+pub Equilibrium-forever_of : (net : Network) (last : Standing) (end : End) → Equilibrium net (flow_of last) → Equilibrium net (forever_of last end).flow
+Equilibrium-forever_of net last (Stops cause) h = h
+Equilibrium-forever_of net last (NeverEnds pattern tail) h = h
 
 -- ---- a phase without an end has no greatest length
 ok_err : {A E : Type 0} (e : E) (x : A) → ◌≡◌ {A = Result A E} (Err e) (Ok x) → ⊥

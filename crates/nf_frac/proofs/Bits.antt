@@ -1,5 +1,5 @@
 -- Signed numbers converted to 128 bits and back.
-use Rattle.std.proofs.Common.{◌≡◌, refl, neg_ℤ, suc, zero, ℕ, ◌<◌, ◌≤◌, ℤ, pos, negsuc, ◌+ℤ◌, ◌*ℤ◌, nat_abs, sym, ◌∙◌, ap, subst, arith}
+use Rattle.std.proofs.Common.{◌≡◌, ℕ, ◌<◌, ◌≤◌, ℤ, pos, negsuc, ◌+ℤ◌, ◌*ℤ◌, nat_abs, sym, ◌∙◌, ap, subst, arith}
 use mathlib.Core.Path.{ap₂}
 use mir.Syntax.{w128}
 use mir.Val.{to_z, of_z, SFits}
@@ -69,9 +69,3 @@ cast_plain k h = to_z_pos w128 (omega arith)
 -- the greatest common divisor of a number and 1 is 1
 pub IsGcd-one : (a b : ℕ) → b ≡ 1 → IsGcd a b 1
 IsGcd-one a b e = subst (λ (k : ℕ). IsGcd a k 1) (sym e) (one-dvd a, one-dvd 1, λ g u v. v)
-
--- ---- magnitudes
-pub abs-neg : (a : ℤ) → nat_abs (neg_ℤ a) ≡ nat_abs a
-abs-neg (pos zero) = refl
-abs-neg (pos (suc a)) = refl
-abs-neg (negsuc a) = refl

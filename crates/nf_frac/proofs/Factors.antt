@@ -8,9 +8,8 @@ use Rattle.std.specs.Int.{IsGcd}
 use Rattle.std.proofs.lemmas.Nat.Gcd.{IsGcd-swap, same_from_IsGcd}
 use Rattle.nf_rational.specs.Gcd.{gcd, IsGcd-gcd}
 use Rattle.nf_rational.specs.Rational.{ℚ, parts_reduced}
-use Rattle.nf_rational_laws.proofs.Ints.{abs-mul}
+use Rattle.nf_rational_laws.proofs.Ints.{abs-mul, abs-neg}
 use Rattle.nf_rational_laws.proofs.Products.{apart_parts, divides, lowest_parts, split_dvd}
-use Rattle.nf_frac.proofs.Bits.{abs-neg}
 
 itself : (a : ℕ) → a ∣ a
 itself a = subst (λ (m : ℕ). a ∣ m) (one_times a) (dvd-mul_right a 1)

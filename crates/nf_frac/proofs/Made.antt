@@ -24,10 +24,10 @@ use Rattle.nf_frac.proofs.Bits.{cast_plain}
 use Rattle.nf_frac.proofs.Form.{ratio_within}
 
 -- ---- whole numbers
-lowest_one : (m : ℕ) → gcd m 1 ≡ 1
+pub lowest_one : (m : ℕ) → gcd m 1 ≡ 1
 lowest_one m = same_from_IsGcd m 1 _ _ (IsGcd-gcd m 1) (one-dvd m, one-dvd 1, λ e u v. v)
 
-num-whole : (n : ℤ) → (whole n).num ≡ n
+pub num-whole : (n : ℤ) → (whole n).num ≡ n
 unfolding whole
 num-whole n = num-ratio n 1 (omega arith) (lowest_one (nat_abs n))
 

@@ -1,9 +1,10 @@
 -- The computed product of small numbers, if it is small too.
-use Rattle.std.proofs.Common.{◌≡◌, ℕ, suc, ◌/◌, ◌≤◌, ℤ, pos, negsuc, neg_ℤ, nat_abs, sym, ap, ◌∙◌, arith}
+use Rattle.std.proofs.Common.{◌≡◌, ℕ, ◌/◌, ◌≤◌, ℤ, pos, nat_abs, sym, ap, ◌∙◌}
 use mathlib.Core.Path.{ap₂}
 use lib.Signed.{quot_z}
 use Rattle.nf_rational.specs.Gcd.{gcd}
 use Rattle.nf_rational.specs.Rational.{ℚ}
+use Rattle.nf_rational.proofs.Lowest.{quot_one, over_one}
 use Rattle.nf_frac.specs.Short.{short}
 use Rattle.nf_frac.proofs.SmallParts.{bits_64, plain_64, gcd_one}
 use Rattle.nf_frac.proofs.SmallSums.{part_plain}
@@ -19,16 +20,9 @@ pub left_den : (x y : ℚ) (d g u : ℕ) → d ≡ x.den → g ≡ gcd (nat_abs 
 left_den x y d g u xd common part = part ∙ ap₂ (λ (a b : ℕ). a / b) xd common
 
 -- ---- two whole numbers
-by_one : (k : ℕ) → k / 1 ≡ k
-by_one k = omega arith
-
-quot_one : (z : ℤ) → quot_z z (pos 1) ≡ z
-quot_one (pos n) = ap pos (by_one n)
-quot_one (negsuc n) = ap (λ (k : ℕ). neg_ℤ (pos k)) (by_one (suc n))
-
 pub whole_num : (x y : ℚ) (n : ℤ) → n ≡ x.num → nat_abs n ≤ short → y.den ≡ 1 → bits_64 n ≡ quot_z x.num (pos (gcd (nat_abs x.num) y.den))
 whole_num x y n xn small one =
     left_num x y n n 1 xn small (gcd_one (nat_abs x.num) y.den one) (sym (quot_one n) ∙ ap (λ (z : ℤ). quot_z z (pos 1)) (sym (plain_64 n small)))
 
 pub whole_den : (x y : ℚ) → x.den ≡ 1 → 1 ≡ x.den / gcd (nat_abs y.num) x.den
-whole_den x y one = left_den x y 1 1 1 (sym one) (gcd_one (nat_abs y.num) x.den one) (sym (by_one 1))
+whole_den x y one = left_den x y 1 1 1 (sym one) (gcd_one (nat_abs y.num) x.den one) (sym (over_one 1))

@@ -10,7 +10,7 @@ use Rattle.nf_rational.specs.Operations.{0ℚ, neg_ℚ, inv_ℚ, signed_as}
 use Rattle.nf_rational.proofs.Lowest.{num-ratio, den-ratio}
 use Rattle.nf_frac.specs.Parts.{IsWithin, signed}
 use Rattle.nf_rational_laws.proofs.Quotient.{abs_positive, num_zero}
-use Rattle.nf_frac.proofs.Bits.{abs-neg}
+use Rattle.nf_rational_laws.proofs.Ints.{abs-neg}
 
 -- ---- the negation
 neg_lowest : (x : ℚ) → gcd (nat_abs (neg_ℤ x.num)) x.den ≡ 1

@@ -10,6 +10,10 @@ abbrev pub with_front : {B E : Type 0} → List B → Result (List B) E → Resu
 with_front front (Ok ys) = Ok (front ++ ys)
 with_front front (Err p) = Err p
 
+pub no_front : {B E : Type 0} (r : Result (List B) E) → with_front [] r ≡ r
+no_front (Ok ys) = refl
+no_front (Err p) = refl
+
 module _ {A B E : Type 0} (f : A → Result B E) where
   front-cons : (front : List B) (y : B) (r : Result (List B) E) → with_front front (r >>= λ ys. Ok (y ∷ ys)) ≡ with_front (front ++ y ∷ []) r
   front-cons front y (Ok ys) = ap Ok (sym (append_assoc front (y ∷ []) ys))

@@ -1,7 +1,7 @@
 -- Entries of lists with one entry for each node.
-use Rattle.std.proofs.Common.{◌≡◌, ℕ, zero, suc, ◌<◌, List, [], ◌∷◌, length, get_or, set, false, replicate, Option, Some, None, slice_get, ◌⊎◌, inl, inr, ⊎_elim, subst, refl, ◌∙◌, sym, ap, arith}
+use Rattle.std.proofs.Common.{◌≡◌, ℕ, zero, suc, ◌<◌, List, [], ◌∷◌, length, get_or, set, false, replicate, Option, Some, None, slice_get, ◌⊎◌, inl, inr, subst, refl, ◌∙◌, sym, ap, arith}
 use Rattle.std.specs.Option.{is_some}
-use Rattle.std.proofs.lemmas.Option.{slice_get-get_or, slice_get_read, same_Some}
+use Rattle.std.proofs.lemmas.Option.{slice_get-get_or, slice_get_read}
 use Rattle.std.proofs.lemmas.Bool.{true≢false}
 use Rattle.nf_rational.specs.Rational.{ℚ}
 use Rattle.nf_graph.specs.Distances.{HasSum, IsUnsettled}
@@ -19,18 +19,6 @@ entry_cases (None ∷ sums) zero h = inr refl
 entry_cases (o ∷ sums) (suc v) h = entry_cases sums v (omega arith)
 
 -- ---- a list with one entry changed
-pub set_same : {A : Type 0} (xs : List A) (v : ℕ) (y : A) → v < length xs → slice_get (set xs v y) v ≡ Some y
-set_same [] v y h = absurd (omega arith)
-set_same (x ∷ xs) zero y h = refl
-set_same (x ∷ xs) (suc v) y h = set_same xs v y (omega arith)
-
-pub set_cases : {A : Type 0} (xs : List A) (v w : ℕ) (y x : A) → slice_get (set xs v y) w ≡ Some x → ((w ≡ v) × (x ≡ y)) ⊎ (slice_get xs w ≡ Some x)
-set_cases [] v w y x h = inr h
-set_cases (p ∷ xs) zero zero y x h = inl (refl, same_Some x y (sym h))
-set_cases (p ∷ xs) zero (suc w) y x h = inr h
-set_cases (p ∷ xs) (suc v) zero y x h = inr h
-set_cases {A} (p ∷ xs) (suc v) (suc w) y x h = ⊎_elim (λ (e : (w ≡ v) × (x ≡ y)). inl (ap suc e.0, e.1)) (λ (k : slice_get xs w ≡ Some x). inr k) (set_cases xs v w y x h)
-
 pub set_apart : {A : Type 0} (xs : List A) (v w : ℕ) (y x : A) → (w ≡ v → ⊥) → slice_get xs w ≡ Some x → slice_get (set xs v y) w ≡ Some x
 set_apart [] v w y x n h = h
 set_apart (p ∷ xs) zero zero y x n h = absurd (n refl)

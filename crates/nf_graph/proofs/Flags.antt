@@ -46,6 +46,9 @@ not_set (true ∷ flags) zero h k = absurd (k refl)
 not_set (false ∷ flags) zero h k = refl
 not_set (b ∷ flags) (suc i) h k = not_set flags i (omega arith) k
 
+pub Has-not_unset : (flags : List Bool) (i : ℕ) → slice_get flags i ≡ Some false → Has flags i → ⊥
+Has-not_unset flags i unset h = cc
+
 pub Has-within : (flags : List Bool) (i : ℕ) → Has flags i → i < length flags
 Has-within flags i h = slice_get_within flags i true h
 

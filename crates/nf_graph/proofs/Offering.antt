@@ -10,6 +10,7 @@ use Rattle.nf_rational_laws.proofs.Order.{≤ℚ_of_same}
 use Rattle.nf_rational_laws.proofs.Chains.{≤ℚ_trans}
 use Rattle.nf_rational_laws.proofs.Tests.{min_ℚ_cases}
 use Rattle.nf_rational_laws.proofs.Extremes.{min_left, min_right}
+use Rattle.nf_rational_laws.proofs.Entries.{set_cases, set_same}
 use Rattle.nf_frac_def.specs.declared.Op.{Op}
 use Rattle.nf_frac_def.specs.declared.Passed as Work
 use Rattle.nf_frac_def.specs.Passing.{Passing, result_of}
@@ -21,7 +22,7 @@ use Rattle.nf_graph.specs.declared.distance.DistanceFault.TheVariants.{Passed, M
 use Rattle.nf_graph.specs.Distances.{HasSum, IsUnsettled, Offers, SumPasses, AreOffers, AnyLink, LinksBefore, PassesAlong, StopsAt}
 use Rattle.nf_graph.specs.Steps.{ForPassed, lesser_offer, IsOffered, PassesFrom, IsStepTo, IsNearer, IsNearestBefore, IsNearest}
 use Rattle.nf_graph.proofs.Walks.{IsHop-unique, IsHop-read}
-use Rattle.nf_graph.proofs.Entries.{HasSum-unique, entry_cases, set_same, set_cases, set_apart, set_other, replicate_open}
+use Rattle.nf_graph.proofs.Entries.{HasSum-unique, entry_cases, set_apart, set_other, replicate_open}
 
 -- ---- an operation that passed, and one that did not
 pub checked-ok : (passes : Passing) (op : Op) (x y r : ℚ) → Ok r ≡ checked passes op x y → (r ≡ result_of op x y) × (passes op x y ≡ true → ⊥)

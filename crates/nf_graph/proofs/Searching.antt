@@ -4,9 +4,9 @@ use Rattle.std.proofs.Math.ListN.{length-set}
 use Rattle.std.proofs.lemmas.Option.{slice_get_within}
 use Rattle.std.proofs.lemmas.Bool.Decides.{eqb_tells}
 use Rattle.nf_model.specs.Walk.{Hop}
+use Rattle.nf_rational_laws.proofs.Entries.{set_cases}
 use Rattle.nf_graph.specs.Order.{EntersFromUnplaced, NoneEnters, AreSearched}
 use Rattle.nf_graph.proofs.Flags.{Has-set_other}
-use Rattle.nf_graph.proofs.Entries.{set_cases}
 
 module _ (hops : List Hop) (chosen placed : List Bool) where
   pub none_more : (v e : ℕ) → NoneEnters hops chosen placed v e → (EntersFromUnplaced hops chosen placed e v → ⊥) → NoneEnters hops chosen placed v (e + 1)

@@ -6,41 +6,27 @@ use Rattle.nf_rational.specs.Rational.{ℚ}
 use Rattle.nf_rational.specs.Operations.{0ℚ, ◌+ℚ◌}
 use Rattle.nf_rational.specs.Order.{◌≤ℚ◌}
 use Rattle.nf_rational_laws.proofs.Polynomial.{reading_of}
-use Rattle.nf_rational_laws.proofs.Order.{≤ℚ_of_same, ≤ℚ_antisymm, nn_plus}
-use Rattle.nf_rational_laws.proofs.Linear.{le, eq, linear_le, linear_eq}
+use Rattle.nf_rational_laws.proofs.Order.{nn_plus}
+use Rattle.nf_rational_laws.proofs.Linear.{le, eq, linear_le}
+use Rattle.nf_rational_laws.proofs.Entries.{set_cases, set_same}
+use Rattle.nf_rational_laws.proofs.Chains.{≤ℚ_refl}
 use Rattle.nf_model.specs.Walk.{Hop, IsHop, IsWalk, transit_of, transit_sum, IsLeastTransit}
 use Rattle.nf_graph.specs.Graph.{AreBelow}
 use Rattle.nf_graph.specs.declared.distance.Step.{Step}
 use Rattle.nf_graph.specs.Distances.{NoNegativeTransit, AreDistances, PassesAt, StopsAt, HasSum, IsUnsettled, Offers, AreOffers, AnyLink, AllFit, SumPasses}
 use Rattle.nf_graph.specs.Steps.{IsNearest}
-use Rattle.nf_graph.proofs.Entries.{HasSum-not_open, entry_cases, set_same, set_cases, set_other, unsettled, fewer_unsettled, replicate_open}
+use Rattle.nf_graph.proofs.Entries.{HasSum-not_open, entry_cases, set_other, unsettled, fewer_unsettled, replicate_open}
 use Rattle.nf_graph.proofs.Offering.{nearest_offers, nearest_least, nearest_none}
-use Rattle.nf_model_laws.proofs.Networks.{IsWalk-append, transit_of-hop}
+use Rattle.nf_model_laws.proofs.Networks.{IsWalk-append, transit_of-hop, transit_sum-append}
+use Rattle.nf_model_laws.proofs.OneValue.{IsLeastTransit-unique}
 
 -- ---- sums along walks
-none_nn : 0ℚ ≤ℚ 0ℚ
-none_nn = ≤ℚ_of_same 0ℚ 0ℚ refl
-
 transit_of-nn : (hops : List Hop) (e : ℕ) (hop : Hop) → NoNegativeTransit hops → IsHop hops e hop → 0ℚ ≤ℚ transit_of hops e
 transit_of-nn hops e hop n p = subst (λ (t : ℚ). 0ℚ ≤ℚ t) (sym (transit_of-hop hops e hop p)) (n e hop p)
 
 pub transit_sum-nn : (hops : List Hop) (walk : List ℕ) (v w : ℕ) → NoNegativeTransit hops → IsWalk hops walk v w → 0ℚ ≤ℚ transit_sum hops walk
-transit_sum-nn hops [] v w n h = none_nn
+transit_sum-nn hops [] v w n h = ≤ℚ_refl 0ℚ
 transit_sum-nn hops (e ∷ walk) v w n h = nn_plus _ _ (transit_of-nn hops e h.0 n h.1) (transit_sum-nn hops walk h.0.head w n h.3)
-
-one_more : (a b c d s : ℚ) → s ≡ b +ℚ c → d ≡ a +ℚ b → a +ℚ s ≡ d +ℚ c
-one_more a b c d s e f = linear_eq (a ∷ b ∷ c ∷ d ∷ s ∷ []) (eq e ∷ eq f ∷ []) (search reading_of depth 12) tt tt
-
-alone : (a : ℚ) → a +ℚ 0ℚ ≡ 0ℚ +ℚ a
-alone a = linear_eq (a ∷ []) [] (search reading_of depth 12) tt tt
-
-pub transit_sum-append : (hops : List Hop) (walk : List ℕ) (e : ℕ) → transit_sum hops (walk ++ e ∷ []) ≡ transit_sum hops walk +ℚ transit_of hops e
-transit_sum-append hops [] e = alone (transit_of hops e)
-transit_sum-append hops (f ∷ walk) e = one_more _ _ _ _ _ (transit_sum-append hops walk e) refl
-
-pub IsLeastTransit-unique : (hops : List Hop) (v w : ℕ) (a b : ℚ) → IsLeastTransit hops v w a → IsLeastTransit hops v w b → a ≡ b
-IsLeastTransit-unique hops v w a b h k = ≤ℚ_antisymm a b
-    (subst (λ (t : ℚ). a ≤ℚ t) k.taken.2 (h.bound k.taken.0 k.taken.1)) (subst (λ (t : ℚ). b ≤ℚ t) h.taken.2 (k.bound h.taken.0 h.taken.1))
 
 -- ---- the nodes settled so far have their least sums
 pub record AreSettled (nodes : ℕ) (hops : List Hop) (from : ℕ) (sums : List (Option ℚ)) : Type 0 where

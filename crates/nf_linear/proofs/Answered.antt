@@ -6,12 +6,12 @@ use Rattle.nf_frac_def.specs.Passing.{Passing}
 use Rattle.nf_frac_def.specs.declared.Halt.{Halt}
 use Rattle.nf_frac_def.specs.declared.Part.TheVariants as Part
 use Rattle.nf_frac_def.specs.Checked.{Checked, Stops, at_part, ◌>>=◌}
+use Rattle.nf_frac_def.proofs.AtPart.{part_ok}
 use Rattle.nf_linear_def.specs.Table.{Row, Eliminated, eliminate_from, if_some, solution_from, solution_of, table_list}
 use Rattle.nf_linear_laws.specs.Solution.{IsSquare, IsOnlySolution}
 use Rattle.nf_linear_laws.proofs.Solutions.{one_solution, not_one_solution}
 use Rattle.nf_linear.specs.Pivots.{eliminated}
 use Rattle.nf_linear.proofs.Fronts.{stops}
-use Rattle.nf_linear.proofs.Taken.{ok_of_part}
 
 module _ (passes : Passing) (table : List Row) where
   abbrev columns : Checked (Option Eliminated)
@@ -30,7 +30,7 @@ module _ (passes : Passing) (table : List Row) where
       (stops Part.Table means h columns (if_some passes (solution_of passes)) e)
 
   nothing : at_part Part.Table columns ≡ Ok None → listed ≡ Ok None
-  nothing e = opened ∙ ap (λ (r : Checked (Option Eliminated)). r >>= if_some passes (solution_of passes)) (ok_of_part Part.Table columns None (sym e))
+  nothing e = opened ∙ ap (λ (r : Checked (Option Eliminated)). r >>= if_some passes (solution_of passes)) (part_ok Part.Table columns None (sym e))
 
   pub not_one_listed : at_part Part.Table columns ≡ Ok None → at_part Part.Table listed ≡ Ok None
   not_one_listed e = ap (at_part Part.Table) (nothing e)
@@ -44,14 +44,14 @@ module _ (passes : Passing) (table : List Row) where
 
     with_values : listed ≡ (values >>= λ xs. Ok (Some xs))
     with_values = opened ∙ ap (λ (r : Checked (Option Eliminated)). r >>= if_some passes (solution_of passes))
-        (ok_of_part Part.Table columns (Some (eliminated rows pivots)) (sym cleared))
+        (part_ok Part.Table columns (Some (eliminated rows pivots)) (sym cleared))
 
     pub values_stop : {S : Type 0} (means : S → ℚ) (h : Halt S) → Stops means h (at_part Part.Table values) → Stops means h (at_part Part.Table listed)
     values_stop means h e = subst (λ (r : Checked (Option (List ℚ))). Stops means h (at_part Part.Table r)) (sym with_values) (stops Part.Table means h values (λ xs. Ok (Some xs)) e)
 
     module _ (xs : List ℚ) (e : at_part Part.Table values ≡ Ok xs) where
       found : listed ≡ Ok (Some xs)
-      found = with_values ∙ ap (λ (r : Checked (List ℚ)). r >>= λ xs. Ok (Some xs)) (ok_of_part Part.Table values xs (sym e))
+      found = with_values ∙ ap (λ (r : Checked (List ℚ)). r >>= λ xs. Ok (Some xs)) (part_ok Part.Table values xs (sym e))
 
       pub one_listed : at_part Part.Table listed ≡ Ok (Some xs)
       one_listed = ap (at_part Part.Table) found

@@ -9,6 +9,7 @@ use Rattle.nf_frac_def.specs.declared.PassedAt.{PassedAt}
 use Rattle.nf_frac_def.specs.declared.Part.{Part}
 use Rattle.nf_frac_def.specs.Checked.{Checked, at_part, ◌>>=◌}
 use Rattle.nf_frac_def.proofs.Each.{with_front}
+use Rattle.nf_frac_def.proofs.AtPart.{part_ok}
 use Rattle.nf_model.specs.Entries.{number_at}
 use Rattle.nf_rational.specs.Signs.{is_zero}
 use Rattle.nf_linear_def.specs.Table as Lists
@@ -16,7 +17,6 @@ use Rattle.nf_linear_def.specs.Table.{Row, row_at}
 use Rattle.nf_linear_laws.specs.Solution.{IsSquare}
 use Rattle.nf_linear.specs.Rows.{some_from, clear_unless, clear_each}
 use Rattle.nf_linear.proofs.Fronts.{take_set, drop_set, take_whole, first_before, one_before, stopped, stopped_before}
-use Rattle.nf_linear.proofs.Taken.{ok_of_part}
 use Rattle.nf_linear.proofs.Sparse.{clear_row-is}
 use Rattle.nf_linear.proofs.Columns.{drop_row}
 
@@ -81,7 +81,7 @@ module _ (passes : Passing) (column pivot : ℕ) (own : ℚ) (later : List (ℕ 
     pub cleared_more : (y : Row) → Ok y ≡ at_part Part.Table (step i (row_at rows i)) → ClearedSoFar before (set rows i y) (i + 1)
     cleared_more y e =
         let n : i + 1 ≡ suc i = add-one i in
-        let gives : step i (row_at rows i) ≡ Ok y = ok_of_part Part.Table (step i (row_at rows i)) y e in
+        let gives : step i (row_at rows i) ≡ Ok y = part_ok Part.Table (step i (row_at rows i)) y e in
         subst (ClearedSoFar before (set rows i y)) (sym n) (record {
           rest = drop_set rows i y ∙ drop_more_row rows before i h.rest;
           same = ap (at_part Part.Table)

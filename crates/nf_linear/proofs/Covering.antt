@@ -1,5 +1,5 @@
 -- The sets of rows of each column: which numbers they tell to be 0, and how a step of the elimination changes them.
-use Rattle.std.proofs.Common.{◌≡◌, ℕ, zero, suc, ◌+◌, ◌%◌, ◌<◌, ◌≤◌, List, [], ◌∷◌, length, set, get_or, replicate, Bool, true, false, ◌||◌, ⊎_elim, refl, sym, ap, subst, ◌∙◌, length-set, arith}
+use Rattle.std.proofs.Common.{◌≡◌, ℕ, zero, suc, ◌+◌, ◌%◌, ◌<◌, ◌≤◌, List, [], ◌∷◌, length, set, get_or, Bool, true, false, ◌||◌, ⊎_elim, refl, sym, ap, subst, ◌∙◌, length-set, arith}
 use Rattle.std.specs.Prelude.{◌==◌, Ok, Err}
 use Rattle.std.specs.Int.{bit_at}
 use Rattle.std.specs.Int.RustNames.{bit_or}
@@ -34,11 +34,6 @@ number-set_zero (y ∷ row) zero zero e = refl
 number-set_zero (y ∷ row) zero (suc i) e = e
 number-set_zero (y ∷ row) (suc k) zero e = e
 number-set_zero (y ∷ row) (suc k) (suc i) e = number-set_zero row k i e
-
-pub number-zeros : (n i : ℕ) → number_at (replicate n 0ℚ) i ≡ 0ℚ
-number-zeros zero i = refl
-number-zeros (suc n) zero = refl
-number-zeros (suc n) (suc i) = number-zeros n i
 
 -- one number of a row changes, and its column is put into the set
 pub zero_kept : (word after column : ℕ) (row : Row) (x : ℚ) → IsWithin word after → bit_at after (column % 64) ≡ 1 → AreZeroUnless word row → AreZeroUnless after (set row column x)

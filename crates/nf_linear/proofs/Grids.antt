@@ -1,9 +1,8 @@
 -- Rows in place: a number that is read or set in one, and fronts of lists.
 use Rattle.std.proofs.Common.{◌≡◌, ℕ, zero, suc, ◌+◌, ◌<◌, ◌≤◌, List, [], ◌∷◌, ◌++◌, length, set, take, get_or, replicate, refl, sym, ap, subst, ◌∙◌, arith, length-take-le, length-append}
-use Rattle.std.proofs.lemmas.List.{append-nil}
+use Rattle.std.proofs.lemmas.List.{take_all}
 use Rattle.nf_rational.specs.Rational.{ℚ}
 use Rattle.nf_model.specs.Entries.{number_at}
-use Rattle.nf_linear.proofs.Fronts.{take_whole}
 
 pub row_set_cell : (cells : List ℚ) (right x : ℚ) (n column : ℕ) → column < n → n ≤ length cells → take n (set cells column x) ++ right ∷ [] ≡ set (take n cells ++ right ∷ []) column x
 row_set_cell [] right x zero column b e = absurd (omega arith)
@@ -33,13 +32,9 @@ cell_at cells now right d n column e b k = go cells n column b k ∙ ap (λ (l :
     go (y ∷ cells) (suc n) zero b k = refl
     go (y ∷ cells) (suc n) (suc column) b k = go cells n column (omega arith) (omega arith)
 
--- a front that is the whole list
-pub whole_front : {A : Type 0} (xs : List A) (k : ℕ) → length xs ≤ k → take k xs ≡ xs
-whole_front xs k end = sym (append-nil (take k xs)) ∙ take_whole xs k end
-
 pub all_copies : {A : Type 0} (rows : List A) (i n : ℕ) (x : A) → take i rows ≡ replicate i x → length rows ≡ n → n ≤ i → i ≤ n → rows ≡ replicate n x
 all_copies rows i n x same long end within =
-    sym (whole_front rows i (subst (λ (m : ℕ). m ≤ i) (sym long) end)) ∙ same ∙ ap (λ (k : ℕ). replicate k x) (omega (arith, end, within))
+    sym (take_all i rows (subst (λ (m : ℕ). m ≤ i) (sym long) end)) ∙ same ∙ ap (λ (k : ℕ). replicate k x) (omega (arith, end, within))
 
 pub last_column : (column size long front : ℕ) → column < long → long ≡ size + 1 → size ≤ column → front ≡ size → column ≡ front
 last_column column size long front h e b f = omega (arith, h, e, b, f)

@@ -4,16 +4,9 @@ use Rattle.std.specs.Prelude.{◌==◌}
 use Rattle.std.specs.List.{list_any}
 use Rattle.std.proofs.lemmas.List.{get_or-set_same, get_or-set_other}
 use Rattle.std.proofs.lemmas.List.Folds.{list_any-append}
+use Rattle.std.proofs.Math.Bool.{or-true, or-false}
 use borrow.Author.Tests.{eqb-true, eq-eqb}
 use Rattle.nf_linear.specs.Pivots.{AreTaken}
-
-either_false : (a : Bool) → (a || false) ≡ a
-either_false true = refl
-either_false false = refl
-
-either_true : (a : Bool) → (a || true) ≡ true
-either_true true = refl
-either_true false = refl
 
 true_false : true ≡ false → ⊥
 true_false e = cc
@@ -27,7 +20,7 @@ one_more : (rows : List ℕ) (row i : ℕ) (b : Bool) → eqb row i ≡ b → li
 one_more rows row i b e = list_any-append (λ pivot. pivot == i) rows (row ∷ []) ∙ ap (λ (t : Bool). list_any (λ pivot. pivot == i) rows || (t || false)) e
 
 other_more : (rows : List ℕ) (row i : ℕ) → (row ≡ i → ⊥) → list_any (λ pivot. pivot == i) (rows ++ row ∷ []) ≡ list_any (λ pivot. pivot == i) rows
-other_more rows row i apart = one_more rows row i false (other_row row i _ apart refl) ∙ either_false _
+other_more rows row i apart = one_more rows row i false (other_row row i _ apart refl) ∙ or-false _
 
 pub taken_more : (taken : List Bool) (rows : List ℕ) (row : ℕ) (after : List ℕ) → row < length taken → after ≡ rows ++ row ∷ [] → AreTaken taken rows
     → AreTaken (set taken row true) after
@@ -36,7 +29,7 @@ taken_more taken rows row after some e h i b d = go (eqb row i) refl ∙ ap (lis
     go : (t : Bool) → eqb row i ≡ t → get_or (set taken row true) i d ≡ list_any (λ pivot. pivot == i) (rows ++ row ∷ [])
     go true f =
         ap (λ (k : ℕ). get_or (set taken row true) k d) (sym (eqb-true row i f)) ∙ get_or-set_same taken row true d some
-        ∙ sym (one_more rows row i true f ∙ either_true _)
+        ∙ sym (one_more rows row i true f ∙ or-true _)
     go false f =
         let apart : row ≡ i → ⊥ = (λ (same : row ≡ i). absurd (true_false (sym (eq-eqb row i same) ∙ f))) in
         get_or-set_other taken row i true d (λ same. apart (sym same))

@@ -2,6 +2,7 @@
 use Rattle.std.proofs.Common.{◌≡◌, ℕ, zero, suc, ◌+◌, ◌-◌, ◌<◌, ◌≤◌, List, [], ◌∷◌, length, set, drop, Bool, true, false, not, ◌&&◌, ◌||◌, Ok, refl, sym, ap, subst, ◌∙◌, add-zero, arith}
 use Rattle.std.specs.Prelude.{◌==◌, if◌then◌else◌}
 use Rattle.std.specs.List.{list_any}
+use Rattle.std.proofs.Math.Bool.{or-true}
 use Rattle.nf_rational.specs.Rational.{ℚ}
 use Rattle.nf_rational.specs.Operations.{0ℚ}
 use Rattle.nf_frac_def.specs.Passing.{Passing}
@@ -19,10 +20,6 @@ use Rattle.nf_linear.proofs.Sparse.{drop_one}
 and_false : (a : Bool) → false ≡ (a && false)
 and_false true = refl
 and_false false = refl
-
-or_true : (a : Bool) → (a || true) ≡ true
-or_true true = refl
-or_true false = refl
 
 pub set_same : (rows : List Row) (i : ℕ) → i < length rows → set rows i (row_at rows i) ≡ rows
 set_same [] i b = refl
@@ -76,7 +73,7 @@ module _ (passes : Passing) (column pivot : ℕ) (own : ℚ) (later : List (ℕ 
   row_stays : (i : ℕ) (row : Row) → number_at row column ≡ 0ℚ → Ok row ≡ at_part Part.Table (clear_unless passes (i == pivot || is_zero (number_at row column)) column own later row)
   row_stays i row e =
       sym (ap (λ (t : Bool). at_part Part.Table (clear_unless passes t column own later row))
-      (ap (λ (t : Bool). i == pivot || t) (is_zero-at (number_at row column) e) ∙ or_true (i == pivot)))
+      (ap (λ (t : Bool). i == pivot || t) (is_zero-at (number_at row column) e) ∙ or-true (i == pivot)))
 
   stays_one : (before rows : List Row) (i : ℕ) → i < length rows → length rows ≡ length before → number_at (row_at before i) column ≡ 0ℚ
       → ClearedSoFar passes column pivot own later before rows i → ClearedSoFar passes column pivot own later before rows (i + 1)

@@ -6,6 +6,7 @@ use Rattle.nf_rational.specs.Operations.{0ℚ}
 use Rattle.nf_frac_def.specs.Passing.{Passing}
 use Rattle.nf_frac_def.specs.declared.Op.TheVariants.{Quotient}
 use Rattle.nf_frac_def.specs.Checked.{Checked, checked, fold_checked, ◌>>=◌}
+use Rattle.nf_frac_def.proofs.Binding.{bind_same}
 use Rattle.nf_model.specs.Entries.{number_at}
 use Rattle.nf_rational.specs.Signs.{is_zero}
 use Rattle.nf_linear_def.specs.Table.{Row, less_unless, entries_less, cleared_row}
@@ -24,10 +25,6 @@ take_one (x ∷ xs) zero b = refl
 take_one (x ∷ xs) (suc k) b = ap (λ (l : List ℚ). x ∷ l) (take_one xs k (omega arith))
 
 -- ---- one computation after another
-same_after : {A B : Type 0} (r : Checked A) (f g : A → Checked B) → ((x : A) → f x ≡ g x) → (r >>= f) ≡ (r >>= g)
-same_after (Ok x) f g h = h x
-same_after (Err p) f g h = refl
-
 after_front : (r : Checked Row) (front new : Row) (x : ℚ) → new ≡ front ++ x ∷ [] → (r >>= λ ys. Ok (new ++ ys)) ≡ ((r >>= λ ys. Ok (x ∷ ys)) >>= λ zs. Ok (front ++ zs))
 after_front (Ok ys) front new x e = ap Ok (ap (λ (l : Row). l ++ ys) e ∙ append_assoc front (x ∷ []) ys)
 after_front (Err p) front new x e = refl
@@ -74,4 +71,4 @@ module _ (passes : Passing) (f : ℚ) where
 
 pub clear_row-is : (passes : Passing) (c : ℕ) (pivot_row row : Row) → length pivot_row ≡ length row → c < length row
     → clear_row passes c (number_at pivot_row c) (some_from (suc c) (drop (suc c) pivot_row)) row ≡ cleared_row passes c pivot_row row
-clear_row-is passes c pivot_row row e b = same_after (checked passes Quotient (number_at row c) (number_at pivot_row c)) _ _ (λ f. with_zero_taken passes f c pivot_row row e b)
+clear_row-is passes c pivot_row row e b = bind_same (checked passes Quotient (number_at row c) (number_at pivot_row c)) _ _ (λ f. with_zero_taken passes f c pivot_row row e b)

@@ -10,6 +10,7 @@ use Rattle.nf_frac_def.specs.Checked.{Checked, Stops, at_part, ◌>>=◌}
 use Rattle.nf_model.specs.Entries.{number_at}
 use Rattle.nf_linear_def.specs.Table.{Row, Eliminated, row_at, pivot_of, clear_rows, eliminate_at, eliminate_column, eliminate_from, if_some}
 use Rattle.nf_frac_def.specs.Passing.{never}
+use Rattle.nf_frac_def.proofs.AtPart.{part_ok}
 use Rattle.nf_linear_laws.proofs.Exact.{rows_as}
 use Rattle.nf_linear_laws.specs.Solution.{IsSquare}
 use Rattle.nf_linear_laws.proofs.Pivots.{IsPivot, is_pivot, some_tested}
@@ -17,7 +18,6 @@ use Rattle.nf_linear_laws.proofs.Rows.{rows_after, rows_exact}
 use Rattle.nf_linear_laws.proofs.Elimination.{IsCleared, next_cleared, first_cleared}
 use Rattle.nf_linear.specs.Pivots.{eliminated, HasPivots}
 use Rattle.nf_linear.proofs.Fronts.{stops}
-use Rattle.nf_linear.proofs.Taken.{ok_of_part}
 use Rattle.nf_rational_laws.proofs.Results.{same_Ok}
 use Rattle.std.proofs.lemmas.Option.{same_Some}
 
@@ -41,7 +41,7 @@ module _ (rows : List Row) (pivots : List ℕ) (column pivot : ℕ) (e : pivot_o
   column_cleared passes new_rows new_pivots cleared pushed =
       ap (λ (o : Option ℕ). at_part Part.Table (eliminate_at passes (eliminated rows pivots) column o)) e
       ∙ ap (λ (r : Checked (List Row)). at_part Part.Table (r >>= λ rows. Ok (Some (eliminated rows (pivots ++ pivot ∷ [])))))
-      (ok_of_part Part.Table (clear_rows passes column pivot (row_at rows pivot) 0 rows) new_rows (sym cleared))
+      (part_ok Part.Table (clear_rows passes column pivot (row_at rows pivot) 0 rows) new_rows (sym cleared))
       ∙ ap (λ (p : List ℕ). Ok (Some (eliminated new_rows p))) (sym pushed)
 
   -- the column stops where its rows do
@@ -108,7 +108,7 @@ module _ (passes : Passing) (before rows : List Row) (pivots : List ℕ) (column
 
     pub stage_none : at_part Part.Table (eliminate_column passes now column) ≡ Ok None → at_part Part.Table all ≡ Ok None
     stage_none e = ap (at_part Part.Table) (opened ∙ ap (λ (r : Checked (Option Eliminated)). r >>= if_some passes rest)
-        (ok_of_part Part.Table (eliminate_column passes now column) None (sym e)))
+        (part_ok Part.Table (eliminate_column passes now column) None (sym e)))
 
     pub stage_stops : {S : Type 0} (means : S → ℚ) (h : Halt S) → Stops means h (at_part Part.Table (eliminate_column passes now column)) → Stops means h (at_part Part.Table all)
     stage_stops means h e = subst (λ (r : Checked (Option Eliminated)). Stops means h (at_part Part.Table r)) (sym opened)
@@ -117,7 +117,7 @@ module _ (passes : Passing) (before rows : List Row) (pivots : List ℕ) (column
     pub stage_more : (new_rows : List Row) (new_pivots : List ℕ) → at_part Part.Table (eliminate_column passes now column) ≡ Ok
         (Some (eliminated new_rows new_pivots)) → Stage passes before new_rows new_pivots (column + 1)
     stage_more new_rows new_pivots e =
-        let step = ok_of_part Part.Table (eliminate_column passes now column) (Some (eliminated new_rows new_pivots)) (sym e) in
+        let step = part_ok Part.Table (eliminate_column passes now column) (Some (eliminated new_rows new_pivots)) (sym e) in
         let n : column + 1 ≡ suc column = add-one column in
         subst (Stage passes before new_rows new_pivots) (sym n) (record {
           cleared = cleared_next passes (length before) column now s.cleared inside (eliminated new_rows new_pivots) step;

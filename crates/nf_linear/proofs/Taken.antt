@@ -11,10 +11,12 @@ use Rattle.nf_frac_def.specs.declared.Part.{Part}
 use Rattle.nf_frac_def.specs.declared.PassedAt.{PassedAt}
 use Rattle.nf_frac_def.specs.Checked.{Checked, at_part, fold_checked, ◌>>=◌}
 use Rattle.nf_frac_def.proofs.Each.{fold_ok}
+use Rattle.nf_frac_def.proofs.AtPart.{part_ok}
 use Rattle.nf_linear_def.specs.Table.{less_unless}
 use Rattle.nf_model.specs.Entries.{number_at}
 use Rattle.nf_rational.specs.Signs.{is_zero}
-use Rattle.nf_linear_laws.proofs.Pivots.{zero_tested, is_zero-at}
+use Rattle.nf_linear_laws.proofs.Pivots.{is_zero-at}
+use Rattle.nf_rational_laws.proofs.SignTests.{zero_of_test}
 use Rattle.nf_linear.specs.Rows.{meant, some_from, entry_less}
 use Rattle.nf_linear.proofs.Fronts.{stopped}
 
@@ -22,7 +24,7 @@ by_cases : (b t : Bool) (x : ℚ) → is_zero x ≡ t → (IsTrue b → x ≡ 0�
 by_cases true true x e h k = refl
 by_cases false false x e h k = refl
 by_cases true false x e h k = let f = is_zero-at x (h refl) in absurd (cc)
-by_cases false true x e h k = let f = k (zero_tested x e) in absurd (cc)
+by_cases false true x e h k = let f = k (zero_of_test x e) in absurd (cc)
 
 pub tests_zero : (b : Bool) (x : ℚ) → (IsTrue b → x ≡ 0ℚ) → (x ≡ 0ℚ → IsTrue b) → b ≡ is_zero x
 tests_zero b x h k = by_cases b (is_zero x) x refl h k
@@ -84,10 +86,6 @@ pub record TakesOff (passes : Passing) (factor : ℚ) (others : List (ℕ × ℚ
   pub fits : AllByRecursion (λ (other : ℕ × ℚ). other.0 < length row) (drop k others)
   pub same : at_part Part.Table (fold_checked (entry_less passes factor) row (drop k others)) ≡ at_part Part.Table (fold_checked (entry_less passes factor) before others)
 
-pub ok_of_part : {A : Type 0} (part : Part) (r : Checked A) (x : A) → Ok x ≡ at_part part r → r ≡ Ok x
-ok_of_part part (Ok a) x e = let h = e in cc
-ok_of_part part (Err p) x e = absurd (cc)
-
 pub takes_first : (passes : Passing) (factor : ℚ) (others : List (ℕ × ℚ)) (before : List ℚ)
     → AllByRecursion (λ (other : ℕ × ℚ). other.0 < length before) others → TakesOff passes factor others before before 0
 takes_first passes factor others before fits = record { fits = fits; same = refl }
@@ -124,7 +122,7 @@ takes_more passes factor others before row k e column p x y after b is seen valu
     let split : drop k others ≡ (column, p) ∷ drop (k + 1) others = next_other others k e column p b is seen in
     let long : length after ≡ length row = ap (length {A = ℚ}) made ∙ length-set row column y in
     let given : less_unless passes false factor p (number_at row column) ≡ Ok y = ap (λ (w : ℚ). less_unless passes false factor p w) (sym value)
-    ∙ ok_of_part Part.Table (less_unless passes false factor p x) y gives in
+    ∙ part_ok Part.Table (less_unless passes false factor p x) y gives in
     let step : entry_less passes factor row (column, p) ≡ Ok after = ap (λ (r : Checked ℚ). r >>= λ y. Ok (set row column y)) given ∙ ap Ok (sym made) in
     record {
       fits = subst (λ (n : ℕ). AllByRecursion (λ (other : ℕ × ℚ). other.0 < n) (drop (k + 1) others)) (sym long)

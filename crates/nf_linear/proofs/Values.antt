@@ -11,10 +11,10 @@ use Rattle.nf_frac_def.specs.declared.Part.TheVariants as Part
 use Rattle.nf_frac_def.specs.declared.PassedAt.{PassedAt}
 use Rattle.nf_frac_def.specs.Checked.{Checked, checked, checked_at, at_part, ◌>>=◌}
 use Rattle.nf_frac_def.proofs.Each.{with_front}
+use Rattle.nf_frac_def.proofs.AtPart.{part_ok}
 use Rattle.nf_model.specs.Entries.{number_at}
 use Rattle.nf_linear_def.specs.Table.{Row, row_at, solution_from}
 use Rattle.nf_linear.proofs.Fronts.{first_before, one_before, stopped, stopped_before}
-use Rattle.nf_linear.proofs.Taken.{ok_of_part}
 
 module _ (passes : Passing) (rows : List Row) (pivots : List ℕ) where
   abbrev pub ValuesSoFar : List ℚ → ℕ → Type 0
@@ -52,7 +52,7 @@ module _ (passes : Passing) (rows : List Row) (pivots : List ℕ) where
         let n : column + 1 ≡ suc column = add-one column in
         subst (ValuesSoFar (front ++ x ∷ [])) (sym n)
         (sym (one_before (solution_from passes rows (suc column) (drop (suc column) pivots)) front x)
-        ∙ ap (λ (r : Checked ℚ). with_front front (r >>= rest)) (sym (ok_of_part Part.Table value x (e ∙ seen row right r l)))
+        ∙ ap (λ (r : Checked ℚ). with_front front (r >>= rest)) (sym (part_ok Part.Table value x (e ∙ seen row right r l)))
         ∙ opened)
 
   pub values_all : (front : List ℚ) (column : ℕ) → length pivots ≤ column → ValuesSoFar front column → at_part Part.Table (solution_from passes rows 0 pivots) ≡ Ok front

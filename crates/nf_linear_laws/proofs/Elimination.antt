@@ -2,7 +2,7 @@
 -- not have exactly one solution. If all columns are cleared, the pivot rows give the only solution.
 use Rattle.std.proofs.Common.{◌≡◌, ◌≢◌, ℕ, zero, suc, ◌+◌, ◌<◌, List, [], ◌∷◌, ◌++◌, length, get_or, Bool, true, false, cond, ◌||◌, eqb, refl, sym, ap, subst, ◌∙◌, arith}
 use Rattle.std.specs.Prelude.{◌==◌, Option, Some, None, Ok}
-use Rattle.std.proofs.lemmas.Bool.{eq-eqb}
+use Rattle.std.proofs.lemmas.Bool.{eq-eqb, ne_eqb}
 use Rattle.std.proofs.Math.Seq.{get_or-append_seam}
 use Rattle.std.proofs.lemmas.List.{get_or_append_left}
 use Rattle.std.proofs.Math.ListN.{length-append}
@@ -13,9 +13,10 @@ use Rattle.nf_model.specs.Entries.{number_at}
 use Rattle.nf_rational.specs.Signs.{is_zero}
 use Rattle.nf_linear_def.specs.Table.{Row, Eliminated, row_at, pivot_of, eliminate_at, if_some, eliminate_from, solution_from, solution_of, table_list}
 use Rattle.nf_frac_def.specs.Passing.{never}
+use Rattle.nf_rational_laws.proofs.SignTests.{zero_of_test}
 use Rattle.nf_linear_laws.proofs.Steps.{Table, Meets, IsStep, meets_after, meets_before}
 use Rattle.nf_linear_laws.proofs.Columns.{Reduced, one_more, solution, forced, met, free, free-at, homogeneous}
-use Rattle.nf_linear_laws.proofs.Pivots.{zero_tested, some_tested, pivot_row_of, none_is, none_any, no_pivot, IsPivot, is_pivot, different, every_one}
+use Rattle.nf_linear_laws.proofs.Pivots.{some_tested, pivot_row_of, none_is, none_any, no_pivot, IsPivot, is_pivot, every_one}
 use Rattle.nf_linear_laws.proofs.Rows.{bind_ok, rows_after, rows_exact, kept_or_less, kept_or_less-at, kept_or_less-clear, kept_or_less-length, rows_after-length, rows_after-at, quotient_exact}
 use Rattle.nf_linear_laws.specs.Solution.{IsSquare}
 
@@ -96,7 +97,7 @@ module _ {n c : ℕ} {rows : List Row} {pivots : List ℕ} (s : IsCleared n c ro
 
     clear_after : i ≢ p → numbers new_rows i c ≡ 0ℚ
     clear_after other = ap (λ (r : Row). number_at r c) after ∙ kept_or_less-clear c (row_at rows p) (row_at rows i) as_long inside_row early some (stays i)
-        (either_zero (eqb i p) (is_zero (numbers rows i c)) (numbers rows i c) (different i p other) (zero_tested (numbers rows i c)))
+        (either_zero (eqb i p) (is_zero (numbers rows i c)) (numbers rows i c) (ne_eqb i p other) (zero_of_test (numbers rows i c)))
 
     length_after : length (row_at new_rows i) ≡ suc n
     length_after = ap (length {A = ℚ}) after ∙ kept_or_less-length c (row_at rows p) (row_at rows i) as_long inside_row early some (stays i) ∙ s.square i b
@@ -122,7 +123,7 @@ module _ {n c : ℕ} {rows : List Row} {pivots : List ℕ} (s : IsCleared n c ro
 loose : {n c : ℕ} {rows : List Row} {pivots : List ℕ} → IsCleared n c rows pivots → c < n → pivot_of rows pivots c ≡ None → IsLoose n (numbers rows)
 loose {n} {c} {rows} {pivots} s inside e =
     let none : (i : ℕ) → i < n → ((d : ℕ) → d < c → pivot_row_of pivots d ≢ i) → numbers rows i c ≡ 0ℚ = λ i b h.
-    zero_tested (numbers rows i c) (no_pivot 0 rows pivots c e i i (subst (λ (k : ℕ). i < k) (sym s.count) b) (omega arith)
+    zero_of_test (numbers rows i c) (no_pivot 0 rows pivots c e i i (subst (λ (k : ℕ). i < k) (sym s.count) b) (omega arith)
     (none_any pivots i (λ d a. h d (subst (λ (k : ℕ). d < k) s.steps a)))) in
     record { column = c; within = inside; free = free s.reduced inside none; homogeneous = homogeneous s.reduced inside none; one = free-at s.reduced inside none }
 

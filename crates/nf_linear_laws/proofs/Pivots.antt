@@ -4,14 +4,13 @@ use Rattle.std.specs.Prelude.{◌==◌, if◌then◌else◌, Option, Some, None}
 use Rattle.std.specs.List.{list_any}
 use Rattle.std.proofs.lemmas.Bool.Decides.{eqb_tells}
 use Rattle.std.proofs.lemmas.List.Folds.{list_any_at}
-use Rattle.std.proofs.lemmas.Bool.{eq-eqb, and_parts}
+use Rattle.std.proofs.lemmas.Bool.{eq-eqb, ne_eqb}
 use Rattle.std.proofs.lemmas.Map.Keys.{IsDistinct-from_apart}
 use Rattle.std.proofs.lemmas.Map.Steps.{length-le_from_distinct_below}
 use Rattle.nf_rational.specs.Rational.{ℚ}
 use Rattle.nf_rational.specs.Operations.{0ℚ}
-use Rattle.nf_rational_laws.proofs.Order.{≤ℚ_antisymm, ≤ℚ_of_same}
-use Rattle.nf_rational_laws.proofs.Tests.{le_of_test, test_of_le}
-use Rattle.nf_rational.specs.Order.{le_ℚ}
+use Rattle.nf_rational_laws.proofs.Order.{≤ℚ_of_same}
+use Rattle.nf_rational_laws.proofs.Tests.{test_of_le}
 use Rattle.nf_model.specs.Entries.{number_at}
 use Rattle.nf_rational.specs.Signs.{is_zero}
 use Rattle.nf_linear_def.specs.Table.{Row, row_at, pivot_from}
@@ -20,9 +19,6 @@ use Rattle.std.proofs.lemmas.Option.{same_Some}
 use Rattle.std.proofs.lemmas.Grind.{get_or_default_zero}
 
 -- ---- the test for 0
-
-pub zero_tested : (x : ℚ) → is_zero x ≡ true → x ≡ 0ℚ
-zero_tested x e = let h = and_parts (le_ℚ x 0ℚ) (le_ℚ 0ℚ x) e in ≤ℚ_antisymm x 0ℚ (le_of_test x 0ℚ h.0) (le_of_test 0ℚ x h.1)
 
 pub is_zero-at : (x : ℚ) → x ≡ 0ℚ → is_zero x ≡ true
 is_zero-at x e = rw (test_of_le x 0ℚ (≤ℚ_of_same x 0ℚ e), test_of_le 0ℚ x (≤ℚ_of_same 0ℚ x (sym e))) refl
@@ -103,17 +99,11 @@ members_below (x ∷ xs) n h q e = ⊎_elim
     (let k : (false || list_any (eqb q) xs) ≡ true = subst (λ (t : Bool). (t || list_any (eqb q) xs) ≡ true) s.0 e in k))
     (eqb_tells q x)
 
-pub different : (a b : ℕ) → a ≢ b → eqb a b ≡ false
-different a b h = ⊎_elim
-    (λ (s : (eqb a b ≡ true) × (a ≡ b)). absurd (h s.1))
-    (λ (s : (eqb a b ≡ false) × (a ≢ b)). s.0)
-    (eqb_tells a b)
-
 module _ (xs : List ℕ) (n : ℕ) (count : length xs ≡ n) (below : (d : ℕ) → d < n → get_or xs d 0 < n) (apart : (d e : ℕ) → d < n → e < n → d ≢ e → get_or xs d 0 ≢ get_or xs e 0) where
   one_more_apart : (i : ℕ) → ((d : ℕ) → d < n → get_or xs d 0 ≢ i) → (a b : ℕ) (d : ℕ) → a < b → b < suc (length xs) → eqb (get_or (i ∷ xs) a d) (get_or (i ∷ xs) b d) ≡ false
   one_more_apart i h a zero d l m = absurd (omega arith)
-  one_more_apart i h zero (suc b) d l m = different i (get_or xs b d) (λ e. h b (omega arith) (sym (get_or_default_zero xs b d (omega arith)) ∙ sym e))
-  one_more_apart i h (suc a) (suc b) d l m = different (get_or xs a d) (get_or xs b d)
+  one_more_apart i h zero (suc b) d l m = ne_eqb i (get_or xs b d) (λ e. h b (omega arith) (sym (get_or_default_zero xs b d (omega arith)) ∙ sym e))
+  one_more_apart i h (suc a) (suc b) d l m = ne_eqb (get_or xs a d) (get_or xs b d)
       (λ e. apart a b (omega arith) (omega arith) (omega arith) (sym (get_or_default_zero xs a d (omega arith)) ∙ e ∙ get_or_default_zero xs b d (omega arith)))
 
   one_more_below : (i : ℕ) → i < n → (d : ℕ) → d < suc (length xs) → get_or (i ∷ xs) d 0 < n

@@ -7,13 +7,13 @@ use Rattle.nf_rational_laws.proofs.Polynomial.{ring, reading, reading_of}
 use Rattle.nf_rational_laws.proofs.Field.{rationals}
 use Rattle.nf_rational_laws.proofs.Linear.{eq, eq_times, linear_eq}
 use Rattle.nf_rational_laws.proofs.Quotient.{/ℚ-times}
+use Rattle.nf_rational_laws.proofs.SignTests.{zero_of_test}
 use Rattle.nf_frac_def.specs.declared.Op.TheVariants.{Quotient}
 use Rattle.nf_frac_def.specs.Checked.{checked, ◌>>=◌}
 use Rattle.nf_model.specs.Entries.{number_at}
 use Rattle.nf_rational.specs.Signs.{is_zero}
 use Rattle.nf_linear_def.specs.Table.{Row, row_at, less_unless, entries_less, clear_unless, clear_rows}
 use Rattle.nf_frac_def.specs.Passing.{never}
-use Rattle.nf_linear_laws.proofs.Pivots.{zero_tested}
 use Rattle.nf_linear_laws.proofs.Totals.{none_less}
 
 pub bind_ok : {A B E : Type 0} (r : Result A E) (a : A) (f : A → Result B E) (s : Result B E) → r ≡ Ok a → f a ≡ s → (r >>= f) ≡ s
@@ -77,7 +77,7 @@ less_all : (x q p : ℚ) → q *ℚ p ≡ x → x -ℚ q *ℚ p ≡ 0ℚ
 less_all x q p e = linear_eq (x ∷ q ∷ p ∷ []) (eq e ∷ []) (search reading_of) tt tt
 
 less_at-is : (b : Bool) (f p x : ℚ) → is_zero p ≡ b → less_at b f p x ≡ x -ℚ f *ℚ p
-less_at-is true f p x e = kept x f p (zero_tested p e)
+less_at-is true f p x e = kept x f p (zero_of_test p e)
 less_at-is false f p x e = refl
 
 less_row-at : (f : ℚ) (pivot_row row : Row) → length pivot_row ≡ length row → (j : ℕ) → number_at (less_row f pivot_row row) j ≡ number_at row j -ℚ f *ℚ number_at pivot_row j

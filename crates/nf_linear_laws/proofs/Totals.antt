@@ -4,7 +4,8 @@ use Rattle.nf_rational.specs.Rational.{ℚ}
 use Rattle.nf_rational.specs.Operations.{0ℚ, ◌+ℚ◌, ◌-ℚ◌, ◌*ℚ◌}
 use Rattle.nf_rational_laws.proofs.Polynomial.{ring, reading}
 use Rattle.nf_rational_laws.proofs.Field.{rationals}
-use Rattle.nf_rational_laws.proofs.Facts.{both_are_zero, first_is_zero, second_is_zero}
+use Rattle.nf_rational_laws.proofs.Facts.{both_are_zero, second_is_zero}
+use Rattle.nf_rational_laws.proofs.Signs.{first_is_zero}
 
 abbrev pub total : ℕ → (ℕ → ℚ) → ℚ
 total zero f = 0ℚ

@@ -11,6 +11,7 @@ use Rattle.nf_rational_laws.proofs.Ints.{abs-mul}
 use Rattle.nf_rational_laws.proofs.Field.{+ℚ_idl, zero-*ℚ}
 use Rattle.nf_rational_laws.proofs.Linear.{eq, linear_eq}
 use Rattle.nf_rational_laws.proofs.Quotient.{/ℚ_is, /ℚ-unique}
+use Rattle.nf_rational_laws.proofs.Order.{zero_num, zero_den}
 use Rattle.nf_frac_def.specs.Passing.{bound_of, passes_Q, beyond, is_wide}
 use Rattle.nf_frac_def.specs.Checked.{checked, ◌>>=◌}
 use Rattle.nf_frac_def.specs.declared.Op.TheVariants.{Sum, Difference, Product, Quotient}
@@ -76,14 +77,6 @@ piece_slope so_far piece end sum narrow later e =
     line_slope piece.start so_far end sum piece.rate d.between p.between narrow later d.first p.first p.next
 
 -- ---- the slope before the first piece, where nothing is supplied
-zero_num : 0ℚ.num ≡ pos 0
-unfolding whole ratio gcd
-zero_num = refl
-
-zero_den : 0ℚ.den ≡ 1
-unfolding whole ratio gcd
-zero_den = refl
-
 only_second : (m n d : ℤ) → m ≡ pos 0 → m *ℤ d +ℤ n *ℤ pos 1 ≡ n
 only_second m n d e = combine ints_ring (m ∷ n ∷ d ∷ []) (using d e (search reading depth 30) done) (search reading depth 30) tt
 

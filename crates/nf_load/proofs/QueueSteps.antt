@@ -9,6 +9,7 @@ use Rattle.nf_rational.specs.Order.{◌<ℚ◌, lt_ℚ}
 use Rattle.nf_rational_laws.proofs.Polynomial.{reading_of}
 use Rattle.nf_rational_laws.proofs.Linear.{lt, eq, linear_false}
 use Rattle.nf_rational_laws.proofs.Tests.{lt_ℚ_cases}
+use Rattle.nf_rational_laws.proofs.Entries.{drop_entry}
 use Rattle.nf_frac_def.specs.Passing.{Passing}
 use Rattle.nf_frac_def.specs.declared.Part.{Part}
 use Rattle.nf_frac_def.specs.declared.PassedAt.{PassedAt}
@@ -19,7 +20,6 @@ use Rattle.nf_model.specs.Curve.{Point, TimesRise, IsCurve}
 use Rattle.nf_load_def.specs.Loading.{Waits, last_of, after_piece, waits_after, all_waits}
 use Rattle.nf_curve_laws.proofs.Operations.{checked-is}
 use Rattle.nf_curve.proofs.Exits.{was_ok, after_err, front_err, front_more}
-use Rattle.nf_curve.proofs.Shortening.{drop-at}
 use Rattle.nf_load.specs.declared.waiting.Over.{Over}
 use Rattle.nf_load.specs.Loadings.{before_end, over_list}
 
@@ -65,7 +65,7 @@ module _ (passes : Passing) (capacity : Option ℚ) where
     by_piece r = r >>= λ here. waits_after passes capacity (last_of passes before here) (drop next points) >>= λ later. Ok (here ++ later)
 
     from_here : with_front front (by_piece (after_piece passes capacity before p)) ≡ all
-    from_here = sym (ap (λ (l : List Point). with_front front (waits_after passes capacity before l)) (drop-at points i p at ∙ ap (λ (k : ℕ). p ∷ drop k points) (sym n))) ∙ so
+    from_here = sym (ap (λ (l : List Point). with_front front (waits_after passes capacity before l)) (drop_entry points i p at ∙ ap (λ (k : ℕ). p ∷ drop k points) (sym n))) ∙ so
 
     pub goes_on : (over : Over) → at_part part (after_piece passes capacity before p) ≡ Ok (over_list over)
         → with_front (front ++ over_list over) (waits_after passes capacity over.end (drop next points)) ≡ all
@@ -93,12 +93,12 @@ later_first [] p queue curve e = absurd curve
 later_first (x ∷ xs) p queue curve e = subst (λ (q : Point). TimesRise ((q.0, q.1) ∷ xs)) (same_Some x p e) curve.1
 
 pub later_here : (before : Waits) (xs : List Point) (i : ℕ) (p : Point) → slice_get xs i ≡ Some p → Later before (drop i xs) → before.time <ℚ p.0
-later_here before xs i p e h = let k : Later before (p ∷ drop (suc i) xs) = subst (λ (l : List Point). Later before l) (drop-at xs i p e) h in k.0
+later_here before xs i p e h = let k : Later before (p ∷ drop (suc i) xs) = subst (λ (l : List Point). Later before l) (drop_entry xs i p e) h in k.0
 
 pub later_next : (before end : Waits) (xs : List Point) (i next : ℕ) (p : Point) → slice_get xs i ≡ Some p → next ≡ suc i → end.time ≡ p.0
     → Later before (drop i xs) → Later end (drop next xs)
 later_next before end xs i next p e n t h =
-    let k : Later before (p ∷ drop (suc i) xs) = subst (λ (l : List Point). Later before l) (drop-at xs i p e) h in
+    let k : Later before (p ∷ drop (suc i) xs) = subst (λ (l : List Point). Later before l) (drop_entry xs i p e) h in
     let m : Later end (drop (suc i) xs) = moved p (drop (suc i) xs) end.time end.amount t k.1 in
     subst (λ (j : ℕ). Later end (drop j xs)) (sym n) m
   where

@@ -9,12 +9,12 @@ use Rattle.nf_rational_laws.proofs.Chains.{≤_<_trans}
 use Rattle.nf_rational_laws.proofs.Extremes.{min_keeps, min_is_left, min_is_right}
 use Rattle.nf_rational_laws.proofs.Order.{≤ℚ_of_lt, ≤ℚ_of_same, not_both_ℚ}
 use Rattle.nf_rational_laws.proofs.Tests.{less_of_test, not_less_of_test}
+use Rattle.nf_rational_laws.proofs.Entries.{drop_entry}
 use Rattle.nf_frac_def.specs.Passing.{bound_of, passes_Q, is_wide}
 use Rattle.nf_model.specs.Curve.{Point}
 use Rattle.nf_model.specs.Network.{Piece, ArePieces}
 use Rattle.nf_curve_def.specs.Lines.{checked_slope}
 use Rattle.nf_curve_laws.proofs.Operations.{is_same_cases}
-use Rattle.nf_curve.proofs.Shortening.{drop-at}
 use Rattle.nf_load_def.specs.Cumulative.{end_of, point_after_0, point_if_after_0, with_piece}
 use Rattle.nf_load.specs.Rates.{AreRates, IsRate, rate_after_0, rate_if_after_0}
 use Rattle.nf_load.proofs.KnownRates.{piece_slope, zero_slope}
@@ -144,10 +144,10 @@ module _ (points : List Point) (rates : List ℚ) (so_far rate last : ℚ) (piec
   up_to later end e f = subst (λ (x : ℚ). RatesSoFar points rates so_far rate x) (ap (λ (l : List Piece). end_of l last) e ∙ f) h
 
   pub up_to_start : (piece : Piece) → slice_get pieces i ≡ Some piece → lt_ℚ piece.start last ≡ true → RatesSoFar points rates so_far rate piece.start
-  up_to_start piece at t = up_to (piece ∷ drop (suc i) pieces) piece.start (drop-at pieces i piece at) (start_first piece (drop (suc i) pieces) last t)
+  up_to_start piece at t = up_to (piece ∷ drop (suc i) pieces) piece.start (drop_entry pieces i piece at) (start_first piece (drop (suc i) pieces) last t)
 
   pub up_to_late : (piece : Piece) → slice_get pieces i ≡ Some piece → lt_ℚ piece.start last ≡ false → RatesSoFar points rates so_far rate last
-  up_to_late piece at t = up_to (piece ∷ drop (suc i) pieces) last (drop-at pieces i piece at) (last_first piece (drop (suc i) pieces) last t)
+  up_to_late piece at t = up_to (piece ∷ drop (suc i) pieces) last (drop_entry pieces i piece at) (last_first piece (drop (suc i) pieces) last t)
 
   pub up_to_last : drop i pieces ≡ [] → RatesSoFar points rates so_far rate last
   up_to_last e = up_to [] last e refl

@@ -13,18 +13,12 @@ use Rattle.nf_model.specs.Curve.{Point}
 use Rattle.nf_model.specs.Network.{Piece}
 use Rattle.nf_rational.specs.Signs.{is_same}
 use Rattle.nf_load_def.specs.Cumulative.{end_of, point_after_0, point_if_after_0, with_piece, cumulative_from, checked_cumulative}
+use Rattle.nf_rational_laws.proofs.Entries.{drop_entry}
 use Rattle.nf_load.specs.Rates.{rate_after_0 as rate_by_test, rate_if_after_0}
 use Rattle.nf_curve_laws.proofs.Operations.{is_same_cases}
 use Rattle.nf_curve.proofs.Exits.{was_ok, after_err, front_err}
-use Rattle.nf_curve.proofs.Shortening.{drop-at}
 
 -- ---- points after time 0
-pub at_0 : (t y : ℚ) → t ≡ 0ℚ → point_if_after_0 t y ≡ []
-at_0 t y e = ⊎_elim
-    (λ (w : (is_same t 0ℚ ≡ true) × (t ≡ 0ℚ)). ap (λ (b : Bool). point_after_0 b t y) w.0)
-    (λ (w : (is_same t 0ℚ ≡ false) × (¬ (t ≡ 0ℚ))). absurd (w.1 e))
-    (is_same_cases t 0ℚ)
-
 pub after_0 : (t y : ℚ) → (t ≡ 0ℚ → ⊥) → point_if_after_0 t y ≡ (t, y) ∷ []
 after_0 t y f = ⊎_elim
     (λ (w : (is_same t 0ℚ ≡ true) × (t ≡ 0ℚ)). absurd (f w.1))
@@ -100,7 +94,7 @@ one_on i = omega arith
 
 -- ---- the same of the piece of a number
 pub piece_first : (xs : List Piece) (i next : ℕ) (p : Piece) → slice_get xs i ≡ Some p → next ≡ suc i → drop i xs ≡ p ∷ drop next xs
-piece_first xs i next p e n = drop-at xs i p e ∙ ap (λ (k : ℕ). p ∷ drop k xs) (sym n)
+piece_first xs i next p e n = drop_entry xs i p e ∙ ap (λ (k : ℕ). p ∷ drop k xs) (sym n)
 
 module _ (passes : Passing) (part : Part) (front : List Point) (so_far last : ℚ) (pieces : List Piece) (i next : ℕ) (piece : Piece)
     (at : slice_get pieces i ≡ Some piece) (n : next ≡ suc i) (so : with_front front (cumulative_from passes so_far (drop i pieces) last) ≡ checked_cumulative passes pieces last) where

@@ -11,12 +11,11 @@ use Rattle.nf_rational.specs.Rational.{ℚ, ratio, gcd_pos, part_pos, parts_redu
 use Rattle.nf_rational.specs.Operations.{◌+ℚ◌, neg_ℚ}
 use Rattle.nf_rational_laws.proofs.Polynomial.{combine, using, done, reading}
 use Rattle.nf_rational_laws.proofs.IntegerRing.{ints_ring}
-use Rattle.nf_rational_laws.proofs.Ints.{abs-mul, cancel}
+use Rattle.nf_rational_laws.proofs.Ints.{abs-mul, cancel, abs-neg}
 use Rattle.nf_rational_laws.proofs.Lowest.{plus_over_lcm}
 use Rattle.nf_rational_laws.proofs.Products.{split_dvd}
 use Rattle.nf_rational_laws.proofs.Ratio.{quot_times}
 use Rattle.nf_frac.specs.Parts.{SumFits}
-use Rattle.nf_frac.proofs.Bits.{abs-neg}
 use Rattle.nf_frac.proofs.Factors.{left_over, right_over, sum_over}
 use Rattle.nf_frac.proofs.Turned.{num-neg, den-neg}
 

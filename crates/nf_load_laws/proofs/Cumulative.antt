@@ -20,7 +20,7 @@ after_0 t y h = ⊎_elim
     (λ (w : (is_same t 0ℚ ≡ false) × (¬ (t ≡ 0ℚ))). ap (λ (b : Bool). point_after_0 b t y) w.0)
     (is_same_cases t 0ℚ)
 
-at_0 : (t y : ℚ) → t ≡ 0ℚ → point_if_after_0 t y ≡ []
+pub at_0 : (t y : ℚ) → t ≡ 0ℚ → point_if_after_0 t y ≡ []
 at_0 t y e = ⊎_elim
     (λ (w : (is_same t 0ℚ ≡ true) × (t ≡ 0ℚ)). ap (λ (b : Bool). point_after_0 b t y) w.0)
     (λ (w : (is_same t 0ℚ ≡ false) × (¬ (t ≡ 0ℚ))). absurd (w.1 e))

@@ -8,7 +8,7 @@ use Rattle.nf_model_laws.proofs.Queues.{IsOutflow-early}
 use Rattle.nf_model_laws.proofs.Exits.{IsOutflow-at_exit, IsExit-at_0}
 use Rattle.nf_model_laws.proofs.Earliest.{IsEarliest-label}
 
-zero_one : {X : Type 0} → ◌≡◌ {A = ℕ} zero (suc zero) → X
+pub zero_one : {X : Type 0} → ◌≡◌ {A = ℕ} zero (suc zero) → X
 zero_one e = absurd (cc)
 
 pub node_cases : (P : ℕ → Type 0) (v : ℕ) → v < 2 → P 0 → P 1 → P v

@@ -1,6 +1,6 @@
 -- Links as hops, and walks along them.
 use Rattle.std.proofs.Common.{◌≡◌, ℕ, List, [], ◌∷◌, ◌++◌, Option, Some, None, slice_get, unwrap_or, option_map, map, sym, ap, subst, refl, ◌∙◌}
-use Rattle.nf_model_laws.proofs.Common.{slice_get-map, ℚ, 0ℚ, number_at, Hop, IsHop, IsWalk, transit_of, Link, Network, IsLink, hop_of, hops}
+use Rattle.nf_model_laws.proofs.Common.{slice_get-map, ℚ, 0ℚ, ◌+ℚ◌, reading_of, eq, linear_eq, number_at, Hop, IsHop, IsWalk, transit_of, transit_sum, Link, Network, IsLink, hop_of, hops}
 
 -- ---- entries
 pub number_at-is : (xs : List ℚ) (i : ℕ) (x : ℚ) → slice_get xs i ≡ Some x → number_at xs i ≡ x
@@ -19,6 +19,17 @@ transit_of-hop hops e hop p =
 pub IsWalk-append : (hops : List Hop) (walk : List ℕ) (v e : ℕ) (hop : Hop) → IsWalk hops walk v hop.tail → IsHop hops e hop → IsWalk hops (walk ++ e ∷ []) v hop.head
 IsWalk-append hops [] v e hop w p = (hop, p, sym w, refl)
 IsWalk-append hops (f ∷ walk) v e hop w p = (w.0, w.1, w.2, IsWalk-append hops walk w.0.head e hop w.3 p)
+
+-- ---- the sum along a walk with one hop more at the end
+alone : (a : ℚ) → a +ℚ 0ℚ ≡ 0ℚ +ℚ a
+alone a = linear_eq (a ∷ []) [] (search reading_of) tt tt
+
+one_more : (a b c s : ℚ) → s ≡ b +ℚ c → a +ℚ s ≡ a +ℚ b +ℚ c
+one_more a b c s e = linear_eq (a ∷ b ∷ c ∷ s ∷ []) (eq e ∷ []) (search reading_of) tt tt
+
+pub transit_sum-append : (hops : List Hop) (walk : List ℕ) (e : ℕ) → transit_sum hops (walk ++ e ∷ []) ≡ transit_sum hops walk +ℚ transit_of hops e
+transit_sum-append hops [] e = alone (transit_of hops e)
+transit_sum-append hops (f ∷ walk) e = one_more _ _ _ _ (transit_sum-append hops walk e)
 
 -- ---- links as hops
 pub hop_at : (net : Network) (e : ℕ) (link : Link) → IsLink net e link → IsHop (hops net) e (hop_of link)

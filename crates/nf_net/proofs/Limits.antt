@@ -1,11 +1,12 @@
 -- How many nodes, links and names a network has.
-use Rattle.std.proofs.Common.{◌≡◌, ℕ, ◌+◌, ◌^◌, ◌<◌, ◌≤◌, suc, List, [], ◌∷◌, length, ◌++◌, refl, sym, ◌∙◌, ap, arith, ◌&&◌, ◌||◌, Bool, true, false, not, cond, nat_lt, is_some, None, Some, slice_get, get_or, length-append}
+use Rattle.std.proofs.Common.{◌≡◌, ℕ, ◌+◌, ◌^◌, ◌<◌, ◌≤◌, suc, List, [], ◌∷◌, length, refl, sym, ◌∙◌, ap, arith, ◌&&◌, ◌||◌, Bool, true, false, not, cond, nat_lt, is_some, None, Some, slice_get, get_or, length-append}
 use Rattle.std.specs.List.{list_all, position, position_or_len}
 use Rattle.std.specs.Str.{bytes_eq}
 use Rattle.std.proofs.lemmas.List.Quantifiers.{position-Some}
 use Rattle.std.proofs.lemmas.Bool.{lt-ltb}
 use Rattle.std.proofs.lemmas.Option.{slice_get-get_or}
 use Rattle.nf_net_laws.proofs.NameFacts.{same_names}
+use Rattle.nf_net_laws.proofs.LinesBack.{list_all-left}
 use Rattle.nf_model.specs.Network.{Link, hops}
 use Rattle.nf_net_def.specs.Names.{Name, is_name, has_name}
 use Rattle.nf_net_def.specs.Named.{Named, links_by_name, active_links, names_of}
@@ -37,19 +38,11 @@ pub some_nodes : (n : Named) → IsNamed n → n.net.sink < n.net.nodes
 some_nodes n h = h.network.sink
 
 -- ---- all names are names
-front_all : (xs ys : List Name) → list_all is_name (xs ++ ys) ≡ true → list_all is_name xs ≡ true
-front_all [] ys e = refl
-front_all (x ∷ xs) ys e = step (is_name x) (front_all xs ys) e
-  where
-    step : (b : Bool) → (list_all is_name (xs ++ ys) ≡ true → list_all is_name xs ≡ true) → (b && list_all is_name (xs ++ ys)) ≡ true → (b && list_all is_name xs) ≡ true
-    step true f h = f h
-    step false f h = absurd (cc)
-
 pub named_nodes : (n : Named) → IsNamed n → list_all is_name n.node_names ≡ true
-named_nodes n h = front_all n.node_names n.idle_nodes h.node_names.each
+named_nodes n h = list_all-left n.node_names n.idle_nodes h.node_names.each
 
 pub named_links : (n : Named) → IsNamed n → list_all is_name n.link_names ≡ true
-named_links n h = front_all n.link_names (names_of n.idle_links) h.link_names.each
+named_links n h = list_all-left n.link_names (names_of n.idle_links) h.link_names.each
 
 -- what isn't a name isn't there
 pub not_there : (names : List Name) (name : Name) → list_all is_name names ≡ true → (is_name name ≡ true → ⊥) → has_name names name ≡ false

@@ -18,6 +18,7 @@ use Rattle.nf_model.specs.Network.{hop_of}
 use Rattle.nf_graph.specs.Graph.{AreBelow}
 use Rattle.nf_graph.specs.Order.{IsZeroCycle}
 use Rattle.nf_graph.specs.Distances.{NoNegativeTransit, PassesAt}
+use Rattle.nf_graph.proofs.Flags.{Has-not_unset}
 use Rattle.nf_net_def.specs.Names.{Name, has_name, place_of}
 use Rattle.nf_net_def.specs.Numbers.{greatest}
 use Rattle.nf_net_def.specs.Named.{NamedLink, numbered, ends}
@@ -113,9 +114,6 @@ flag_is [] v e = absurd (cc)
 flag_is (b ∷ flags) zero e = ap (λ x. Some x) e
 flag_is (b ∷ flags) (suc v) e = flag_is flags v e
 
-two_flags : (flags : List Bool) (v : ℕ) → slice_get flags v ≡ Some false → Has flags v → ⊥
-two_flags flags v e h = cc
-
 not_flag : (flags : List Bool) (v : ℕ) → not (flag_at flags v) ≡ true → Has flags v → ⊥
 not_flag flags v e h = let is : flag_at flags v ≡ true = ap (λ (o : Option Bool). unwrap_or o false) h in let k : not (flag_at flags v) ≡ false = ap not is in cc
 
@@ -126,7 +124,7 @@ module _ (draft : Draft) (flags : List Bool) (are : AreFlags draft flags) (sink 
   by_version : (one : Bool) → (cond one (list_any not flags) (not (flag_at flags sink)) ≡ true)
       → MatchBool one ((v : ℕ) × (v < length draft.nodes) × (IsReached draft v → ⊥)) (IsReached draft (place_of draft.nodes (sink_name draft)) → ⊥)
   by_version true e = let found = any_not flags e in let lt : found.0 < length flags = found.1 in
-      (found.0, (omega (arith, are.count)), not_reached found.0 (two_flags flags found.0 found.2))
+      (found.0, (omega (arith, are.count)), not_reached found.0 (Has-not_unset flags found.0 found.2))
   by_version false e = subst (λ (v : ℕ). IsReached draft v → ⊥) is_sink (not_reached sink (not_flag flags sink e))
 
   not_by_version : (one : Bool) → (cond one (list_any not flags) (not (flag_at flags sink)) ≡ false)

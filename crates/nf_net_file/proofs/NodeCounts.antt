@@ -1,6 +1,7 @@
 -- How many names there are with some more.
 use Rattle.std.proofs.Common.{◌≡◌, ℕ, ◌+◌, ◌-◌, ◌≤◌, ltb, Bool, true, false, ◌||◌, List, [], ◌∷◌, length, refl, ◌∙◌, ap, arith, bytes_eq, length-append}
 use Rattle.std.proofs.lemmas.Bool.Decides.{nat_tests}
+use Rattle.std.proofs.Math.Bool.{or-false}
 use Rattle.nf_net_def.specs.Limits.{most_nodes}
 use Rattle.nf_net_def.specs.Names.{Name, has_name, with_name, with_names}
 use Rattle.nf_net_laws.proofs.NameFacts.{has_name-append, same_names, with_name_there, with_name_new}
@@ -13,10 +14,6 @@ one names x false e = ap length (with_name_new names x e) ∙ length-append name
 pub length_with_one : (names : List Name) (x : Name) → length (with_name names x) ≡ length names + one_unless (has_name names x)
 length_with_one names x = one names x (has_name names x) refl
 
-or_nothing : (a : Bool) → (a || false) ≡ a
-or_nothing true = refl
-or_nothing false = refl
-
 or_comes : (a b : Bool) → (b ≡ true → a ≡ true) → a ≡ (a || b)
 or_comes true b f = refl
 or_comes false true f = absurd (let k : false ≡ true = f refl in cc)
@@ -27,7 +24,7 @@ after_one names x y true e =
     ap (λ l. has_name l y) (with_name_there names x e)
     ∙ or_comes (has_name names y) (bytes_eq y x) (λ same. ap (has_name names) (same_names y x same) ∙ e)
 after_one names x y false e =
-    ap (λ l. has_name l y) (with_name_new names x e) ∙ has_name-append names (x ∷ []) y ∙ ap (λ (t : Bool). has_name names y || t) (or_nothing (bytes_eq y x))
+    ap (λ l. has_name l y) (with_name_new names x e) ∙ has_name-append names (x ∷ []) y ∙ ap (λ (t : Bool). has_name names y || t) (or-false (bytes_eq y x))
 
 pub length_with_two : (names : List Name) (x y : Name)
     → length (with_names names (x ∷ y ∷ [])) ≡ length names + (one_unless (has_name names x) + one_unless (has_name names y || bytes_eq y x))

@@ -1,6 +1,7 @@
 -- Properties of the parser state, line by line.
 use Rattle.std.proofs.Common.{◌≡◌, ℕ, ◌+◌, ◌<◌, ◌≤◌, ◌⊎◌, ◌&&◌, ◌||◌, Bool, true, false, if◌then◌else◌, List, [], ◌∷◌, ◌++◌, length, nat_le, refl, sym, ◌∙◌, ap, subst, inl, inr, arith, bytes_eq, length-append, codes, Option, Some, None, Result, Ok, Err, is_some, unwrap_or}
 use Rattle.std.specs.List.{AllByRecursion, IsDistinct, last_or, list_all}
+use Rattle.nf_rational_laws.proofs.Entries.{all_push}
 use Rattle.nf_net_laws.proofs.Common.{and_parts, or_parts, leb-false, ltb-false, or_left, or_right, not-false, ℚ, 0ℚ, le_of_test, lt_of_test, Piece, ReadLine}
 use Rattle.nf_net_laws.proofs.Common.{NetRule, N4, N5, N7, N9, N10, N11, N12, N13, N14, N15, N16, Name, is_name, has_name, with_name, with_names, number_in}
 use Rattle.nf_net_laws.proofs.Common.{capacity_in, NamedLink, ends, names_of, Entry, Source, Sink, LinkLine, InflowLine, End, node_line, link_entry, link_line}
@@ -215,10 +216,6 @@ few_names draft names e = ltb-false 64 (length (with_names draft.nodes names)) e
 
 one_more_below : {X : Type 0} (xs : List X) (x : X) → nat_le 200 (length xs) ≡ false → length (xs ++ x ∷ []) ≤ 200
 one_more_below xs x e = let low : length xs < 200 = leb-false 200 (length xs) e in let long : length (xs ++ x ∷ []) ≡ length xs + 1 = length-append xs (x ∷ []) in omega arith
-
-all_push : {X : Type 0} (P : X → Type 0) (xs : List X) (x : X) → AllByRecursion P xs → P x → AllByRecursion P (xs ++ x ∷ [])
-all_push P [] x h k = (k, tt)
-all_push P (y ∷ xs) x h k = (h.0, all_push P xs x h.1 k)
 
 rises_push : (before : Option Piece) (xs : List Piece) (piece : Piece) → Rises before xs → is_not_after piece.start (last_or before xs) ≡ false → Rises before (xs ++ piece ∷ [])
 rises_push before [] piece h e = (e, tt)

@@ -11,10 +11,10 @@ use Rattle.std.proofs.lemmas.List.Elements.{All-from_recursion}
 use Rattle.std.proofs.lemmas.List.Splits.{slice_split_at, slice_split_none, length-slice_split}
 use Rattle.std.proofs.lemmas.List.Sums.{position_or_len_is}
 use Rattle.nf_text_def.specs.Lines.{TextLine, lines_from, lines_of_parts, ended_line}
+use Rattle.nf_text_def.proofs.LineParts.{lines_of_parts-more}
 use Rattle.nf_net_laws.proofs.AcceptedNamed.{every_append}
 use Rattle.nf_net_laws.proofs.NameFacts.{bytes_eq-self}
 
--- ---- tests
 -- ---- a byte of a word
 above_space : (b : ℕ) → is_word_byte b ≡ true → 33 ≤ b
 above_space b h = leb-true 33 b (first_so (nat_le 33 b) (nat_le b 126 && not (b == 35)) h)
@@ -95,10 +95,6 @@ ended_plain : (n : ℕ) (ws : List (List ℕ)) → AllByRecursion IsWord ws → 
 ended_plain n ws h = let part : List ℕ = join_with_byte 32 ws in
     ap (λ cr. cond cr (record { number = n; bytes = take (length part - 1) part; ending = 13 ∷ 10 ∷ [] }) (record { number = n; bytes = part; ending = 10 ∷ [] }))
     (ends_with_no_cr part (no_cr ws h))
-
-lines_of_parts-more : (n : ℕ) (part : List ℕ) (parts : List (List ℕ)) → 0 < length parts → lines_of_parts n (part ∷ parts) ≡ ended_line n part ∷ lines_of_parts (n + 1) parts
-lines_of_parts-more n part [] h = absurd (omega (arith, h))
-lines_of_parts-more n part (next ∷ parts) h = refl
 
 pub lines_from-line : (n : ℕ) (ws : List (List ℕ)) (rest : List ℕ) → AllByRecursion IsWord ws → lines_from n (line_of_words ws ++ rest) ≡ plain_line n ws ∷ lines_from (n + 1) rest
 lines_from-line n ws rest h =

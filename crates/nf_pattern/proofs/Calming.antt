@@ -1,5 +1,5 @@
 -- Flags of jointly acyclic links, when a link is added or removed.
-use Rattle.std.proofs.Common.{◌≡◌, ◌≢◌, ℕ, zero, suc, ◌+◌, ◌<◌, ◌≤◌, ⊎_elim, Bool, true, false, List, length, replicate, take, Some, sym, ap, subst, ◌∙◌, arith}
+use Rattle.std.proofs.Common.{◌≡◌, ◌≢◌, ℕ, suc, ◌+◌, ◌<◌, ◌≤◌, ⊎_elim, Bool, true, false, List, length, take, Some, sym, ap, subst, ◌∙◌, arith}
 use Rattle.std.specs.Prelude.{slice_get, slice_set, MatchBool}
 use Rattle.std.proofs.lemmas.Option.{same_Some}
 use Rattle.nf_model.specs.declared.State.TheVariants.{Tight}
@@ -77,12 +77,6 @@ marked_set base n i flags flag same within told marked e has = ⊎_elim
     is_tight : (b : Bool) → MatchBool b (HasState base n Tight) (HasState base n Tight → ⊥) → b ≡ true → HasState base n Tight
     is_tight true t e = t
     is_tight false t e = cc
-
--- at the start
-pub none_has : (n e : ℕ) → Has (replicate n false) e → ⊥
-none_has zero e has = cc
-none_has (suc n) zero has = cc
-none_has (suc n) (suc e) has = none_has n e has
 
 pub marked_none : (base : Pattern) (flags : List Bool) → ((e : ℕ) → Has flags e → ⊥) → AreMarked base 0 flags
 marked_none base flags none e has = absurd (none e has)

@@ -2,6 +2,8 @@
 use Rattle.std.proofs.Common.{◌≡◌, ◌≢◌, ℕ, zero, suc, inl, inr, ◌⊎◌, ⊎_elim, Bool, true, false, ◌&&◌, ◌||◌, eqb, List, [], ◌∷◌, Option, Some, None, slice_get, refl, sym, ap, subst, ◌∙◌, arith}
 use Rattle.std.specs.Prelude.{if◌then◌else◌}
 use Rattle.std.proofs.lemmas.Bool.Decides.{eqb_tells}
+use Rattle.std.proofs.lemmas.Bool.{ne_eqb}
+use Rattle.std.proofs.Math.Bool.{or-true}
 use Rattle.nf_model.specs.declared.State.{State}
 use Rattle.nf_model.specs.declared.State.TheVariants.{Tight, Full, Zero}
 use Rattle.nf_model.specs.Walk.{Hop, IsHop}
@@ -15,13 +17,6 @@ use Rattle.nf_pattern.proofs.Wall.{idle, same_side, other_side}
 
 pub same_true : (x : ℕ) → eqb x x ≡ true
 same_true x = ⊎_elim (λ (t : (eqb x x ≡ true) × (x ≡ x)). t.0) (λ (t : (eqb x x ≡ false) × (x ≢ x)). absurd (t.1 refl)) (eqb_tells x x)
-
-pub other_false : (x y : ℕ) → x ≢ y → eqb x y ≡ false
-other_false x y differ = ⊎_elim (λ (t : (eqb x y ≡ true) × (x ≡ y)). absurd (differ t.1)) (λ (t : (eqb x y ≡ false) × (x ≢ y)). t.0) (eqb_tells x y)
-
-or_true : (b : Bool) → (b || true) ≡ true
-or_true true = refl
-or_true false = refl
 
 module _ (hops : List Hop) (p : Pattern) where
   abbrev Joined : ℕ → ℕ → ℕ → Type 0
@@ -56,11 +51,11 @@ module _ (hops : List Hop) (p : Pattern) where
   ends_tail n hop tight is = ends_told n hop hop.tail tight is ∙ ap (λ (b : Bool). b || eqb hop.head hop.tail) (same_true hop.tail)
 
   pub ends_head : (n : ℕ) (hop : Hop) → HasState p n Tight → IsHop hops n hop → ends_at hops p n hop.head ≡ true
-  ends_head n hop tight is = ends_told n hop hop.head tight is ∙ (ap (λ (b : Bool). eqb hop.tail hop.head || b) (same_true hop.head) ∙ or_true (eqb hop.tail hop.head))
+  ends_head n hop tight is = ends_told n hop hop.head tight is ∙ (ap (λ (b : Bool). eqb hop.tail hop.head || b) (same_true hop.head) ∙ or-true (eqb hop.tail hop.head))
 
   pub ends_only : (n : ℕ) (hop : Hop) → HasState p n Tight → IsHop hops n hop → (x : ℕ) → x ≢ hop.tail → x ≢ hop.head → ends_at hops p n x ≡ false
   ends_only n hop tight is x no_tail no_head = ends_told n hop x tight is
-      ∙ (ap (λ (b : Bool). b || eqb hop.head x) (other_false hop.tail x (λ e. no_tail (sym e))) ∙ other_false hop.head x (λ e. no_head (sym e)))
+      ∙ (ap (λ (b : Bool). b || eqb hop.head x) (ne_eqb hop.tail x (λ e. no_tail (sym e))) ∙ ne_eqb hop.head x (λ e. no_head (sym e)))
 
   not_tight : (s : Option (Option State)) → (s ≡ Some (Some Tight) → ⊥) → is_tight s ≡ false
   not_tight None none = refl
@@ -76,7 +71,7 @@ module _ (hops : List Hop) (p : Pattern) where
   from_tail n hop is = ap (λ (o : Option Hop). across o hop.tail) is ∙ ap (λ (b : Bool). if b then hop.head else hop.tail) (same_true hop.tail)
 
   pub from_head : (n : ℕ) (hop : Hop) → IsHop hops n hop → hop.tail ≢ hop.head → other_end hops n hop.head ≡ hop.tail
-  from_head n hop is differ = ap (λ (o : Option Hop). across o hop.head) is ∙ ap (λ (b : Bool). if b then hop.head else hop.tail) (other_false hop.tail hop.head differ)
+  from_head n hop is differ = ap (λ (o : Option Hop). across o hop.head) is ∙ ap (λ (b : Bool). if b then hop.head else hop.tail) (ne_eqb hop.tail hop.head differ)
 
   -- ---- one link more
   module _ (n : ℕ) (clear : NoneCloses hops p (suc n)) (comes : (v u : ℕ) → Joined n v u → Way n v v (last n v) u None) where

@@ -3,9 +3,10 @@ use Rattle.std.proofs.Common.{◌≡◌, ℕ, suc, ◌+◌, ◌<◌, ◌≤◌, 
 use Rattle.std.specs.Prelude.{Option, Some, None}
 use Rattle.std.proofs.Math.ListN.{drop_of_length-le}
 use Rattle.nf_model.specs.Pattern.{Pattern, changes}
+use Rattle.nf_thin_laws.proofs.ForcedOrder.{changes_first}
 use Rattle.nf_pattern.specs.Successor.{IsAssignment, free, change, earliest, later, or_else, next_assignment}
 use Rattle.nf_pattern.proofs.Filling.{free_first}
-use Rattle.nf_pattern.proofs.Successors.{changes_first, change_small, changes_few, earliest_is}
+use Rattle.nf_pattern.proofs.Successors.{change_small, changes_few, earliest_is}
 
 pub changes_here : (base states : Pattern) (i : ℕ) → i < length base → length states ≡ length base
     → changes (drop i base) (drop i states) ≡ change (get_or base i None) (get_or states i None) + changes (drop (i + 1) base) (drop (i + 1) states)

@@ -3,6 +3,7 @@ use Rattle.std.proofs.Common.{◌≡◌, ◌≢◌, ℕ, zero, suc, ◌<◌, Boo
 use Rattle.std.specs.Prelude.{Contains}
 use Rattle.std.proofs.lemmas.Bool.Decides.{eqb_tells}
 use Rattle.std.proofs.lemmas.Option.{none-some, same_Some, slice_get_within}
+use Rattle.std.proofs.lemmas.Bool.{cases_eq}
 use Rattle.nf_model.specs.declared.State.{State}
 use Rattle.nf_model.specs.declared.State.TheVariants.{Tight, Full, Zero}
 use Rattle.nf_model.specs.Entries.{Has}
@@ -10,6 +11,7 @@ use Rattle.nf_model.specs.Walk.{Hop, IsHop}
 use Rattle.nf_model.specs.Pattern.{Pattern, HasState, IsTrail, AllDiffer, IsBefore}
 use Rattle.nf_thin_laws.proofs.Sorted.{StandsIn, InOrder}
 use Rattle.nf_thin_laws.proofs.Listings.{IsBefore-transitive, ordered_by_place}
+use Rattle.nf_thin_laws.proofs.Bases.{has_or_not}
 use Rattle.nf_graph.proofs.Walks.{IsHop-unique}
 use Rattle.nf_pattern.specs.Forest.{AreJoined, TightBefore, LeadsBack, Closes}
 use Rattle.nf_pattern.specs.Entered.{MayCarry, IsEntered, EntersBy}
@@ -51,15 +53,6 @@ decide_one : (P Q : Type 0) → Decided P → Decided Q → Decided (P ⊎ Q)
 decide_one P Q (inl p) d = inl (inl p)
 decide_one P Q (inr n) (inl q) = inl (inr q)
 decide_one P Q (inr n) (inr m) = inr (λ w. ⊎_elim n m w)
-
-pub decide_same : (m n : ℕ) → Decided (m ≡ n)
-decide_same m n = ⊎_elim (λ (w : (eqb m n ≡ true) × (m ≡ n)). inl w.1) (λ (w : (eqb m n ≡ false) × (m ≢ n)). inr (λ e. w.1 e)) (eqb_tells m n)
-
-decide_flag : (flags : List Bool) (e : ℕ) → Decided (Has flags e)
-decide_flag [] e = inr (λ h. none-some true h)
-decide_flag (true ∷ flags) zero = inl refl
-decide_flag (false ∷ flags) zero = inr (λ h. cc)
-decide_flag (b ∷ flags) (suc e) = decide_flag flags e
 
 decide_entry : (s : Option State) (state : State) → Decided (s ≡ Some state)
 decide_entry None state = inr (λ h. none-some state h)
@@ -159,7 +152,7 @@ module _ (hops : List Hop) (p : Pattern) where
       (decide_both (Joined n v h.0.head) (Joined n h.0.tail w) (each v h.0.head) (each h.0.tail w)))
 
   pub decide_joined : (n v w : ℕ) → Decided (Joined n v w)
-  decide_joined zero v w = ⊎_elim (λ (e : v ≡ w). inl ([], e)) (λ (other : v ≡ w → ⊥). inr (λ j. no_steps j.0 v w j.1 other)) (decide_same v w)
+  decide_joined zero v w = ⊎_elim (λ (e : v ≡ w). inl ([], e)) (λ (other : v ≡ w → ⊥). inr (λ j. no_steps j.0 v w j.1 other)) (cases_eq v w)
   decide_joined (suc n) v w = decide_more n (λ a b. decide_joined n a b) v w (decide_joined n v w) (hop_at hops n) (decide_state p n Tight)
 
   decide_back : (e : ℕ) → Decided (LeadsBack hops p e)
@@ -177,7 +170,7 @@ module _ (hops : List Hop) (p : Pattern) where
   -- ---- and whether a link enters a node
   module _ (resetting : List Bool) where
     decide_carries : (e : ℕ) → Decided (MayCarry resetting p e)
-    decide_carries e = decide_one (Has resetting e) (HasState p e Tight ⊎ HasState p e Full) (decide_flag resetting e)
+    decide_carries e = decide_one (Has resetting e) (HasState p e Tight ⊎ HasState p e Full) (has_or_not resetting e)
         (decide_one (HasState p e Tight) (HasState p e Full) (decide_state p e Tight) (decide_state p e Full))
 
     decide_enters : (v e : ℕ) → Decided (EntersBy hops resetting p e v)
@@ -185,7 +178,7 @@ module _ (hops : List Hop) (p : Pattern) where
         (λ (h : (hop : Hop) × IsHop hops e hop). ⊎_elim
         (λ (w : (h.0.head ≡ v) × MayCarry resetting p e). inl (h.0, h.1, w.0, w.1))
         (λ (none : (h.0.head ≡ v) × MayCarry resetting p e → ⊥). inr (λ x. none (ap (λ (y : Hop). y.head) (IsHop-unique hops e h.0 x.0 h.1 x.1) ∙ x.2, x.3)))
-        (decide_both (h.0.head ≡ v) (MayCarry resetting p e) (decide_same h.0.head v) (decide_carries e)))
+        (decide_both (h.0.head ≡ v) (MayCarry resetting p e) (cases_eq h.0.head v) (decide_carries e)))
         (λ (none : (hop : Hop) → IsHop hops e hop → ⊥). inr (λ x. none x.0 x.1))
         (hop_at hops e)
 
@@ -216,7 +209,7 @@ module _ (question : Question) (is : IsQuestion question) where
           (λ (none : (v : ℕ) → v < n → (v ≢ question.source) × (IsEntered question.hops question.sets.resetting p v → ⊥) → ⊥). inr none)
           (decide_below (λ v. (v ≢ question.source) × (IsEntered question.hops question.sets.resetting p v → ⊥))
           (λ v. decide_both (v ≢ question.source) (IsEntered question.hops question.sets.resetting p v → ⊥)
-          (⊎_elim (λ (e : v ≡ question.source). inr (λ n. n e)) (λ (n : v ≡ question.source → ⊥). inl n) (decide_same v question.source))
+          (⊎_elim (λ (e : v ≡ question.source). inr (λ n. n e)) (λ (n : v ≡ question.source → ⊥). inl n) (cases_eq v question.source))
           (⊎_elim (λ (e : IsEntered question.hops question.sets.resetting p v). inr (λ n. n e))
           (λ (n : IsEntered question.hops question.sets.resetting p v → ⊥). inl n) (decide_entered question.hops p question.sets.resetting v))) n)
 

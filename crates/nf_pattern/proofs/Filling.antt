@@ -1,15 +1,17 @@
 -- The earliest assignment, one link after the other.
-use Rattle.std.proofs.Common.{◌≡◌, ℕ, zero, suc, ◌+◌, ◌-◌, ◌<◌, ◌≤◌, Bool, true, false, List, [], ◌∷◌, ◌++◌, length, get_or, take, drop, set, drop-cons, append_assoc, eqb, ⊎_elim, refl, sym, ap, subst, ◌∙◌, arith}
+use Rattle.std.proofs.Common.{◌≡◌, ℕ, suc, ◌+◌, ◌-◌, ◌<◌, ◌≤◌, Bool, true, false, List, [], ◌∷◌, ◌++◌, length, get_or, take, drop, set, drop-cons, append_assoc, eqb, ⊎_elim, refl, sym, ap, subst, ◌∙◌, arith}
 use Rattle.std.specs.Prelude.{Option, Some, None, if◌then◌else◌}
 use Rattle.std.specs.Option.{is_some}
 use Rattle.std.proofs.Math.ListN.{length-set, drop_of_length-le}
-use Rattle.std.proofs.lemmas.List.{append-nil}
+use Rattle.std.proofs.lemmas.List.{append-nil, take_all}
 use Rattle.nf_graph.proofs.Walks.{apart_from_test}
 use Rattle.nf_model.specs.declared.State.{State}
 use Rattle.nf_model.specs.declared.State.TheVariants.{Tight, Full, Zero}
 use Rattle.nf_model.specs.Pattern.{Pattern, rank}
+use Rattle.nf_thin_laws.proofs.Unranking.{same_rank}
+use Rattle.nf_rational_laws.proofs.Entries.{take_set}
 use Rattle.nf_pattern.specs.Successor.{choices, IsIn, IsAssignment, free, change, fits, first_good, before_all, with_rest, earliest, raised}
-use Rattle.nf_pattern.proofs.Successors.{same_rank, no_change, good_some, good_none, good_choice, fits_in, fits_out, higher, higher_out}
+use Rattle.nf_pattern.proofs.Successors.{no_change, good_some, good_none, good_choice, fits_in, fits_out, higher, higher_out}
 
 pub free_first : (b : Option State) (base : Pattern) → free (b ∷ base) ≡ change None b + free base
 free_first None base = omega arith
@@ -29,17 +31,6 @@ prefixed front (Some states) = Some (front ++ states)
 prefixed-before : (front : Pattern) (s : Option State) (o : Option Pattern) → prefixed front (before_all s o) ≡ prefixed (front ++ s ∷ []) o
 prefixed-before front s None = refl
 prefixed-before front s (Some states) = ap Some (sym (append_assoc front (s ∷ []) states))
-
-take-set : {A : Type 0} (xs : List A) (i : ℕ) (x : A) → i < length xs → take (suc i) (set xs i x) ≡ take i xs ++ x ∷ []
-take-set [] i x h = absurd (omega arith)
-take-set (y ∷ xs) zero x h = refl
-take-set (y ∷ xs) (suc i) x h = ap (λ (zs : List _). y ∷ zs) (take-set xs i x (omega arith))
-
-take-all : {A : Type 0} (xs : List A) (i : ℕ) → length xs ≤ i → take i xs ≡ xs
-take-all [] zero h = refl
-take-all [] (suc i) h = refl
-take-all (x ∷ xs) zero h = absurd (omega arith)
-take-all (x ∷ xs) (suc i) h = ap (λ (zs : List _). x ∷ zs) (take-all xs i (omega arith))
 
 -- The links before number i have their states, and `left` changes remain.
 pub record AreFilled (base : Pattern) (us : List Bool) (n : ℕ) (states : Pattern) (i left more : ℕ) : Type 0 where
@@ -94,7 +85,7 @@ module _ (base : Pattern) (us : List Bool) (n : ℕ) (states : Pattern) (i left 
         let here : i < length states = (let c = filled.count in omega arith) in
         let all : earliest base us n ≡ prefixed (take (suc i) (set states i s)) (earliest (drop (suc i) base) (drop (suc i) us) (left - change b s)) =
         (filled.said ∙ (ap (prefixed (take i states)) goes_on ∙ (prefixed-before (take i states) s (earliest (drop (suc i) base) (drop (suc i) us) (left - change b s))
-        ∙ ap (λ (front : Pattern). prefixed front (earliest (drop (suc i) base) (drop (suc i) us) (left - change b s))) (sym (take-set states i s here))))) in
+        ∙ ap (λ (front : Pattern). prefixed front (earliest (drop (suc i) base) (drop (suc i) us) (left - change b s))) (sym (take_set states i s here))))) in
         let done : AreFilled base us n (set states i s) (suc i) (left - change b s) (free (drop (suc i) base)) = record {
           said = all;
           all_free = refl;
@@ -137,7 +128,7 @@ all_filled base us n states i left more end filled =
     let zero_more : more ≡ 0 = filled.all_free ∙ ap free nothing in
     let few = filled.few in let count = filled.count in
     filled.said ∙ (ap (λ (x : Pattern). prefixed (take i states) (earliest x (drop i us) left)) nothing ∙ (ap (prefixed (take i states)) (none_left (drop i us) left (omega arith))
-    ∙ ap Some (append-nil (take i states) ∙ take-all states i (omega arith))))
+    ∙ ap Some (append-nil (take i states) ∙ take_all i states (omega arith))))
 
 -- ---- no change is left
 unchanged : (b s : Option State) → change b s ≤ 0 → rank b ≡ rank s

@@ -10,6 +10,7 @@ use Rattle.nf_model.specs.Walk.{Hop, IsHop}
 use Rattle.nf_model.specs.Pattern.{Pattern, HasState}
 use Rattle.nf_graph.specs.Graph.{AreBelow}
 use Rattle.nf_graph.proofs.Walks.{IsHop-unique}
+use Rattle.nf_rational_laws.proofs.Entries.{slice_get-replicate}
 use Rattle.nf_pattern.specs.Forest.{AreJoined, TightBefore, LeadsBack, Closes, NoneCloses}
 use Rattle.nf_pattern.specs.Walking.{last_at, is_tight, ends_by, ends_at, other_end, IsWalkable}
 use Rattle.nf_pattern.proofs.Setting.{set_same, set_other, tell}
@@ -19,11 +20,6 @@ use Rattle.nf_pattern.proofs.Wall.{last_still, last_new}
 use Rattle.nf_pattern.proofs.Comes.{ends_only, ends_tail, ends_head, ends_loose}
 
 -- ---- no link
-each_alike : {A : Type 0} (n v : ℕ) (x : A) → v < n → slice_get (replicate n x) v ≡ Some x
-each_alike zero v x less = absurd (omega arith)
-each_alike (suc n) zero x less = refl
-each_alike (suc n) (suc v) x less = each_alike n v x (omega arith)
-
 pub holds_none : (hops : List Hop) (p : Pattern) (nodes : ℕ) (last tails heads : List (Option ℕ)) → AreBelow nodes hops → last ≡ replicate nodes None
     → length tails ≡ length hops → length heads ≡ length hops
     → IsWalkable hops p zero last tails heads
@@ -32,7 +28,7 @@ holds_none hops p nodes last tails heads below none count_tails count_heads =
       below = subst (λ (k : ℕ). AreBelow k hops) (sym count) below;
       count_tails = count_tails;
       count_heads = count_heads;
-      last_is = λ v within. ap (λ (os : List (Option ℕ)). slice_get os v) none ∙ each_alike nodes v None (omega arith);
+      last_is = λ v within. ap (λ (os : List (Option ℕ)). slice_get os v) none ∙ slice_get-replicate nodes v None (omega arith);
       tails_are = λ e hop less tight is. absurd (omega arith);
       heads_are = λ e hop less tight is. absurd (omega arith);
     }

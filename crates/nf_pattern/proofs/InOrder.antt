@@ -1,34 +1,10 @@
 -- The order of assignments. The base is the first. The next assignment that differs at one of the first links is the least of those later.
-use Rattle.std.proofs.Common.{◌≡◌, ℕ, suc, take, Bool, true, false, List, [], ◌∷◌, inl, inr, ⊎_elim, eqb, refl, sym, ◌∙◌, arith}
-use Rattle.std.specs.Prelude.{Option, Some, None, if◌then◌else◌}
-use Rattle.nf_graph.proofs.Walks.{same_from_test}
-use Rattle.nf_model.specs.declared.State.{State}
-use Rattle.nf_model.specs.Pattern.{Pattern, rank, changes, IsEarlier, IsBefore}
-use Rattle.nf_pattern.specs.Successor.{IsAssignment, Spares, change, earliest, later, next_assignment}
-use Rattle.nf_pattern.proofs.Successors.{no_change, changes_first, changes_few, earliest_is, earliest_first, earliest_exists, else_given, else_none}
+use Rattle.std.proofs.Common.{◌≡◌, ℕ, suc, take, Bool, List, inl, inr, ⊎_elim, sym, ◌∙◌, arith}
+use Rattle.std.specs.Prelude.{Some, None}
+use Rattle.nf_model.specs.Pattern.{Pattern, changes, IsBefore}
+use Rattle.nf_pattern.specs.Successor.{IsAssignment, Spares, earliest, later, next_assignment}
+use Rattle.nf_pattern.proofs.Successors.{changes_few, earliest_is, earliest_first, earliest_exists, else_given, else_none}
 use Rattle.nf_pattern.proofs.Later.{later_is, later_none, later_next}
-
--- ---- the base comes first
-pub no_changes : (base : Pattern) → changes base base ≡ 0
-no_changes [] = refl
-no_changes (b ∷ base) = let f = changes_first b b base base in let z = no_change b in let rest = no_changes base in omega arith
-
-unchanged : (b t : Option State) → change b t ≡ 0 → rank b ≡ rank t
-unchanged b t e = go (eqb (rank b) (rank t)) refl e
-  where
-    go : (s : Bool) → eqb (rank b) (rank t) ≡ s → ◌≡◌ {A = ℕ} (if s then 0 else 1) 0 → rank b ≡ rank t
-    go true i j = same_from_test (rank b) (rank t) (sym i)
-    go false i j = absurd (omega arith)
-
-none_earlier : (base r : Pattern) → changes base r ≡ 0 → IsEarlier r base → ⊥
-none_earlier base [] c h = h
-none_earlier [] (t ∷ r) c h = h
-none_earlier (b ∷ base) (t ∷ r) c (inl less) = let f = changes_first b t base r in let same = unchanged b t (omega arith) in omega arith
-none_earlier (b ∷ base) (t ∷ r) c (inr k) = let f = changes_first b t base r in none_earlier base r (omega arith) k.1
-
-pub base_first : (base r : Pattern) → IsBefore base r base → ⊥
-base_first base r (inl less) = let z = no_changes base in omega arith
-base_first base r (inr k) = none_earlier base r (k.0 ∙ no_changes base) k.1
 
 -- ---- the next one
 module _ (i : ℕ) (base : Pattern) (us zs : List Bool) (valid : IsAssignment base us base) (p : Pattern) where

@@ -3,8 +3,9 @@ use Rattle.std.proofs.Common.{◌≡◌, ◌⊎◌, ℕ, zero, suc, take, ◌+�
 use Rattle.std.specs.Prelude.{Option, Some, None}
 use Rattle.nf_model.specs.declared.State.{State}
 use Rattle.nf_model.specs.Pattern.{Pattern, rank, changes, IsEarlier}
+use Rattle.nf_thin_laws.proofs.ForcedOrder.{changes_first}
 use Rattle.nf_pattern.specs.Successor.{choices, IsAssignment, Spares, free, change, first_good, before_all, earliest, may_raise, raised, later}
-use Rattle.nf_pattern.proofs.Successors.{compared, good_some, good_none, choices_ascend, changes_first, fits_out, within, rest_given, rest_none, earliest_is, earliest_first, earliest_exists, else_given, else_none, before_given, before_none, higher, higher_in, higher_out}
+use Rattle.nf_pattern.proofs.Successors.{compared, good_some, good_none, choices_ascend, fits_out, within, rest_given, rest_none, earliest_is, earliest_first, earliest_exists, else_given, else_none, before_given, before_none, higher, higher_in, higher_out}
 
 module _ (b : Option State) (u z : Bool) (base : Pattern) (us zs : List Bool) (a : Option State) (p : Pattern) where
   abbrev pub n : ℕ

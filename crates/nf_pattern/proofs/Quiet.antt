@@ -4,17 +4,14 @@ use Rattle.std.specs.Prelude.{Option, Some, None, MatchOption, Bool}
 use Rattle.std.proofs.Math.Seq.{drop-append-add, drop-append_seam}
 use Rattle.std.proofs.lemmas.List.{drop-drop, length-take-le}
 use Rattle.nf_model.specs.Pattern.{Pattern, changes}
+use Rattle.nf_thin_laws.proofs.ForcedOrder.{changes_first}
+use Rattle.nf_thin_laws.proofs.BaseFirst.{changes-self}
 use Rattle.nf_pattern.specs.declared.assignments.Quiet.{Quiet}
 use Rattle.nf_pattern.specs.declared.assignments.Raised.{Raised}
 use Rattle.nf_pattern.specs.Successor.{IsSameBefore, IsQuiet, free, later}
-use Rattle.nf_pattern.proofs.Successors.{changes_first, no_change}
 use Rattle.nf_pattern.proofs.Filling.{free_first}
 use Rattle.nf_pattern.proofs.Counting.{changes_end, free_end}
 use Rattle.nf_pattern.proofs.Raising.{later_up_to}
-
-changes_self : (base : Pattern) → changes base base ≡ 0
-changes_self [] = refl
-changes_self (b ∷ base) = let f = changes_first b b base base in let z = no_change b in let rest = changes_self base in omega arith
 
 pub quiet_end : (base states : Pattern) (quiet : Quiet) → quiet.link ≡ length base → quiet.free ≡ 0 → IsQuiet base quiet states
 quiet_end base states quiet all none = record {
@@ -32,7 +29,7 @@ quiet_rest base states after quiet within count is free_is =
     let front : length (take i states) ≡ i = length-take-le i states (omega arith) in
     let rest : drop i after ≡ drop i base =
     ap (drop i) is ∙ subst (λ (n : ℕ). drop n (take i states ++ drop i base) ≡ drop i base) front (drop-append_seam (take i states) (drop i base)) in
-    record { within = within; unchanged = ap (changes (drop i base)) rest ∙ changes_self (drop i base); free_is = free_is }
+    record { within = within; unchanged = ap (changes (drop i base)) rest ∙ changes-self (drop i base); free_is = free_is }
 
 -- The first links, and then an unchanged suffix.
 pub quiet_behind : (base states rest after : Pattern) (i : ℕ) (quiet behind : Quiet) → i ≤ length base → length states ≡ length base

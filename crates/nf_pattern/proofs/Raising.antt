@@ -5,12 +5,13 @@ use Rattle.std.specs.Prelude.{Option, Some, None}
 use Rattle.std.proofs.Math.ListN.{drop_of_length-le}
 use Rattle.nf_model.specs.declared.State.{State}
 use Rattle.nf_model.specs.Pattern.{Pattern, changes}
+use Rattle.nf_thin_laws.proofs.ForcedOrder.{changes_first}
 use Rattle.nf_pattern.specs.Successor.{choices, IsAssignment, free, change, first_good, before_all, with_rest, earliest, or_else, raised, raised_at, RaisesAt, IsSameBefore, later}
 use Rattle.nf_pattern.specs.Stated.{IsLastTo}
 use Rattle.nf_pattern.proofs.Choosing.{assigned_length, none_too}
 use Rattle.nf_pattern.proofs.Stating.{idle_there}
 use Rattle.nf_pattern.proofs.Filling.{free_first, none_raised}
-use Rattle.nf_pattern.proofs.Successors.{changes_first, fits_out, good_some, higher, higher_out}
+use Rattle.nf_pattern.proofs.Successors.{fits_out, good_some, higher, higher_out}
 
 -- ---- the links after a link
 pub from_one : {A : Type 0} (xs : List A) (i : ℕ) → take (length xs - (i + 1)) (drop (i + 1) xs) ≡ drop (suc i) xs

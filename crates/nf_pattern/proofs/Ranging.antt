@@ -3,8 +3,8 @@ use Rattle.std.proofs.Common.{◌≡◌, ℕ, zero, suc, ◌+◌, ◌-◌, ◌<�
 use Rattle.nf_model.specs.declared.State.{State}
 use Rattle.nf_model.specs.declared.State.TheVariants.{Tight, Full, Zero}
 use Rattle.nf_model.specs.Pattern.{Pattern, rank, changes, IsEarlier, IsBefore}
+use Rattle.nf_thin_laws.proofs.Unranking.{same_rank}
 use Rattle.nf_pattern.specs.Successor.{free}
-use Rattle.nf_pattern.proofs.Successors.{same_rank}
 use Rattle.nf_rational_laws.proofs.Naturals.{compared}
 
 abbrev pub Trio : Pattern → Pattern → Type 0

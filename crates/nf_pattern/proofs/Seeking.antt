@@ -3,6 +3,7 @@ use Rattle.std.proofs.Common.{◌≡◌, ℕ, ◌<◌, ◌≤◌, Bool, List, le
 use Rattle.std.specs.Prelude.{MatchBool, true, false}
 use Rattle.nf_model.specs.Pattern.{Pattern, IsBefore}
 use Rattle.nf_thin_laws.proofs.Listings.{IsBefore-asymmetric, IsBefore-transitive}
+use Rattle.nf_thin_laws.proofs.BaseFirst.{none_before}
 use Rattle.nf_pattern.specs.Successor.{IsAssignment, Spares, next_assignment}
 use Rattle.nf_pattern.specs.Advancing.{Advances, NoneAdvances}
 use Rattle.nf_pattern.specs.Given.{Question, IsQuestion, IsListedBy, IsBarren, IsFrom, IsFirstFrom, NoneFrom, Last, AtStart, UpTo, IsNext, NoneLeft, Given, next_place}
@@ -16,7 +17,7 @@ use Rattle.nf_pattern.specs.Sole.{AreSpared}
 use Rattle.nf_pattern.proofs.Choosing.{assigned_length, assignment_of}
 use Rattle.nf_pattern.proofs.Sparing.{spared_by}
 use Rattle.nf_pattern.proofs.Successors.{changes_few}
-use Rattle.nf_pattern.proofs.InOrder.{base_first, next_is, next_none, next_least}
+use Rattle.nf_pattern.proofs.InOrder.{next_is, next_none, next_least}
 use Rattle.nf_pattern.proofs.Quiet.{quiet_end}
 use Rattle.nf_pattern.proofs.Ranging.{before_or, left_after, fewer_left}
 use Rattle.nf_model.specs.Walk.{Hop}
@@ -114,7 +115,7 @@ module _ (question : Question) (is : IsQuestion question) where
   -- ---- after the enumerated patterns
   pub all_from_base : (r : Pattern) → IsListedBy question r → IsFrom base base r
   all_from_base r listed = ⊎_elim
-      (λ (before : IsBefore base r base). absurd (base_first base r before))
+      (λ (before : IsBefore base r base). absurd (none_before base r before))
       (λ (w : (r ≡ base) ⊎ IsBefore base base r). w)
       (before_or base r base (same_length base r valid (listed_assigned r listed)))
 

@@ -1,13 +1,14 @@
 -- Flags of links that no listed pattern has Zero.
 use Rattle.std.proofs.Common.{◌≡◌, ◌≢◌, ℕ, suc, ◌<◌, Bool, true, false, List, [], ◌∷◌, length, inl, inr, ⊎_elim, Some, None, Option, refl, ap, sym, subst, ◌∙◌, arith}
 use Rattle.std.specs.Prelude.{slice_get, is_some}
-use Rattle.std.proofs.lemmas.Option.{same_Some, slice_get_within}
+use Rattle.std.proofs.lemmas.Option.{slice_get_within}
 use Rattle.nf_rational_laws.proofs.Naturals.{before_or_at}
 use Rattle.nf_model.specs.declared.State.{State}
 use Rattle.nf_model.specs.declared.State.TheVariants.{Tight, Full, Zero}
 use Rattle.nf_model.specs.Entries.{Has}
 use Rattle.nf_model.specs.Walk.{Hop, IsHop}
 use Rattle.nf_model.specs.Pattern.{Pattern, HasState}
+use Rattle.nf_thin_laws.proofs.Bases.{state_is}
 use Rattle.nf_pattern.specs.Successor.{Spares, may_raise}
 use Rattle.nf_pattern.specs.Entered.{MayCarry, CanCarry, AreEndsBefore, AreEnds}
 use Rattle.nf_pattern.specs.Sole.{EntersAlone, AllEnterAlone, AreSpared}
@@ -48,9 +49,6 @@ spared_by (z ∷ zs) (s ∷ r) n never = (
 )
 
 -- ---- a link that alone can enter its head
-not_both : (r : Pattern) (e : ℕ) (one other : State) → HasState r e one → HasState r e other → one ≡ other
-not_both r e one other h k = same_Some one other (same_Some (Some one) (Some other) (sym h ∙ k))
-
 module _ (question : Question) (is : IsQuestion question) (r : Pattern) (listed : IsListedBy question r) where
   can_too : (k : ℕ) → MayCarry question.sets.resetting r k → CanCarry question.sets.resetting question.base k
   can_too k (inl on) = inl on
@@ -59,8 +57,8 @@ module _ (question : Question) (is : IsQuestion question) (r : Pattern) (listed 
 
   not_zero : (e : ℕ) → EntersAlone question.source question.hops question.sets.resetting question.base e → MayCarry question.sets.resetting r e → HasState r e Zero → ⊥
   not_zero e sole (inl on) zero = let needs = (is.base.states e).1 sole.stated in needs.1 on
-  not_zero e sole (inr (inl tight)) zero = let same = not_both r e Tight Zero tight zero in cc
-  not_zero e sole (inr (inr full)) zero = let same = not_both r e Full Zero full zero in cc
+  not_zero e sole (inr (inl tight)) zero = let same = state_is r e Tight Zero tight zero in cc
+  not_zero e sole (inr (inr full)) zero = let same = state_is r e Full Zero full zero in cc
 
   pub never_zero : (e : ℕ) → EntersAlone question.source question.hops question.sets.resetting question.base e → HasState r e Zero → ⊥
   never_zero e sole zero =

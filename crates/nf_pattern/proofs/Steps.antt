@@ -2,6 +2,7 @@
 use Rattle.std.proofs.Common.{◌≡◌, ◌≢◌, ℕ, zero, suc, ◌<◌, ◌≤◌, inl, inr, ◌⊎◌, ⊎_elim, Bool, true, false, ◌&&◌, eqb, List, [], length, Option, Some, None, slice_get, get_or, refl, sym, ap, subst, ◌∙◌, arith}
 use Rattle.std.specs.Prelude.{if◌then◌else◌}
 use Rattle.std.proofs.lemmas.Option.{none-some, same_Some, slice_get-get_or}
+use Rattle.std.proofs.lemmas.Bool.{ne_eqb}
 use Rattle.nf_model.specs.declared.State.{State}
 use Rattle.nf_model.specs.declared.State.TheVariants.{Tight, Full, Zero}
 use Rattle.nf_model.specs.Walk.{Hop, IsHop}
@@ -11,7 +12,7 @@ use Rattle.nf_pattern.specs.declared.walking.Place.{Place}
 use Rattle.nf_pattern.specs.Forest.{AreJoined, TightBefore, Closes, NoneCloses}
 use Rattle.nf_pattern.specs.Walking.{last_at, Path, is_tight, ends_by, ends_at, across, other_end, IsWalkable, IsPlace, GoesBy}
 use Rattle.nf_pattern.proofs.Deciding.{decide_below, decide_closes}
-use Rattle.nf_pattern.proofs.Comes.{comes, same_true, other_false}
+use Rattle.nf_pattern.proofs.Comes.{comes, same_true}
 
 -- ---- the last link at a node
 pub last_told : (Ends : ℕ → ℕ → Bool) (m v l : ℕ) → last_at Ends m v ≡ Some l → (l < m) × (Ends l v ≡ true)
@@ -126,7 +127,7 @@ module _ (hops : List Hop) (p : Pattern) (n : ℕ) where
   pub left_is : (v k f x : ℕ) (o : Option ℕ) → k ≤ f → On v k x o v None → left v f x o ≡ k
   left_is v zero f x o few path = left_none v f x o path.0 path.1
   left_is v (suc k) zero x o few path = absurd (omega arith)
-  left_is v (suc k) (suc f) x None few path = ap (λ (b : Bool). if b then zero else suc (left v f x (last n x))) (other_false x v path.0)
+  left_is v (suc k) (suc f) x None few path = ap (λ (b : Bool). if b then zero else suc (left v f x (last n x))) (ne_eqb x v path.0)
       ∙ ap suc (left_is v k f x (last n x) (omega arith) path.2)
   left_is v (suc k) (suc f) x (Some l) few path = ap suc (left_is v k f (other_end hops l x) (last l (other_end hops l x)) (omega arith) path.1)
 

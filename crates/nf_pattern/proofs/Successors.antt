@@ -1,5 +1,5 @@
 -- Nothing lies between an assignment and the next one.
-use Rattle.std.proofs.Common.{◌≡◌, ◌⊎◌, ℕ, suc, ◌+◌, ◌-◌, ◌<◌, ◌≤◌, Bool, true, false, ◌&&◌, List, [], ◌∷◌, inl, inr, ⊎_elim, refl, sym, ap, subst, ◌∙◌, arith, leb, eqb}
+use Rattle.std.proofs.Common.{◌≡◌, ◌⊎◌, ℕ, ◌+◌, ◌-◌, ◌<◌, ◌≤◌, Bool, true, false, ◌&&◌, List, [], ◌∷◌, inl, inr, ⊎_elim, refl, sym, ap, subst, ◌∙◌, arith, leb, eqb}
 use Rattle.std.specs.Prelude.{Option, Some, None, if◌then◌else◌, nat_lt, ◌==◌}
 use Rattle.std.proofs.lemmas.Option.{same_Some}
 use Rattle.std.proofs.lemmas.Bool.Decides.{leb_tells}
@@ -7,6 +7,7 @@ use Rattle.nf_graph.proofs.Walks.{same_from_test, apart_from_test}
 use Rattle.nf_model.specs.declared.State.{State}
 use Rattle.nf_model.specs.declared.State.TheVariants.{Tight, Full, Zero}
 use Rattle.nf_model.specs.Pattern.{Pattern, rank, changes, IsEarlier}
+use Rattle.nf_thin_laws.proofs.ForcedOrder.{changes_first}
 use Rattle.nf_pattern.specs.Successor.{choices, IsIn, IsAssignment, free, change, fits, first_good, before_all, with_rest, earliest, or_else, may_raise}
 use Rattle.std.proofs.lemmas.Bool.{and_parts}
 
@@ -69,31 +70,6 @@ module _ (good : Option State → Bool) where
   compared (x ∷ states) s t a e h k = compared_at x s t states (good x) refl e h k a.0 (λ f g. compared states s t a.1 f g k)
 
 -- ---- ranks and changes
-pub same_rank : (a b : Option State) → rank a ≡ rank b → a ≡ b
-same_rank None None e = refl
-same_rank None (Some Tight) e = absurd (omega arith)
-same_rank None (Some Full) e = absurd (omega arith)
-same_rank None (Some Zero) e = absurd (omega arith)
-same_rank (Some Tight) None e = absurd (omega arith)
-same_rank (Some Tight) (Some Tight) e = refl
-same_rank (Some Tight) (Some Full) e = absurd (omega arith)
-same_rank (Some Tight) (Some Zero) e = absurd (omega arith)
-same_rank (Some Full) None e = absurd (omega arith)
-same_rank (Some Full) (Some Tight) e = absurd (omega arith)
-same_rank (Some Full) (Some Full) e = refl
-same_rank (Some Full) (Some Zero) e = absurd (omega arith)
-same_rank (Some Zero) None e = absurd (omega arith)
-same_rank (Some Zero) (Some Tight) e = absurd (omega arith)
-same_rank (Some Zero) (Some Full) e = absurd (omega arith)
-same_rank (Some Zero) (Some Zero) e = refl
-
-pub changes_first : (b s : Option State) (base states : Pattern) → changes (b ∷ base) (s ∷ states) ≡ change b s + changes base states
-changes_first b s base states = go (rank b == rank s)
-  where
-    go : (t : Bool) → (if t then changes base states else suc (changes base states)) ≡ (if t then 0 else 1) + changes base states
-    go true = omega arith
-    go false = omega arith
-
 pub change_small : (b s : Option State) → change b s ≤ 1
 change_small b s = go (rank b == rank s)
   where

@@ -1,7 +1,6 @@
 -- Tests of one entry of a list.
 use Rattle.std.proofs.Common.{◌≡◌, ◌≢◌, ℕ, suc, ◌+◌, ◌<◌, Bool, true, false, not, eqb, ◌⊎◌, ⊎_elim, List, length, get_or, Some, None, add-one, refl, sym, ap, subst, ◌∙◌}
 use Rattle.std.specs.Prelude.{slice_get, MatchBool}
-use Rattle.std.proofs.lemmas.Bool.{false≢true}
 use Rattle.std.proofs.lemmas.Bool.Decides.{eqb_tells}
 use Rattle.std.proofs.lemmas.Option.{same_Some, none-some}
 use Rattle.nf_model.specs.declared.State.{State}
@@ -9,12 +8,9 @@ use Rattle.nf_model.specs.declared.State.TheVariants.{Tight, Full}
 use Rattle.nf_model.specs.Entries.{Has}
 use Rattle.nf_model.specs.Pattern.{Pattern, HasState}
 use Rattle.nf_graph.proofs.Walks.{apart_from_test}
+use Rattle.nf_graph.proofs.Flags.{Has-not_unset}
 use Rattle.nf_pattern.specs.Entered.{MayCarry}
 use Rattle.nf_pattern.proofs.Each.{entry_at}
-
--- a flag that is not set
-pub not_set : (flags : List Bool) (e : ℕ) → slice_get flags e ≡ Some false → Has flags e → ⊥
-not_set flags e off on = false≢true (same_Some false true (sym off ∙ on))
 
 -- a link without a state, and one with another
 pub no_state : (p : Pattern) (e : ℕ) (state : State) → slice_get p e ≡ Some None → HasState p e state → ⊥
@@ -26,7 +22,7 @@ other_state p e state other at apart there = apart (same_Some other state (same_
 -- a link that is neither resetting nor Tight nor Full
 pub carries_not : (resetting : List Bool) (p : Pattern) (e : ℕ) → slice_get resetting e ≡ Some false → (HasState p e Tight → ⊥) → (HasState p e Full → ⊥) → MayCarry resetting p e → ⊥
 carries_not resetting p e off tight full may = ⊎_elim
-    (λ (on : Has resetting e). not_set resetting e off on)
+    (λ (on : Has resetting e). Has-not_unset resetting e off on)
     (λ (w : HasState p e Tight ⊎ HasState p e Full). ⊎_elim (λ (t : HasState p e Tight). tight t) (λ (f : HasState p e Full). full f) w) may
 
 by_test : (m n : ℕ) (P : Type 0) → (m ≡ n → P) → (P → m ≡ n) → MatchBool (eqb m n) P (P → ⊥)

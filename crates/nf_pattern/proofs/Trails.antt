@@ -1,26 +1,14 @@
 -- Trails: hops one after the other, each taken forward or backward.
-use Rattle.std.proofs.Common.{◌≡◌, ◌≢◌, ℕ, zero, suc, Bool, true, false, not, List, [], ◌∷◌, ◌++◌, map, inl, inr, ◌⊎◌, ⊎_elim, eqb, refl, sym, ap, subst, arith}
+use Rattle.std.proofs.Common.{◌≡◌, ◌≢◌, ℕ, Bool, true, false, not, List, [], ◌∷◌, ◌++◌, map, inl, inr, ◌⊎◌, ⊎_elim, eqb, refl, sym, ap, subst}
 use Rattle.std.specs.Prelude.{Contains, if◌then◌else◌}
 use Rattle.std.proofs.lemmas.Bool.Decides.{eqb_tells}
 use Rattle.nf_graph.proofs.Walks.{IsHop-unique}
 use Rattle.nf_model.specs.Walk.{Hop, IsHop}
 use Rattle.nf_model.specs.Pattern.{IsTrail, AllDiffer}
+use Rattle.nf_rational_laws.proofs.Contained.{contains_none, contains_cases, contains_more, contains_first}
 use Rattle.nf_pattern.specs.Forest.{AreJoined}
 
 -- ---- elements of lists
-contains_none : (x : ℕ) → Contains [] x → ⊥
-contains_none x c = absurd (omega arith)
-
-contains_cases : (y : ℕ) (ys : List ℕ) (x : ℕ) → Contains (y ∷ ys) x → (y ≡ x) ⊎ Contains ys x
-contains_cases y ys x (zero, h, e) = inl e
-contains_cases y ys x (suc k, h, e) = inr (k, omega arith, e)
-
-contains_more : (y : ℕ) (ys : List ℕ) (x : ℕ) → Contains ys x → Contains (y ∷ ys) x
-contains_more y ys x (k, h, e) = (suc k, omega arith, e)
-
-contains_first : (y : ℕ) (ys : List ℕ) (x : ℕ) → y ≡ x → Contains (y ∷ ys) x
-contains_first y ys x e = (zero, omega arith, e)
-
 abbrev pub Steps : Type 0
 Steps = List (ℕ × Bool)
 

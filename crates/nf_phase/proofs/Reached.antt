@@ -1,11 +1,12 @@
 -- Facts on every reachable run state, and the preconditions of the search for the next phase.
-use Rattle.std.proofs.Common.{◌≡◌, ℕ, List, length, true, sym, ap, subst, refl, ◌∙◌}
-use Rattle.std.specs.Prelude.{Option, Some, None, is_none}
+use Rattle.std.proofs.Common.{◌≡◌, ℕ, List, length, true, sym, ap, subst, ◌∙◌}
+use Rattle.std.specs.Prelude.{None, is_none}
 use Rattle.std.proofs.lemmas.List.{length-map, length-replicate}
 use Rattle.nf_rational.specs.Rational.{ℚ}
 use Rattle.nf_rational.specs.Operations.{0ℚ}
 use Rattle.nf_rational.specs.Order.{lt_ℚ}
 use Rattle.nf_rational_laws.proofs.Order.{not_both_ℚ}
+use Rattle.nf_rational_laws.proofs.Results.{None_of_test}
 use Rattle.nf_frac_def.specs.Passing.{Passing}
 use Rattle.nf_model.specs.declared.State.TheVariants.{Full}
 use Rattle.nf_model.specs.Entries.{Has}
@@ -39,13 +40,9 @@ Stands-start net good s h = record {
   no_full = λ e u full. none_full (length net.links) e (subst (λ (p : Pattern). HasState p e Full) h.last full);
 }
 
-none_of : (capacity : Option ℚ) → is_none capacity ≡ true → capacity ≡ None
-none_of None h = refl
-none_of (Some x) h = absurd (cc)
-
 -- An unbounded link by its number.
 unbounded_link : (net : Network) (e : ℕ) → Has (unbounded net) e → (link : Link) × IsLink net e link × (link.capacity ≡ None)
-unbounded_link net e u = let l = from_map (λ (link : Link). is_none link.capacity) net.links e true u in (l.0, l.1, none_of l.0.capacity l.2)
+unbounded_link net e u = let l = from_map (λ (link : Link). is_none link.capacity) net.links e true u in (l.0, l.1, None_of_test l.0.capacity l.2)
 
 Stands-restored : (passes : Passing) (net : Network) (good : IsNetwork net) (s : Standing) → IsRestored passes net s → Stands net s
 Stands-restored passes net good s r = record {

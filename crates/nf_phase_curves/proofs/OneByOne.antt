@@ -15,8 +15,8 @@ use Rattle.nf_model.specs.Equilibrium.{Trace}
 use Rattle.nf_thin_def.specs.ReportCurves.{GrowingCurve, LinkCurves}
 use Rattle.nf_phase_def.specs.Restoring.{link_curves_of, growing}
 use Rattle.nf_curve.proofs.Exits.{after_err, after_ok, each_goes, each_stops, each_ends, err_before, ok_before}
-use Rattle.nf_thin_laws.proofs.Numbered.{drop_at}
 use Rattle.nf_pattern.proofs.Each.{take_pushed}
+use Rattle.nf_rational_laws.proofs.Entries.{drop_entry}
 use Rattle.nf_phase_curves.specs.Growing.{Roomy, all_grown}
 use Rattle.nf_phase_curves.specs.Restoring.{of_link, of_links}
 
@@ -34,7 +34,7 @@ module _ {A B : Type 0} (f : A → Result B (Passed ℚ)) (xs : List A) where
 
   module _ (front : List B) (i : ℕ) (x : A) (at : slice_get xs i ≡ Some x) (so : SoFar front i) where
     so_now : with_front front (each f (x ∷ drop (suc i) xs)) ≡ each f xs
-    so_now = ap (λ (rest : List A). with_front front (each f rest)) (sym (drop_at xs i x at)) ∙ so
+    so_now = ap (λ (rest : List A). with_front front (each f rest)) (sym (drop_entry xs i x at)) ∙ so
 
     pub one_more : (y : B) → at_part Curve (f x) ≡ Ok y → SoFar (front ++ y ∷ []) (i + 1)
     one_more y said =

@@ -13,6 +13,7 @@ use Rattle.nf_phase_laws.proofs.Holds.{sent-is, queue_early, outflow_early}
 use Rattle.nf_phase_equilibrium_laws.proofs.Served.{outflow-entered, outflow-waits}
 use Rattle.nf_phase_equilibrium_laws.proofs.Printed.{rises-link, starts-link, first, labels-at, source-at, label-nn, label-order, up_to_now, not_undercut, comes_out-at, none-before}
 use Rattle.nf_rational_laws.proofs.Signs.{zero_from_same}
+use Rattle.nf_rational_laws.proofs.Facts.{same_of_plus_zero}
 
 -- ---- over plain numbers: a and b the labels at the tail and the head, r the transit time, x the exit, q the queue, c the capacity
 no_slack : (a b r x : ℚ) → x ≡ a +ℚ r +ℚ 0ℚ → b ≤ℚ x → b -ℚ (a +ℚ r) ≤ℚ 0ℚ
@@ -32,9 +33,6 @@ no_wait c w q e f = linear_eq (c ∷ w ∷ q ∷ []) (eq e ∷ eq f ∷ []) (sea
 
 back_again : (b r : ℚ) → b ≡ (b -ℚ r) +ℚ r
 back_again b r = linear_eq (b ∷ r ∷ []) [] (search reading_of) tt tt
-
-less_none : (s t : ℚ) → s +ℚ 0ℚ ≡ t +ℚ 0ℚ → s ≡ t
-less_none s t e = linear_eq (s ∷ t ∷ []) (eq e ∷ []) (search reading_of) tt tt
 
 more_in : (s u t : ℚ) → s +ℚ u ≡ t +ℚ 0ℚ → s +ℚ u ≡ t
 more_in s u t e = linear_eq (s ∷ u ∷ t ∷ []) (eq e ∷ []) (search reading_of) tt tt
@@ -158,7 +156,7 @@ module _ (net : Network) (flow : Flow) (good : IsNetwork net) (is : Equilibrium 
     amount_rises = is.nash.rises;
     amount_starts = is.nash.starts;
     sent_starts = λ e link p. x-is e link 0ℚ p ∙ none-before net flow good is e link p;
-    inner = λ v departure h a b w. less_none _ _ (ins v departure 0ℚ 0ℚ w (is.nash.conserves.inner v (l v departure) h a b (up_to_now net flow good is v departure h w)));
+    inner = λ v departure h a b w. same_of_plus_zero _ _ (ins v departure 0ℚ 0ℚ w (is.nash.conserves.inner v (l v departure) h a b (up_to_now net flow good is v departure h w)));
     supplied = λ departure w. more_in _ _ _ (ins net.source departure (supply net departure) 0ℚ w
         (subst (λ (z : ℚ). Balances net F net.source z (supply net departure) 0ℚ) (sym (source-at net flow good is departure w)) (is.nash.conserves.source departure w)));
     drained = λ departure w. more_out _ _ _ (ins net.sink departure 0ℚ (supply net departure) w (is.nash.conserves.sink departure w));

@@ -4,6 +4,7 @@ use Rattle.nf_phase_laws.proofs.Common.{ℚ, 0ℚ, 1ℚ, ◌+ℚ◌, ◌-ℚ◌,
 use Rattle.nf_phase_laws.proofs.Common.{le, lt, eq, le_times, linear_le, linear_lt, number_at, Within, Link, Piece, Network, Lasts, IsExtension, IsPhaseLength}
 use Rattle.nf_phase_laws.proofs.Common.{IsPhase, quotient-times, ≤ℚ_trans, <_≤_trans, min_left, min_right, min_keeps}
 use Rattle.nf_rational_laws.proofs.Quotient.{/ℚ_is, ps_inv}
+use Rattle.nf_rational_laws.proofs.Facts.{one_ps}
 
 -- ---- if each entry of a list allows some time, some time is allowed by all of them
 pub record Fitting {A : Type 0} (xs : List A) (Fits : ℕ → A → ℚ → Type 0) : Type 0 where
@@ -13,9 +14,6 @@ pub record Fitting {A : Type 0} (xs : List A) (Fits : ℕ → A → ℚ → Type
 
 lesser : (a b : ℚ) → 0ℚ <ℚ a → 0ℚ <ℚ b → (0ℚ <ℚ min_ℚ a b) × ((min_ℚ a b ≤ℚ a) × (min_ℚ a b ≤ℚ b))
 lesser a b h k = (min_keeps (λ (z : ℚ). 0ℚ <ℚ z) a b h k, (min_left a b, min_right a b))
-
-one_ps : 0ℚ <ℚ 1ℚ
-one_ps = linear_lt [] [] (search reading_of) tt
 
 pub fits_all : {A : Type 0} (xs : List A) (Fits : ℕ → A → ℚ → Type 0) → ((i : ℕ) (x : A) (long short : ℚ) → Fits i x long → short ≤ℚ long → Fits i x short)
     → ((i : ℕ) (x : A) → slice_get xs i ≡ Some x → (time : ℚ) × (0ℚ <ℚ time) × Fits i x time) → Fitting xs Fits

@@ -1,5 +1,6 @@
 -- Runs whose first phase may be the remainder of an interrupted one. A run from the start is not mid-phase.
-use Rattle.std.proofs.Common.{◌≡◌, ℕ, zero, suc, ◌<◌, [], ◌∷◌, length, Option, Some, None, slice_get, replicate, sym, ap, refl, ◌∙◌, arith}
+use Rattle.std.proofs.Common.{◌≡◌, ℕ, [], ◌∷◌, length, Option, None, slice_get, sym, ap, ◌∙◌}
+use Rattle.nf_rational_laws.proofs.Entries.{slice_get-replicate}
 use Rattle.nf_phase_laws.proofs.Common.{slice_get_within, ℚ, 0ℚ, ◌+ℚ◌, ◌-ℚ◌, reading_of, eq, linear_eq, Passing, number_at, Link, Network, IsNetwork, IsLink}
 use Rattle.nf_phase_laws.proofs.Common.{Pattern, AreTransitLabels, Cause}
 use Rattle.nf_model_laws.proofs.EarliestTransits.{AreTransitLabels-least}
@@ -21,17 +22,12 @@ module _ (passes : Passing) (net : Network) (good : IsNetwork net) (bounds : Bou
   WellRun-on s last stop well (steps {new = t} may step rest) = WellRun-on t last stop (WellRun-step s t well step) rest
 
 -- ---- a run from the start is not mid-phase: a link with slack 0 leads into the sink, and no link has a state
-entry-replicate : {A : Type 0} (n e : ℕ) (x : A) → e < n → slice_get (replicate n x) e ≡ Some x
-entry-replicate zero e x h = absurd (omega arith)
-entry-replicate (suc n) zero x h = refl
-entry-replicate (suc n) (suc e) x h = entry-replicate n e x (omega arith)
-
 pub closed-at_start : (net : Network) (s : Standing) → IsNetwork net → IsStart net s → Continues net s → ⊥
 closed-at_start net s good start (made, opened) =
     let labels : AreTransitLabels net (number_at s.labels) = AreTransitLabels-least net (number_at s.labels) good start.labels.each in
     let w : (e : ℕ) × (link : Link) × IsLink net e link × (link.head ≡ net.sink)
     × (number_at s.labels net.sink ≡ number_at s.labels link.tail +ℚ link.transit) = labels.entered net.sink good.sink (λ e. good.apart (sym e)) in
-    opened.apart w.0 w.1 w.2 (ap (λ (l : Pattern). slice_get l w.0) start.last ∙ entry-replicate (length net.links) w.0 None (slice_get_within net.links w.0 w.1 w.2))
+    opened.apart w.0 w.1 w.2 (ap (λ (l : Pattern). slice_get l w.0) start.last ∙ slice_get-replicate (length net.links) w.0 None (slice_get_within net.links w.0 w.1 w.2))
     (just_then _ _ w.1.transit (ap (number_at s.labels) w.3 ∙ w.4))
   where
     just_then : (b a r : ℚ) → b ≡ a +ℚ r → b -ℚ (a +ℚ r) ≡ 0ℚ

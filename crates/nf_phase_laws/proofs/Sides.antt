@@ -1,9 +1,10 @@
 -- The time for which a link stays on its side: inactive with slack at most 0, or resetting with slack at least 0.
 use Rattle.std.proofs.Common.{◌≡◌, [], ◌∷◌, ◌⊎◌, inl, inr, ⊎_elim, Bool, true, false, sym, refl, ◌&&◌, ◌||◌}
-use Rattle.nf_phase_laws.proofs.Common.{ℚ, 0ℚ, ◌+ℚ◌, ◌-ℚ◌, ◌*ℚ◌, ◌/ℚ◌, ◌≤ℚ◌, ◌<ℚ◌, le_ℚ, lt_ℚ, reading_of, le, lt, eq, le_times, linear_le, linear_false}
-use Rattle.nf_phase_laws.proofs.Common.{lt_or_le_ℚ, ps_times, less_ps, ≤ℚ_antisymm, ≤ℚ_of_lt, le_of_test, less_of_test, test_of_less, not_less_of_test, Within}
+use Rattle.nf_phase_laws.proofs.Common.{ℚ, 0ℚ, ◌+ℚ◌, ◌-ℚ◌, ◌*ℚ◌, ◌/ℚ◌, ◌≤ℚ◌, ◌<ℚ◌, lt_ℚ, reading_of, le, lt, eq, le_times, linear_le, linear_false}
+use Rattle.nf_phase_laws.proofs.Common.{lt_or_le_ℚ, ps_times, less_ps, ≤ℚ_of_lt, less_of_test, test_of_less, not_less_of_test, Within}
 use Rattle.nf_phase_laws.proofs.Common.{is_zero, are_opposite, ≤ℚ_refl, ≤ℚ_trans, and_parts, false≢true, or_cases}
 use Rattle.nf_rational_laws.proofs.Quotient.{ps_apart, /ℚ-times}
+use Rattle.nf_rational_laws.proofs.SignTests.{zero_of_test}
 use Rattle.nf_phase_laws.proofs.Limits.{HoldsUpTo, HoldsAlways}
 
 pub record KeepsSide (slack change length : ℚ) : Type 0 where
@@ -93,14 +94,11 @@ away_of s c e = record {
   above = λ h. not_less_of_test c 0ℚ (none_of_second (lt_ℚ s 0ℚ && lt_ℚ 0ℚ c) (lt_ℚ 0ℚ s) (lt_ℚ c 0ℚ) e (test_of_less 0ℚ s h));
 }
 
-zero_of : (s : ℚ) → is_zero s ≡ true → s ≡ 0ℚ
-zero_of s e = ≤ℚ_antisymm s 0ℚ (le_of_test s 0ℚ (and_parts (le_ℚ s 0ℚ) (le_ℚ 0ℚ s) e).0) (le_of_test 0ℚ s (and_parts (le_ℚ s 0ℚ) (le_ℚ 0ℚ s) e).1)
-
 -- ---- the time for which a link stays on its side
 pub keeps_at_zero : (s c : ℚ) → is_zero s ≡ true → HoldsAlways (KeepsSide s c)
 keeps_at_zero s c e length h = record {
-  inactive = λ while below w. absurd (not_less (zero_of s e) below);
-  resetting = λ while above w. absurd (not_more (zero_of s e) above);
+  inactive = λ while below w. absurd (not_less (zero_of_test s e) below);
+  resetting = λ while above w. absurd (not_more (zero_of_test s e) above);
 }
   where
     not_less : s ≡ 0ℚ → s <ℚ 0ℚ → ⊥

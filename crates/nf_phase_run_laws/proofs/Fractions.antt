@@ -1,5 +1,5 @@
 -- Which numbers are fractions of a file: 0 and 1, the results of operations that don't pass, and the numbers of a network.
-use Rattle.std.proofs.Common.{◌≡◌, ℕ, zero, suc, ◌*◌, ◌/◌, ◌≤◌, ◌||◌, Bool, true, false, if◌then◌else◌, List, [], ◌∷◌, nat_lt, nat_abs, ℤ, pos, negsuc, ◌+ℤ◌, ◌*ℤ◌, neg_ℤ, refl, sym, subst, arith, Option, Some, None, unwrap_or, lit≤}
+use Rattle.std.proofs.Common.{◌≡◌, ℕ, ◌*◌, ◌/◌, ◌≤◌, ◌||◌, Bool, true, false, if◌then◌else◌, List, [], ◌∷◌, nat_lt, nat_abs, ℤ, pos, ◌+ℤ◌, ◌*ℤ◌, neg_ℤ, refl, sym, subst, arith, Option, Some, None, unwrap_or, lit≤}
 use Rattle.nf_phase_run_laws.proofs.Common.{AllByRecursion, Op, Sum, Difference, Product, Quotient, number_at, Hop, Link, Piece, Network, hop_of, hops}
 use Rattle.nf_phase_run_laws.proofs.Common.{rate_from, rate_at, first_start, next_change, IsFraction, IsFractionPiece, IsFractionOrNone}
 use Rattle.std.proofs.lemmas.Bool.{le-ltb, ltb-false, or_parts, or_from}
@@ -8,6 +8,7 @@ use Rattle.nf_rational.specs.Rational.{ℚ, ratio}
 use Rattle.nf_rational.specs.Operations.{whole, 0ℚ, 1ℚ, neg_ℚ, ◌+ℚ◌, ◌-ℚ◌}
 use Rattle.nf_rational.specs.Order.{le_ℚ, lt_ℚ, min_ℚ}
 use Rattle.nf_rational_laws.proofs.Lowest.{plus_over_lcm}
+use Rattle.nf_rational_laws.proofs.Ints.{abs-neg}
 use Rattle.nf_frac_def.specs.Passing.{passes_Q, result_of, beyond, sum_is_wide}
 use Rattle.nf_net_def.specs.Numbers.{greatest}
 use Rattle.nf_net_laws.proofs.LinesBack.{within}
@@ -49,14 +50,9 @@ result_fraction Product x y e = e
 result_fraction Quotient x y e = e
 
 -- ---- without an operation
-abs_opposite : (z : ℤ) → nat_abs (neg_ℤ z) ≡ nat_abs z
-abs_opposite (pos zero) = refl
-abs_opposite (pos (suc k)) = refl
-abs_opposite (negsuc k) = refl
-
 pub opposite_fraction : (x : ℚ) → IsFraction x → IsFraction (neg_ℚ x)
 unfolding neg_ℚ
-opposite_fraction x h = let parts = within x h in ratio_fraction (neg_ℤ x.num) x.den (subst (λ (k : ℕ). k ≤ greatest) (sym (abs_opposite x.num)) parts.0) parts.1
+opposite_fraction x h = let parts = within x h in ratio_fraction (neg_ℤ x.num) x.den (subst (λ (k : ℕ). k ≤ greatest) (sym (abs-neg x.num)) parts.0) parts.1
 
 pub least_fraction : (x y : ℚ) → IsFraction x → IsFraction y → IsFraction (min_ℚ x y)
 unfolding min_ℚ

@@ -3,7 +3,7 @@ use Rattle.std.proofs.Common.{◌≡◌, ℕ, zero, suc, ◌<◌, List, [], ◌�
 use Rattle.nf_phase_run_laws.proofs.Common.{AllByRecursion, ℚ, 0ℚ, ◌+ℚ◌, ◌≤ℚ◌, reading_of, le, eq, linear_le, linear_eq, Sum, Hop, IsWalk, transit_of}
 use Rattle.nf_phase_run_laws.proofs.Common.{transit_sum, IsLeastTransit, Link, hops, AreStartLabels, NamedLink, Named, links_by_name, IsFraction, IsCapacity}
 use Rattle.nf_phase_run_laws.proofs.Common.{IsNamedLink, IsNamed, IsFractionOrNone}
-use Rattle.nf_model_laws.proofs.Networks.{transit_of-hop}
+use Rattle.nf_model_laws.proofs.Networks.{transit_of-hop, transit_sum-append}
 use Rattle.nf_net_def.specs.Names.{Name}
 use Rattle.nf_net_laws.proofs.WalkFacts.{walk_push, LastHop}
 use Rattle.nf_phase_run_laws.proofs.Lists.{all_from}
@@ -52,10 +52,6 @@ ends_by hops e (f ∷ walk) u v h =
       sum = longer (transit_of hops e) (transit_sum hops (f ∷ walk)) (transit_sum hops r.front) r.hop.transit r.sum;
     }
 
-sum-push : (hops : List Hop) (walk : List ℕ) (e : ℕ) → transit_sum hops (walk ++ e ∷ []) ≡ transit_sum hops walk +ℚ transit_of hops e
-sum-push hops [] e = alone (transit_of hops e) (transit_of hops e) refl
-sum-push hops (f ∷ walk) e = longer (transit_of hops f) (transit_sum hops (walk ++ e ∷ [])) (transit_sum hops walk) (transit_of hops e) (sum-push hops walk e)
-
 -- a least walk without its last hop is least
 less_before : (a b f t w : ℚ) → a ≡ f +ℚ t → b ≡ w +ℚ t → a ≤ℚ b → f ≤ℚ w
 less_before a b f t w e g h = linear_le (a ∷ b ∷ f ∷ t ∷ w ∷ []) (eq e ∷ eq g ∷ le h ∷ []) (search reading_of) tt
@@ -65,7 +61,7 @@ front_least : (hops : List Hop) (u v : ℕ) (walk : List ℕ) (r : EndsBy hops u
 front_least hops u v walk r least = record {
   taken = (r.front, r.is_walk, refl);
   bound = λ other is. less_before (transit_sum hops walk) (transit_sum hops (other ++ r.number ∷ [])) (transit_sum hops r.front) r.hop.transit (transit_sum hops other) r.sum
-      (sum-push hops other r.number ∙ ap (λ (t : ℚ). transit_sum hops other +ℚ t) (transit_of-hop hops r.number r.hop r.is_hop))
+      (transit_sum-append hops other r.number ∙ ap (λ (t : ℚ). transit_sum hops other +ℚ t) (transit_of-hop hops r.number r.hop r.is_hop))
       (least.bound (other ++ r.number ∷ []) (subst (λ (w : ℕ). IsWalk hops (other ++ r.number ∷ []) u w) r.head (walk_push hops other u r.hop.tail r.number r.hop is r.is_hop refl)));
 }
 

@@ -6,8 +6,8 @@ use Rattle.nf_phase_run_laws.proofs.Common.{IsPhaseRun, flow_of, report_of, IsRu
 use Rattle.nf_phase_run_laws.proofs.Common.{HasThinFlow, WellRun-on}
 use Rattle.nf_complete_def.specs.Reached.{labels_reached, StopsForNoThinFlow}
 use Rattle.nf_complete_laws.proofs.Stopped.{end_stops, stops_for_none}
-use Rattle.nf_forever_def.specs.ForeverRun.{End, Stops, NeverEnds, Forever, forever_of, IsForever}
-use Rattle.nf_forever_laws.proofs.Run.{Equilibrium-forever}
+use Rattle.nf_forever_def.specs.ForeverRun.{Forever, IsForever}
+use Rattle.nf_forever_laws.proofs.Run.{Equilibrium-forever, Equilibrium-forever_of}
 use Rattle.nf_forever_laws.proofs.Stopped.{forever_stops_for_none}
 use Rattle.nf_phase_run_laws.proofs.Stopping.{resumed_ends, resumed_stops_for_none}
 use Rattle.nf_complete_laws.proofs.Numbers.{number_at-numbers}
@@ -50,12 +50,8 @@ never_resumed passes net bounds old phases report good formed r = never_of net r
     (resumed_stops_for_none passes net bounds old phases report good formed r)
 
 -- ---- those without a horizon
-of_end : (net : Network) (last : Standing) (end : End) → Equilibrium net (flow_of last) → Equilibrium net (forever_of last end).flow
-of_end net last (Stops cause) is = is
-of_end net last (NeverEnds pattern tail) is = is
-
 pub never_forever : (passes : Passing) (net : Network) (phases patterns : ℕ) (forever : Forever) → IsNetwork net
     → IsForever passes net phases patterns forever → NeverNoPattern forever.stop
 never_forever passes net phases patterns forever good f = never_of net forever.flow forever.stop good
-    (subst (λ (w : Forever). Equilibrium net w.flow) (sym f.forever_is) (of_end net f.last f.end (Equilibrium-forever passes net good phases patterns f.last f.end f.run)))
+    (subst (λ (w : Forever). Equilibrium net w.flow) (sym f.forever_is) (Equilibrium-forever_of net f.last f.end (Equilibrium-forever passes net good phases patterns f.last f.end f.run)))
     (forever_stops_for_none passes net phases patterns forever good f)

@@ -1,7 +1,8 @@
 -- The forward minus the backward crossings of a link by a walk. They balance at each node except the ends of the walk. Weighted with the
 -- transit times, they sum to the walk's length.
 use Rattle.std.proofs.Common.{◌≡◌, ◌≢◌, ℕ, zero, suc, List, [], ◌∷◌, ◌⊎◌, inl, inr, ⊎_elim, Bool, true, false, if◌then◌else◌, eqb, Some, slice_get, sym, ap, subst, refl, ◌∙◌, suc-ne-zero}
-use Rattle.nf_rational_laws.proofs.Facts.{first_is_zero}
+use Rattle.nf_rational_laws.proofs.Facts.{term_and_none}
+use Rattle.nf_rational_laws.proofs.Signs.{first_is_zero}
 use Rattle.nf_quick_laws.proofs.Common.{eqb_tells, ℚ, 0ℚ, 1ℚ, ◌+ℚ◌, ◌-ℚ◌, ◌*ℚ◌, reading_of, eq, eq_times, linear_eq, both_are_zero, first_and_zero}
 use Rattle.nf_quick_laws.proofs.Common.{term_and_zero, zero_of_zero_times, same_terms, same_differences, same_sums, Link, Network, sum_in, sum_out, sum_in-same}
 use Rattle.nf_quick_laws.proofs.Common.{sum_out-same, sum_in-none, sum_out-none, transit_of-is, only_at, out_less_in, Step, begin_of, end_of, signed, Leads}
@@ -47,10 +48,6 @@ crossed-cases P (step ∷ walk) e apart each = ⊎_elim
     (eqb_tells step.link e)
 
 -- ---- sums with one term, and sums of sums
-if_one : (b : Bool) (a s : ℚ) → s ≡ 0ℚ → (if b then a +ℚ s else s) ≡ (if b then a else 0ℚ)
-if_one true a s e = linear_eq (a ∷ s ∷ []) (eq e ∷ []) (search reading_of) tt tt
-if_one false a s e = e
-
 if_none : (b : Bool) (a s t : ℚ) → a ≡ 0ℚ → s ≡ t → (if b then a +ℚ s else s) ≡ t
 if_none true a s t e f = linear_eq (a ∷ s ∷ t ∷ []) (eq e ∷ eq f ∷ []) (search reading_of) tt tt
 if_none false a s t e f = f
@@ -69,7 +66,7 @@ pub sum_out-only : (links : List Link) (f : ℕ → ℚ) (k : ℕ) (link : Link)
     → sum_out links f v ≡ (if eqb link.tail v then f k else 0ℚ)
 sum_out-only [] f k link v p h = absurd (cc)
 sum_out-only (l ∷ links) f zero link v p h =
-    if_one (eqb l.tail v) (f 0) _ (sum_out-same links (λ e. f (suc e)) (λ _. 0ℚ) v (λ e m _ _. h (suc e) (zero_other e)) ∙ sum_out-none links v)
+    term_and_none (eqb l.tail v) (f 0) _ (sum_out-same links (λ e. f (suc e)) (λ _. 0ℚ) v (λ e m _ _. h (suc e) (zero_other e)) ∙ sum_out-none links v)
     ∙ ap (λ (m : Link). if eqb m.tail v then f 0 else 0ℚ) (same_Some l link p)
 sum_out-only (l ∷ links) f (suc k) link v p h =
     if_none (eqb l.tail v) (f 0) _ _ (h 0 (suc-ne-zero k)) (sum_out-only links (λ e. f (suc e)) k link v p (λ e other. h (suc e) (suc_other k e other)))
@@ -78,7 +75,7 @@ pub sum_in-only : (links : List Link) (f : ℕ → ℚ) (k : ℕ) (link : Link) 
     → sum_in links f v ≡ (if eqb link.head v then f k else 0ℚ)
 sum_in-only [] f k link v p h = absurd (cc)
 sum_in-only (l ∷ links) f zero link v p h =
-    if_one (eqb l.head v) (f 0) _ (sum_in-same links (λ e. f (suc e)) (λ _. 0ℚ) v (λ e m _ _. h (suc e) (zero_other e)) ∙ sum_in-none links v)
+    term_and_none (eqb l.head v) (f 0) _ (sum_in-same links (λ e. f (suc e)) (λ _. 0ℚ) v (λ e m _ _. h (suc e) (zero_other e)) ∙ sum_in-none links v)
     ∙ ap (λ (m : Link). if eqb m.head v then f 0 else 0ℚ) (same_Some l link p)
 sum_in-only (l ∷ links) f (suc k) link v p h =
     if_none (eqb l.head v) (f 0) _ _ (h 0 (suc-ne-zero k)) (sum_in-only links (λ e. f (suc e)) k link v p (λ e other. h (suc e) (suc_other k e other)))

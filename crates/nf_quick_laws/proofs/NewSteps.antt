@@ -1,5 +1,6 @@
 -- A push along the first residual walk, of an amount for which it has room, keeps a flow sound.
 use Rattle.std.proofs.Common.{◌≡◌, ◌≢◌, ℕ, ◌<◌, List, [], ◌∷◌, ◌⊎◌, inl, inr, ⊎_elim, Bool, true, false, Option, Some, None, sym, ap, subst, refl, ◌∙◌}
+use Rattle.nf_rational_laws.proofs.Facts.{moved_by_one}
 use Rattle.nf_quick_laws.proofs.Common.{same_Some, append-nil, ℚ, 0ℚ, 1ℚ, ◌+ℚ◌, ◌-ℚ◌, ◌*ℚ◌, ◌≤ℚ◌, ◌<ℚ◌, lt_ℚ, reading_of, less_of_test, le, lt, eq, eq_times}
 use Rattle.nf_quick_laws.proofs.Common.{linear_le, linear_eq, moved_by_zero, zero_not_above, number_at, Link, Network, IsLink, IsNetwork, hops, sum_in, sum_out}
 use Rattle.nf_quick_laws.proofs.Common.{transit_of, sum_in-same, sum_out-same, sum_in-none, sum_in-line, sum_out-line, only_at, only_at-here, only_at-else}
@@ -11,9 +12,6 @@ use Rattle.nf_quick_laws.proofs.Apart.{EachStep, AreApart, IsFine, front_least, 
 use Rattle.nf_quick_laws.proofs.Crossings.{IsTaken, crossed-cases, crossed-balance, crossed-cost, cost_from-same, cost_from-plus, cost_from-times}
 
 -- ---- numbers: y is the new flow, x the old one, c the crossings of the link
-grows : (x y c a : ℚ) → c ≡ 1ℚ → y ≡ x +ℚ c *ℚ a → y ≡ x +ℚ a
-grows x y c a e f = linear_eq (x ∷ y ∷ c ∷ a ∷ []) (eq_times a e ∷ eq f ∷ []) (search reading_of) tt tt
-
 pub shrinks : (x y c a : ℚ) → c ≡ 0ℚ -ℚ 1ℚ → y ≡ x +ℚ c *ℚ a → y ≡ x -ℚ a
 shrinks x y c a e f = linear_eq (x ∷ y ∷ c ∷ a ∷ []) (eq_times a e ∷ eq f ∷ []) (search reading_of) tt tt
 
@@ -37,13 +35,13 @@ same_nn x y h e = linear_le (x ∷ y ∷ []) (le h ∷ eq e ∷ []) (search read
 
 -- By the direction in which the link is used.
 new_nn : (d : Bool) (capacity : Option ℚ) (x y c a : ℚ) → 0ℚ ≤ℚ x → 0ℚ <ℚ a → c ≡ signed d 1ℚ → y ≡ x +ℚ c *ℚ a → HasRoomAlong d capacity x a → 0ℚ ≤ℚ y
-new_nn true capacity x y c a h k e f room = more_nn x y a h k (grows x y c a e f)
+new_nn true capacity x y c a h k e f room = more_nn x y a h k (moved_by_one x y c a e f)
 new_nn false capacity x y c a h k e f room = less_nn x y a room (shrinks x y c a e f)
 
 new_within : (d : Bool) (capacity : Option ℚ) (x y c a most : ℚ) → capacity ≡ Some most → x ≤ℚ most → 0ℚ <ℚ a → c ≡ signed d 1ℚ → y ≡ x +ℚ c *ℚ a → HasRoomAlong d capacity x a
     → y ≤ℚ most
 new_within true None x y c a most p h k e f room = absurd (cc)
-new_within true (Some capacity) x y c a most p h k e f room = more_within x y a most (subst (λ (m : ℚ). x +ℚ a ≤ℚ m) (same_Some capacity most p) room) (grows x y c a e f)
+new_within true (Some capacity) x y c a most p h k e f room = more_within x y a most (subst (λ (m : ℚ). x +ℚ a ≤ℚ m) (same_Some capacity most p) room) (moved_by_one x y c a e f)
 new_within false capacity x y c a most p h k e f room = less_within x y a most h k (shrinks x y c a e f)
 
 same_ways : (c d : Bool) → (c ≡ d) ⊎ (c ≡ d → ⊥)

@@ -1,15 +1,11 @@
 -- The flow 0 is sound, and each walk of the network is a residual walk for it.
-use Rattle.std.proofs.Common.{◌≡◌, ℕ, zero, suc, List, [], ◌∷◌, length, Bool, true, false, Option, Some, None, replicate, sym, ap, subst, refl, ◌∙◌}
+use Rattle.std.proofs.Common.{◌≡◌, ℕ, List, [], ◌∷◌, length, Bool, true, false, Option, Some, None, replicate, sym, ap, subst, refl, ◌∙◌}
+use Rattle.nf_model.proofs.Entries.{number_at-zeros}
 use Rattle.nf_quick_laws.proofs.Common.{length-replicate, ℚ, 0ℚ, ◌≤ℚ◌, ◌<ℚ◌, ≤ℚ_of_lt, ≤ℚ_of_same, nn_plus, less_of_test, test_of_less, number_at, Hop, IsWalk}
 use Rattle.nf_quick_laws.proofs.Common.{transit_of, Link, Network, IsLink, IsNetwork, hops, hop_of, sum_out, sum_in-same, sum_out-same, sum_in-none}
 use Rattle.nf_quick_laws.proofs.Common.{sum_out-none, transit_of-is, link_at, Step, signed, is_below, can_go, IsResidualWalk, walk_length, IsSound, value_of}
 use Rattle.nf_quick_laws.proofs.Common.{cost_of, ≤ℚ_refl, zero_not_above}
 use Rattle.nf_quick_laws.proofs.Crossings.{cost_from-none}
-
-pub number_at-zeros : (n e : ℕ) → number_at (replicate n 0ℚ) e ≡ 0ℚ
-number_at-zeros zero e = refl
-number_at-zeros (suc n) zero = refl
-number_at-zeros (suc n) (suc e) = number_at-zeros n e
 
 module _ (net : Network) (good : IsNetwork net) where
   abbrev zeros : List ℚ

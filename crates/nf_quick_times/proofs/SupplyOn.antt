@@ -1,6 +1,6 @@
 -- The supply by the next start equals the supply by this start plus the amount of the piece between.
-use Rattle.std.proofs.Common.{◌≡◌, ℕ, zero, suc, Bool, if◌then◌else◌, List, [], ◌∷◌, Some, slice_get, refl, sym, ap, subst, ◌∙◌}
-use Rattle.std.specs.Prelude.{Ok, Err}
+use Rattle.std.proofs.Common.{◌≡◌, ℕ, zero, suc, Bool, if◌then◌else◌, List, [], ◌∷◌, Some, slice_get, sym, ap, subst, ◌∙◌}
+use Rattle.std.specs.Prelude.{Ok}
 use Rattle.std.proofs.lemmas.Option.{same_Some}
 use Rattle.nf_rational.specs.Rational.{ℚ}
 use Rattle.nf_rational.specs.Operations.{0ℚ}
@@ -13,14 +13,11 @@ use Rattle.nf_rational_laws.proofs.Chains.{≤ℚ_refl, ≤ℚ_trans}
 use Rattle.nf_rational_laws.proofs.Extremes.{min_is_right}
 use Rattle.nf_frac_def.specs.Passing.{Passing}
 use Rattle.nf_frac_def.specs.Checked.{Checked, ◌>>=◌}
+use Rattle.nf_frac_def.proofs.Binding.{bind_same, bind_end}
 use Rattle.nf_model.specs.Network.{Piece}
 use Rattle.nf_model_laws.proofs.Supply.{StartsRise}
 use Rattle.nf_net.specs.Supply.{end_before, with_piece, supplied_after}
-use Rattle.nf_residual.proofs.LegByLeg.{bind_more, bind_same}
-
-bind_end : {A : Type 0} (r : Checked A) → (r >>= λ x. Ok x) ≡ r
-bind_end (Ok x) = refl
-bind_end (Err p) = refl
+use Rattle.nf_residual.proofs.LegByLeg.{bind_more}
 
 at_or_after : (q : Piece) (later : List Piece) (k : ℕ) (piece : Piece) → StartsRise (q ∷ later) → slice_get (q ∷ later) k ≡ Some piece → q.start ≤ℚ piece.start
 at_or_after q later zero piece s e = subst (λ (p : Piece). q.start ≤ℚ p.start) (same_Some q piece e) (≤ℚ_refl q.start)

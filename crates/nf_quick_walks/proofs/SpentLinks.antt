@@ -2,7 +2,7 @@
 use Rattle.std.proofs.Common.{◌≡◌, ◌≢◌, ℕ, zero, suc, ◌+◌, ◌<◌, ◌≤◌, ◌==◌, ◌&&◌, ◌⊎◌, inl, inr, ⊎_elim, Bool, true, false, if◌then◌else◌, List, [], ◌∷◌, ◌++◌, length, set, replicate, get_or, Option, Some, None, slice_get, unwrap_or, refl, sym, ap, subst, ◌∙◌, add-one, arith}
 use Rattle.std.specs.Prelude.{Ok}
 use Rattle.std.proofs.lemmas.List.{drop_all}
-use Rattle.std.proofs.lemmas.Option.{slice_get_cases}
+use Rattle.std.proofs.lemmas.Option.{slice_get_cases, same_Some}
 use Rattle.std.proofs.lemmas.Bool.{and_parts}
 use Rattle.nf_rational.specs.Rational.{ℚ}
 use Rattle.nf_rational.specs.Operations.{0ℚ}
@@ -20,9 +20,6 @@ use Rattle.nf_quick_def.specs.Walks.{first_out, take_link, take_list}
 use Rattle.nf_residual.proofs.Stopping.{ok_of_part}
 use Rattle.nf_quick_walks.specs.Spent.{is_out, IsSpent, AreSpent, HaveFlow}
 use Rattle.nf_quick_walks.proofs.WalkByWalk.{LooksOn, looks_first, looks_more}
-
-same_number : (m n : ℕ) → Some m ≡ Some n → m ≡ n
-same_number m n e = cc
 
 -- ---- the search continues after the spent links
 pub looks_from : (links : List Link) (v : ℕ) (flows : List ℚ) (n : ℕ) → IsSpent links flows v n → LooksOn links v flows n
@@ -86,14 +83,14 @@ out_has_flow e [] v flows n f = absurd (cc)
 out_has_flow e (x ∷ links) v flows n f = by_test (is_out x v (number_at flows e)) refl (λ g. out_has_flow (suc e) links v flows n g)
   where
     by_test : (t : Bool) → is_out x v (number_at flows e) ≡ t → (first_out (suc e) links v flows ≡ Some n → lt_ℚ 0ℚ (number_at flows n) ≡ true) → lt_ℚ 0ℚ (number_at flows n) ≡ true
-    by_test true t rest = subst (λ (i : ℕ). lt_ℚ 0ℚ (number_at flows i) ≡ true) (same_number e n (sym (ap (λ (b : Bool). head_or b e links v flows) t) ∙ f))
+    by_test true t rest = subst (λ (i : ℕ). lt_ℚ 0ℚ (number_at flows i) ≡ true) (same_Some e n (sym (ap (λ (b : Bool). head_or b e links v flows) t) ∙ f))
         (and_parts (x.tail == v) (lt_ℚ 0ℚ (number_at flows e)) t).1
     by_test false t rest = rest (sym (ap (λ (b : Bool). head_or b e links v flows) t) ∙ f)
 
 -- ---- an entry that is written
 set_cases : (xs : List ℕ) (i x v n : ℕ) → slice_get (set xs i x) v ≡ Some n → ((v ≡ i) × (n ≡ x)) ⊎ (slice_get xs v ≡ Some n)
 set_cases [] i x v n e = absurd (cc)
-set_cases (y ∷ xs) zero x zero n e = inl (refl, sym (same_number x n e))
+set_cases (y ∷ xs) zero x zero n e = inl (refl, sym (same_Some x n e))
 set_cases (y ∷ xs) zero x (suc v) n e = inr e
 set_cases (y ∷ xs) (suc i) x zero n e = inr e
 set_cases (y ∷ xs) (suc i) x (suc v) n e = ⊎_elim (λ (w : (v ≡ i) × (n ≡ x)). inl (ap suc w.0, w.1)) (λ w. inr w) (set_cases xs i x v n e)
@@ -110,7 +107,7 @@ spent_first links flows spent nodes made v n e k link h is = let none : n ≡ 0 
   where
     only : (m v n : ℕ) → slice_get (replicate m 0) v ≡ Some n → n ≡ 0
     only zero v n e = absurd (cc)
-    only (suc m) zero n e = sym (same_number 0 n e)
+    only (suc m) zero n e = sym (same_Some 0 n e)
     only (suc m) (suc v) n e = only m v n e
 
 -- ---- removing a walk leaves spent links spent

@@ -8,6 +8,7 @@ use Rattle.std.proofs.lemmas.Bool.Decides.{eqb_tells}
 use Rattle.nf_rational.specs.Rational.{ℚ}
 use Rattle.nf_rational.specs.Operations.{0ℚ}
 use Rattle.nf_rational_laws.proofs.Results.{not_both}
+use Rattle.nf_rational_laws.proofs.Entries.{all_push}
 use Rattle.nf_frac_def.specs.Passing.{Passing}
 use Rattle.nf_frac_def.specs.declared.Part.TheVariants as Part
 use Rattle.nf_frac_def.specs.declared.PassedAt.{PassedAt}
@@ -65,10 +66,6 @@ pub record LeadsOut (net : Network) (flows : List ℚ) (way : List ℕ) (node k 
   pub same : way ++ way_from (net.nodes - k) net flows node ≡ way_out net flows
   pub within : AllByRecursion (λ e. e < length net.links) way
 
-all_with : {A : Type 0} (P : A → Type 0) (xs : List A) (x : A) → AllByRecursion P xs → P x → AllByRecursion P (xs ++ x ∷ [])
-all_with P [] x a p = (p, tt)
-all_with P (y ∷ xs) x a p = (a.0, all_with P xs x a.1 p)
-
 module _ (net : Network) (flows : List ℚ) where
   module _ (way : List ℕ) (node k : ℕ) (leads : LeadsOut net flows way node k) where
     pub way_ends : net.nodes ≤ k → way ≡ way_out net flows
@@ -89,7 +86,7 @@ module _ (net : Network) (flows : List ℚ) where
         same = append_assoc way (e ∷ []) (way_from (net.nodes - (k + 1)) net flows link.head)
             ∙ ap (λ (v : ℕ). way ++ e ∷ way_from (net.nodes - (k + 1)) net flows v) (sym (ap (λ (o : Option Link). unwrap_or (option_map (λ (l : Link). l.head) o) 0) is))
             ∙ sym (ap (λ (o : Option ℕ). way ++ go o) f) ∙ opened;
-        within = all_with (λ (e : ℕ). e < length net.links) way e leads.within h;
+        within = all_push (λ (e : ℕ). e < length net.links) way e leads.within h;
       }
 
     pub way_goes : (b : k < net.nodes) (e : ℕ) (link : Link) (next : List ℕ) (head : ℕ) → Some e ≡ first_out 0 net.links node flows → IsLink net e link

@@ -5,10 +5,10 @@ use lib.Signed.{quot_z}
 use Rattle.nf_rational.specs.Gcd.{gcd}
 use Rattle.nf_rational.specs.Rational.{ℚ, ratio, same_parts}
 
-over_one : (k : ℕ) → k / 1 ≡ k
+pub over_one : (k : ℕ) → k / 1 ≡ k
 over_one k = omega arith
 
-quot_one : (n : ℤ) → quot_z n (pos 1) ≡ n
+pub quot_one : (n : ℤ) → quot_z n (pos 1) ≡ n
 quot_one (pos a) = ap pos (over_one a)
 quot_one (negsuc a) = ap (λ (k : ℕ). neg_ℤ (pos k)) (over_one (suc a))
 

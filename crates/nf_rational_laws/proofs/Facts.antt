@@ -1,5 +1,6 @@
 -- Short facts on sums, differences and products, each by one call of the solver.
-use Rattle.std.proofs.Common.{◌≡◌, ◌≢◌, [], ◌∷◌, ⊎_elim}
+use Rattle.std.proofs.Common.{◌≡◌, Bool, true, false, [], ◌∷◌, ⊎_elim}
+use Rattle.std.specs.Prelude.{if◌then◌else◌}
 use Rattle.nf_rational.specs.Rational.{ℚ}
 use Rattle.nf_rational.specs.Operations.{0ℚ, 1ℚ, ◌+ℚ◌, ◌-ℚ◌, ◌*ℚ◌}
 use Rattle.nf_rational.specs.Order.{◌≤ℚ◌, ◌<ℚ◌}
@@ -18,11 +19,11 @@ plus_zero x = linear_eq (x ∷ []) [] (search reading_of) tt tt
 pub less_itself : (x : ℚ) → x -ℚ x ≡ 0ℚ
 less_itself x = linear_eq (x ∷ []) [] (search reading_of) tt tt
 
+pub zero_less_zero : 0ℚ ≡ 0ℚ -ℚ 0ℚ
+zero_less_zero = linear_eq [] [] (search reading_of) tt tt
+
 pub without_zero : (y s : ℚ) → y ≡ 0ℚ +ℚ s → y ≡ s
 without_zero y s e = linear_eq (y ∷ s ∷ []) (eq e ∷ []) (search reading_of) tt tt
-
-pub first_is_zero : (x y : ℚ) → x ≡ 0ℚ → x +ℚ y ≡ y
-first_is_zero x y e = linear_eq (x ∷ y ∷ []) (eq e ∷ []) (search reading_of) tt tt
 
 pub second_is_zero : (x y : ℚ) → y ≡ 0ℚ → x +ℚ y ≡ x
 second_is_zero x y e = linear_eq (x ∷ y ∷ []) (eq e ∷ []) (search reading_of) tt tt
@@ -35,6 +36,9 @@ first_and_zero x y z e f = linear_eq (x ∷ y ∷ z ∷ []) (eq e ∷ eq f ∷ [
 
 pub less_zero : (x y : ℚ) → y ≡ 0ℚ → x -ℚ y ≡ x
 less_zero x y e = linear_eq (x ∷ y ∷ []) (eq e ∷ []) (search reading_of) tt tt
+
+pub same_of_plus_zero : (x y : ℚ) → x +ℚ 0ℚ ≡ y +ℚ 0ℚ → x ≡ y
+same_of_plus_zero x y e = linear_eq (x ∷ y ∷ []) (eq e ∷ []) (search reading_of) tt tt
 
 pub same_sums : (a b c d : ℚ) → a ≡ c → b ≡ d → a +ℚ b ≡ c +ℚ d
 same_sums a b c d e f = cc
@@ -52,6 +56,11 @@ sum_of_sum a s p q e = linear_eq (a ∷ s ∷ p ∷ q ∷ []) (eq e ∷ []) (sea
 pub back_and_forth : (a b : ℚ) → a +ℚ (b -ℚ a) ≡ b
 back_and_forth a b = linear_eq (a ∷ b ∷ []) [] (search reading_of) tt tt
 
+-- one more term where b is set
+pub term_and_none : (b : Bool) (a s : ℚ) → s ≡ 0ℚ → (if b then a +ℚ s else s) ≡ (if b then a else 0ℚ)
+term_and_none true a s e = linear_eq (a ∷ s ∷ []) (eq e ∷ []) (search reading_of) tt tt
+term_and_none false a s e = e
+
 -- ---- products
 pub times_first_zero : (x y : ℚ) → x ≡ 0ℚ → x *ℚ y ≡ 0ℚ
 times_first_zero x y e = linear_eq (x ∷ y ∷ []) (eq_times y e ∷ []) (search reading_of) tt tt
@@ -67,6 +76,9 @@ zero_of_times_zero x = linear_eq (x ∷ []) [] (search reading_of) tt tt
 
 pub plus_zero_times : (x y : ℚ) → x ≡ x +ℚ 0ℚ *ℚ y
 plus_zero_times x y = linear_eq (x ∷ y ∷ []) [] (search reading_of) tt tt
+
+pub moved_by_one : (x y k t : ℚ) → k ≡ 1ℚ → y ≡ x +ℚ k *ℚ t → y ≡ x +ℚ t
+moved_by_one x y k t e f = linear_eq (x ∷ y ∷ k ∷ t ∷ []) (eq_times t e ∷ eq f ∷ []) (search reading_of) tt tt
 
 pub moved_by_zero : (x y k t : ℚ) → k ≡ 0ℚ → y ≡ x +ℚ k *ℚ t → y ≡ x
 moved_by_zero x y k t e f = linear_eq (x ∷ y ∷ k ∷ t ∷ []) (eq_times t e ∷ eq f ∷ []) (search reading_of) tt tt
@@ -143,8 +155,8 @@ negated_ps x h = linear_lt (x ∷ []) (lt h ∷ []) (search reading_of) tt
 pub zero_not_above : (x : ℚ) → x ≡ 0ℚ → 0ℚ <ℚ x → ⊥
 zero_not_above x e h = linear_false (x ∷ []) (eq e ∷ lt h ∷ []) (search reading_of) tt
 
-pub above_not_zero : (x : ℚ) → 0ℚ <ℚ x → x ≢ 0ℚ
-above_not_zero x h e = zero_not_above x e h
+pub one_ps : 0ℚ <ℚ 1ℚ
+one_ps = linear_lt [] [] (search reading_of) tt
 
 pub nn_of_one : (x : ℚ) → 1ℚ ≤ℚ x → 0ℚ ≤ℚ x
 nn_of_one x h = linear_le (x ∷ []) (le h ∷ []) (search reading_of) tt

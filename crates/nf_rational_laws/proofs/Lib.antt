@@ -18,3 +18,4 @@ pub mod SignTests
 pub mod Results
 pub mod Naturals
 pub mod Entries
+pub mod Contained

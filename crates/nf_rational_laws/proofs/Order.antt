@@ -13,16 +13,16 @@ use Rattle.nf_rational.specs.Operations.{0ℚ, whole, ◌+ℚ◌, ◌-ℚ◌, �
 use Rattle.nf_rational.specs.Order.{◌≤ℚ◌, ◌<ℚ◌}
 use Rattle.nf_rational_laws.proofs.Ratio.{Is, Is-self, Is-plus, Is-times, Is-less, Is-whole}
 
-zero_num : 0ℚ.num ≡ pos 0
+pub zero_num : 0ℚ.num ≡ pos 0
 unfolding whole ratio gcd
 zero_num = refl
 
-zero_den : 0ℚ.den ≡ 1
+pub zero_den : 0ℚ.den ≡ 1
 unfolding whole ratio gcd
 zero_den = refl
 
 -- ---- the sign of x is that of n
-times_one : (a : ℤ) → a *ℤ pos 1 ≡ a
+pub times_one : (a : ℤ) → a *ℤ pos 1 ≡ a
 times_one a = ring ints_ring (a ∷ []) (search reading depth 30) tt
 
 nn_self : (x : ℚ) → 0ℚ ≤ℚ x → pos 0 ≤ℤ x.num
@@ -74,7 +74,7 @@ ps_in {x} n d p h =
     self_ps x (lt-cancel (pos 0) x.num d p.some (rw (zero-*ℤ d, p.cross, ← zero-*ℤ (pos x.den)) q))
 
 -- ---- x ≤ y when y - x is not negative
-shifted_le : (a b : ℤ) → a ≤ℤ b → pos 0 ≤ℤ (b -ℤ a)
+pub shifted_le : (a b : ℤ) → a ≤ℤ b → pos 0 ≤ℤ (b -ℤ a)
 shifted_le a b h = omega (arith, ints)
 
 shifted_lt : (a b : ℤ) → a <ℤ b → pos 0 <ℤ (b -ℤ a)

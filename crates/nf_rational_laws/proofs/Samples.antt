@@ -11,16 +11,16 @@ use Rattle.nf_rational_laws.proofs.Linear.{le, lt, eq, le_times, eq_times, linea
 use Rattle.nf_rational_laws.proofs.Quotient.{ps_times_inv}
 
 -- an order from orders
-less_through : (a b c : ℚ) → a ≤ℚ b → b <ℚ c → a <ℚ c
-less_through a b c h k = linear_lt (a ∷ b ∷ c ∷ []) (le h ∷ lt k ∷ []) (search reading_of) tt
+less_through : (a b c d : ℚ) → a ≤ℚ b → b <ℚ c → c ≤ℚ d → a <ℚ d
+less_through a b c d h k l = linear_lt (a ∷ b ∷ c ∷ d ∷ []) (le h ∷ lt k ∷ le l ∷ []) (search reading_of) tt
 
 -- terms cancel, and need not stand side by side
 cancelled : (a b c d : ℚ) → a +ℚ b ≤ℚ c → c ≤ℚ d +ℚ b → a ≤ℚ d
 cancelled a b c d h k = linear_le (a ∷ b ∷ c ∷ d ∷ []) (le h ∷ le k ∷ []) (search reading_of) tt
 
 -- a product of two facts is named: 0 ≤ k times a ≤ b
-scaled : (k a b : ℚ) → 0ℚ ≤ℚ k → a ≤ℚ b → k *ℚ a ≤ℚ k *ℚ b
-scaled k a b h p = linear_le (k ∷ a ∷ b ∷ []) (le_times h p ∷ []) (search reading_of) tt
+scaled : (k a b c : ℚ) → 0ℚ ≤ℚ k → a ≤ℚ b → k *ℚ a +ℚ c ≤ℚ k *ℚ b +ℚ c
+scaled k a b c h p = linear_le (k ∷ a ∷ b ∷ c ∷ []) (le_times h p ∷ []) (search reading_of) tt
 
 -- an equation from equations
 rises_add : (p q n s t u : ℚ) → p ≡ n *ℚ (t -ℚ s) → q ≡ n *ℚ (u -ℚ t) → p +ℚ q ≡ n *ℚ (u -ℚ s)

@@ -5,7 +5,7 @@ use Rattle.nf_rational.specs.Rational.{ℚ}
 use Rattle.nf_rational.specs.Operations.{0ℚ}
 use Rattle.nf_rational.specs.Order.{le_ℚ, lt_ℚ}
 use Rattle.nf_rational_laws.proofs.Tests.{le_of_test, test_of_le, not_less_itself}
-use Rattle.nf_rational.specs.Signs.{is_positive, are_opposite, is_same}
+use Rattle.nf_rational.specs.Signs.{is_positive, are_opposite, is_same, is_zero}
 use Rattle.nf_rational_laws.proofs.Order.{≤ℚ_of_same, ≤ℚ_antisymm}
 
 neither : (a b c d : Bool) → c ≡ false → d ≡ false → ((a && c) || (b && d)) ≡ true → ⊥
@@ -26,6 +26,9 @@ positive_apart x e same = let f : lt_ℚ 0ℚ x ≡ false = ap (λ (z : ℚ). lt
 -- ---- the test whether two numbers are equal
 pub same_of_test : (x y : ℚ) → is_same x y ≡ true → x ≡ y
 same_of_test x y e = let both : (le_ℚ x y ≡ true) × (le_ℚ y x ≡ true) = and_parts (le_ℚ x y) (le_ℚ y x) e in ≤ℚ_antisymm x y (le_of_test x y both.0) (le_of_test y x both.1)
+
+pub zero_of_test : (x : ℚ) → is_zero x ≡ true → x ≡ 0ℚ
+zero_of_test x e = same_of_test x 0ℚ e
 
 pub test_of_same : (x y : ℚ) → x ≡ y → is_same x y ≡ true
 test_of_same x y e = and_from (le_ℚ x y) (le_ℚ y x) (test_of_le x y (≤ℚ_of_same x y e)) (test_of_le y x (≤ℚ_of_same y x (sym e)))

@@ -60,15 +60,15 @@ is_nil-is (pos zero) x t = zero-*ℚ x
 is_nil-is (pos (suc n)) x t = absurd t
 is_nil-is (negsuc n) x t = absurd t
 
-nil_plus_along : (x y : ℚ) → x ≡ 0ℚ → x +ℚ y ≡ y
-nil_plus_along x y e = ap (λ (t : ℚ). t +ℚ y) e ∙ +ℚ_idl y
+pub first_is_zero : (x y : ℚ) → x ≡ 0ℚ → x +ℚ y ≡ y
+first_is_zero x y e = ap (λ (t : ℚ). t +ℚ y) e ∙ +ℚ_idl y
 
 pub no_less-is : (ρ : List ℚ) (p : Poly) → T (no_less p) → 0ℚ ≤ℚ value rationals ρ p
 no_less-is ρ none t = ≤ℚ_of_same 0ℚ 0ℚ refl
 no_less-is ρ (term c [] p) t =
     nn_plus _ _ (along_nn _ _ (sym (times_one (whole c))) (not_negative-is c (and_left (not_negative c) (no_less p) t))) (no_less-is ρ p (and_right (not_negative c) (no_less p) t))
 no_less-is ρ (term c (i ∷ m) p) t =
-    along_nn _ _ (sym (nil_plus_along _ (value rationals ρ p) (is_nil-is c (mon rationals ρ (i ∷ m)) (and_left (is_nil c) (no_less p) t))))
+    along_nn _ _ (sym (first_is_zero _ (value rationals ρ p) (is_nil-is c (mon rationals ρ (i ∷ m)) (and_left (is_nil c) (no_less p) t))))
     (no_less-is ρ p (and_right (is_nil c) (no_less p) t))
 
 pub more-is : (ρ : List ℚ) (p : Poly) → T (no_less p) → T (more p) → 0ℚ <ℚ value rationals ρ p
@@ -80,7 +80,7 @@ more-is ρ (term c [] p) t u =
     (more-is ρ p (and_right (not_negative c) (no_less p) t) v))
     (or_cases (above c) (more p) u)
 more-is ρ (term c (i ∷ m) p) t u =
-    along_ps _ _ (sym (nil_plus_along _ (value rationals ρ p) (is_nil-is c (mon rationals ρ (i ∷ m)) (and_left (is_nil c) (no_less p) t))))
+    along_ps _ _ (sym (first_is_zero _ (value rationals ρ p) (is_nil-is c (mon rationals ρ (i ∷ m)) (and_left (is_nil c) (no_less p) t))))
     (more-is ρ p (and_right (is_nil c) (no_less p) t) u)
 
 -- ---- the sum of what is at hand

@@ -1,5 +1,6 @@
 -- The tests of the order, and the lesser and the greater of two numbers.
-use Rattle.std.proofs.Common.{◌≡◌, ◌⊎◌, inl, inr, ⊎_elim, Bool, true, false, not, cond, refl, ap, ◌∙◌, arith}
+use Rattle.std.proofs.Common.{◌≡◌, ◌⊎◌, inl, inr, ⊎_elim, Bool, true, false, not, cond, refl, sym, ap, ◌∙◌, arith}
+use Rattle.std.proofs.lemmas.Bool.{not-true, not-false}
 use lib.IntN.{ℤ, pos, ◌*ℤ◌}
 use lib.Signed.{◌≤ℤ◌, ◌<ℤ◌, le_z}
 use borrow.Author.Differences.{ints}
@@ -72,6 +73,12 @@ test_of_lt x y h = ⊎_elim
     (λ (w : (le_ℚ x y ≡ true) × (x ≤ℚ y)). absurd (not_both_ℚ y x h w.1))
     (λ (w : (le_ℚ x y ≡ false) × (y <ℚ x)). w.0)
     (le_ℚ_cases x y)
+
+pub not_negative_of : (x : ℚ) (b : Bool) → b ≡ not (le_ℚ 0ℚ x) → b ≡ false → 0ℚ ≤ℚ x
+not_negative_of x b e h = le_of_test 0ℚ x (not-false (le_ℚ 0ℚ x) (sym e ∙ h))
+
+pub negative_of : (x : ℚ) (b : Bool) → b ≡ not (le_ℚ 0ℚ x) → b ≡ true → x <ℚ 0ℚ
+negative_of x b e h = lt_of_test 0ℚ x (not-true (le_ℚ 0ℚ x) (sym e ∙ h))
 
 pub less_of_test : (x y : ℚ) → lt_ℚ x y ≡ true → x <ℚ y
 less_of_test x y e = ⊎_elim (λ (w : (lt_ℚ x y ≡ true) × (x <ℚ y)). w.1) (λ (w : (lt_ℚ x y ≡ false) × (y ≤ℚ x)). cc) (lt_ℚ_cases x y)

@@ -23,7 +23,7 @@ kept_wrote {E} {old} {now} {text} {page} {u} k = record {
 }
 
 -- nothing more taken
-nothing_more : (took : Option (List ℕ)) → took ≡ with_more took []
+pub nothing_more : (took : Option (List ℕ)) → took ≡ with_more took []
 nothing_more None = refl
 nothing_more (Some bytes) = ap Some (sym (append-nil bytes))
 

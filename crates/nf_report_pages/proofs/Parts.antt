@@ -5,9 +5,7 @@ use Rattle.std.specs.List.{join_with_byte}
 use Rattle.std.proofs.Math.Seq.{take-length}
 use Rattle.std.specs.Prelude.{unwrap_or, codes}
 use Rattle.std.specs.List.{range_with_len}
-use Rattle.std.proofs.Common.{zero-add}
-use Rattle.std.proofs.lemmas.Option.{slice_get-get_or}
-use Rattle.std.proofs.lemmas.List.FromFn.{get_or-range_with_len, length-range_with_len}
+use Rattle.std.proofs.lemmas.List.FromFn.{length-range_with_len}
 use Rattle.nf_rational.specs.Rational.{ℚ}
 use Rattle.nf_model.specs.Equilibrium.{points_at}
 use Rattle.nf_model.specs.Equilibrium as model
@@ -18,6 +16,7 @@ use Rattle.nf_curve.specs.declared.flow.Trace.{Trace}
 use Rattle.nf_text_def.specs.Words.{line_of_words}
 use Rattle.nf_net_def.specs.Names.{Name, name_at}
 use Rattle.nf_net_def.specs.Report.{point_lines, trace_lines}
+use Rattle.nf_rational_laws.proofs.Entries.{slice_get-below}
 use Rattle.nf_report_pages.specs.Written.{Line, after_words, point_line, trace_line, never_lines}
 
 -- ---- what a function makes of the elements, one after the other
@@ -110,19 +109,13 @@ module _ (key : List ℕ) (name : Name) where
       ∙ ap (λ l. l ++ trace_lines key name (drop (suc i) points) (drop (suc i) rates)) (trace_next points rates i p h) ∙ trace_parted points rates (suc i)
 
 -- ---- for each number below a count
-number_there : (a n i : ℕ) → i < n → slice_get (range_with_len a n) i ≡ Some (a + i)
-number_there a n i h = slice_get-get_or (range_with_len a n) i 0 (omega (arith, h, length-range_with_len a n)) ∙ ap Some (get_or-range_with_len a n i 0 h)
-
-below_there : (n i : ℕ) → i < n → slice_get (range_with_len 0 n) i ≡ Some i
-below_there n i h = number_there 0 n i h ∙ ap Some (zero-add i)
-
 pub each_next : (n : ℕ) (lines_of : ℕ → List Line) (i : ℕ) → i < n
     → flat_map lines_of (take i (range_with_len 0 n)) ++ lines_of i ≡ flat_map lines_of (take (i + 1) (range_with_len 0 n))
-each_next n lines_of i h = next_part lines_of (range_with_len 0 n) i i (below_there n i h)
+each_next n lines_of i h = next_part lines_of (range_with_len 0 n) i i (slice_get-below n i h)
 
 pub each_left : (n : ℕ) (lines_of : ℕ → List Line) (i : ℕ) → i < n
     → (flat_map lines_of (take i (range_with_len 0 n)) ++ lines_of i) ++ flat_map lines_of (drop (suc i) (range_with_len 0 n)) ≡ for_each n lines_of
-each_left n lines_of i h = parts_left lines_of (range_with_len 0 n) i i (below_there n i h)
+each_left n lines_of i h = parts_left lines_of (range_with_len 0 n) i i (slice_get-below n i h)
 
 pub each_all : (n : ℕ) (lines_of : ℕ → List Line) (i : ℕ) → i ≡ n → flat_map lines_of (take i (range_with_len 0 n)) ≡ for_each n lines_of
 each_all n lines_of i e = all_parts lines_of (range_with_len 0 n) i (e ∙ sym (length-range_with_len 0 n))

@@ -7,10 +7,11 @@ use Rattle.nf_frac_def.specs.Checked.{Checked, fold_checked, ◌>>=◌}
 use Rattle.nf_frac_def.proofs.Binding.{bind_ok}
 use Rattle.nf_quick_def.specs.Order.{Reach, IsAtMost, is_better}
 use Rattle.nf_quick_def.specs.Rounds.{Known, known_at, better_of, offered}
-use Rattle.nf_quick_laws.proofs.Orders.{IsAtMost-refl, IsAtMost-trans, is_better-true}
+use Rattle.nf_quick_laws.proofs.Orders.{IsAtMost-refl, IsAtMost-trans}
+use Rattle.nf_quick_laws.proofs.Offers.{better-old, known_at-set}
 use Rattle.nf_residual.specs.declared.legs.Leg.{Leg}
 use Rattle.nf_residual.specs.Legs.{along_leg}
-use Rattle.nf_residual.proofs.Offering.{set_here, set_elsewhere}
+use Rattle.nf_residual.proofs.Offering.{set_elsewhere}
 use Rattle.nf_residual.proofs.Settled.{one_way, at_most, lost_there, gives, Offers, same_ok, settled_here, settled_then}
 
 -- ---- tables
@@ -52,13 +53,6 @@ best_of (Some known) way old h k = by_test (is_better way known)
     by_test true = h
     by_test false = k known refl
 
-better_than : (known way : Reach) → IsAtMost (better_of (Some known) way) known
-better_than known way = by_test (is_better way known) refl
-  where
-    by_test : (t : Bool) → is_better way known ≡ t → IsAtMost (if t then way else known) known
-    by_test true e = is_better-true way known e
-    by_test false e = IsAtMost-refl known
-
 -- ---- one offer
 offer_stays : (full so_far : Known) (v : ℕ) (way old : Reach) → v < length so_far → known_at full v ≡ Some old → IsAtMost old way → IsAsGood full so_far
     → IsAsGood full (offered so_far v way)
@@ -67,7 +61,7 @@ offer_stays full so_far v way old h at less good w other is = by_node (eqb_tells
     by_node : ((eqb w v ≡ true) × (w ≡ v)) ⊎ ((eqb w v ≡ false) × (w ≢ v)) → (best : Reach) × (known_at full w ≡ Some best) × IsAtMost best other
     by_node (inl k) =
         let made : known_at (offered so_far v way) w ≡ Some (better_of (known_at so_far v) way) =
-        ap (λ (u : ℕ). known_at (offered so_far v way) u) k.1 ∙ set_here so_far v (Some (better_of (known_at so_far v) way)) h in
+        ap (λ (u : ℕ). known_at (offered so_far v way) u) k.1 ∙ known_at-set so_far v (Some (better_of (known_at so_far v) way)) h in
         let least : IsAtMost old (better_of (known_at so_far v) way) = best_of (known_at so_far v) way old less
         (λ known e. let g = good v known e in subst (λ (r : Reach). IsAtMost r known) (same_some g.0 old (sym g.1 ∙ at)) g.2) in
         (old, ap (λ (u : ℕ). known_at full u) k.1 ∙ at, subst (λ (r : Reach). IsAtMost old r) (same_some _ other (sym made ∙ is)) least)
@@ -81,9 +75,9 @@ offer_betters so_far base v way h good w other is = by_node (good w other is) (e
     by_node g (inl k) =
         let there : known_at so_far v ≡ Some g.0 = ap (λ (u : ℕ). known_at so_far u) (sym k.1) ∙ g.1 in
         let made : known_at (offered so_far v way) w ≡ Some (better_of (Some g.0) way) =
-        ap (λ (u : ℕ). known_at (offered so_far v way) u) k.1 ∙ set_here so_far v (Some (better_of (known_at so_far v) way)) h
+        ap (λ (u : ℕ). known_at (offered so_far v way) u) k.1 ∙ known_at-set so_far v (Some (better_of (known_at so_far v) way)) h
         ∙ ap (λ (o : Option Reach). Some (better_of o way)) there in
-        (better_of (Some g.0) way, made, IsAtMost-trans (better_of (Some g.0) way) g.0 other (better_than g.0 way) g.2)
+        (better_of (Some g.0) way, made, IsAtMost-trans (better_of (Some g.0) way) g.0 other (better-old g.0 way) g.2)
     by_node g (inr k) = (g.0, set_elsewhere so_far v w (Some (better_of (known_at so_far v) way)) k.1 ∙ g.1, g.2)
 
 -- ---- one arc

@@ -1,13 +1,14 @@
 -- The steps of a shortest walk are along links that have a flow.
 use Rattle.std.proofs.Common.{◌≡◌, ℕ, ◌<◌, List, [], ◌∷◌, length, sym, ap, subst, refl, ◌∙◌}
-use Rattle.std.specs.Prelude.{Ok, Err}
+use Rattle.std.specs.Prelude.{Ok}
 use Rattle.std.specs.List.{AllByRecursion}
 use Rattle.nf_rational.specs.Rational.{ℚ}
 use Rattle.nf_rational.specs.Operations.{0ℚ}
 use Rattle.nf_rational.specs.Order.{◌≤ℚ◌, ◌<ℚ◌}
 use Rattle.nf_frac_def.specs.Passing.{Passing}
 use Rattle.nf_frac_def.specs.declared.Part.{Part}
-use Rattle.nf_frac_def.specs.Checked.{Checked, at_part, fold_checked}
+use Rattle.nf_frac_def.specs.Checked.{at_part, fold_checked}
+use Rattle.nf_frac_def.proofs.AtPart.{part_ok}
 use Rattle.nf_model.specs.Network.{Network, IsNetwork}
 use Rattle.nf_quick_def.specs.Steps.{Step}
 use Rattle.nf_quick_def.specs.Flows.{IsSound}
@@ -28,10 +29,6 @@ pub fits : (net : Network) (flows : List ℚ) (walk : Walk) (steps : List Step) 
 fits net flows walk steps n sound shortest same count = subst (λ (s : List Step). AllByRecursion (λ (step : Step). step.link < n) s) (sym same)
     (all_of n walk.steps (links_within net flows n walk.steps net.source net.sink (count ∙ sound.flow.count) shortest.first.is_walk))
 
-ok_of_part : {A : Type 0} (part : Part) (r : Checked A) (x : A) → Ok x ≡ at_part part r → r ≡ Ok x
-ok_of_part part (Ok a) x e = let h = e in cc
-ok_of_part part (Err p) x e = absurd (cc)
-
 as_list : (passes : Passing) (amount : ℚ) (flows : List ℚ) (steps : List Step) → push_list passes steps amount flows ≡ fold_checked (push_step passes amount) flows steps
 unfolding push_list
 as_list passes amount flows steps = refl
@@ -44,5 +41,5 @@ pushed_sound passes net flows new old walk steps amount good sound shortest some
     let p : IsPush net flows new walk.steps amount = IsPush-list passes net flows new walk amount good sound shortest some within
     (as_list passes amount flows walk.steps ∙ ap (λ (l : List ℚ). fold_checked (push_step passes amount) l walk.steps) (sym same)
     ∙ ap (λ (s : List Step). fold_checked (push_step passes amount) old s) (sym along)
-    ∙ ok_of_part Part.Quick (fold_checked (push_step passes amount) old steps) new e) in
+    ∙ part_ok Part.Quick (fold_checked (push_step passes amount) old steps) new e) in
     IsSound-pushed net flows new walk.steps amount good p.sound p.each p.first p.some p.room p.pushed

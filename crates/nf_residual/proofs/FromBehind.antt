@@ -1,20 +1,19 @@
 -- The order of walks with equally many steps, compared from the last step back.
-use Rattle.std.proofs.Common.{◌≡◌, ℕ, suc, ◌+◌, ◌-◌, ◌<◌, ◌≤◌, List, [], ◌∷◌, ◌++◌, length, Bool, true, false, nat_lt, ◌==◌, ◌&&◌, ◌||◌, not, if◌then◌else◌, ◌⊎◌, inl, inr, ⊎_elim, eqb, leb, ◌≢◌, sym, ap, refl, ◌∙◌, arith}
+use Rattle.std.proofs.Common.{◌≡◌, ℕ, suc, ◌+◌, ◌-◌, ◌<◌, ◌≤◌, List, [], ◌∷◌, ◌++◌, length, Bool, true, false, nat_lt, ◌==◌, ◌&&◌, ◌||◌, not, if◌then◌else◌, ⊎_elim, eqb, ◌≢◌, sym, ap, refl, ◌∙◌, arith}
 use Rattle.std.specs.Ordering.{is_lt, is_gt}
 use Rattle.std.specs.declared.cmp.Ordering.{Ordering}
 use Rattle.std.specs.declared.cmp.Ordering.TheVariants.{Less, Equal, Greater}
-use Rattle.std.proofs.lemmas.Bool.Decides.{eqb_tells, leb_tells}
+use Rattle.std.proofs.lemmas.Bool.Decides.{eqb_tells}
 use Rattle.std.proofs.lemmas.List.{length_push}
 use Rattle.nf_quick_def.specs.Steps.{Step, place}
 use Rattle.nf_rational.specs.Order.{cmp_ℚ, lt_ℚ}
 use Rattle.nf_frac.proofs.Comparisons.{lt-cmp, gt-cmp}
 use Rattle.nf_quick_def.specs.Order.{Reach, are_before, are_fewer_or_before, is_better}
+use Rattle.nf_quick_laws.proofs.Orders.{lt_tells}
+use Rattle.nf_rational_laws.proofs.Results.{not_both}
 use Rattle.nf_residual.specs.declared.ways.Twig.{Twig}
 use Rattle.nf_residual.specs.Ways.{twig_at, steps_back, way_at, one_before}
 use Rattle.nf_residual.proofs.Twigs.{steps_are}
-
-clash : (b : Bool) → b ≡ true → b ≡ false → ⊥
-clash b e f = cc
 
 abbrev are_same : List Step → List Step → Bool
 are_same [] [] = true
@@ -32,7 +31,7 @@ together false true a s t = refl
 together false false a s t = refl
 
 alone : (l e t : Bool) → (e ≡ true → l ≡ false) → ((l || (e && false)) || ((e && true) && t)) ≡ (if e then t else l)
-alone true true t h = absurd (clash true refl (h refl))
+alone true true t h = absurd (not_both true refl (h refl))
 alone false true t h = refl
 alone true false t h = refl
 alone false false t h = refl
@@ -42,17 +41,11 @@ nothing_later true s = refl
 nothing_later false true = refl
 nothing_later false false = refl
 
-lt_tells : (a b : ℕ) → ((nat_lt a b ≡ true) × (a < b)) ⊎ ((nat_lt a b ≡ false) × (b ≤ a))
-lt_tells a b = ⊎_elim (λ (w : (leb (suc a) b ≡ true) × (suc a ≤ b)). inl (w.0, w.1)) (λ (w : (leb (suc a) b ≡ false) × (b < suc a)). inr (w.0, below w.1)) (leb_tells (suc a) b)
-  where
-    below : b < suc a → b ≤ a
-    below h = omega arith
-
 equal_not_less : (a b : ℕ) → (a == b) ≡ true → nat_lt a b ≡ false
 equal_not_less a b e = ⊎_elim
     (λ (w : (eqb a b ≡ true) × (a ≡ b)). let same : a ≡ b = w.1 in
     ⊎_elim (λ (l : (nat_lt a b ≡ true) × (a < b)). let less : a < b = l.1 in absurd (omega arith)) (λ (l : (nat_lt a b ≡ false) × (b ≤ a)). l.0) (lt_tells a b))
-    (λ (w : (eqb a b ≡ false) × (a ≢ b)). absurd (clash (eqb a b) e w.0))
+    (λ (w : (eqb a b ≡ false) × (a ≢ b)). absurd (not_both (eqb a b) e w.0))
     (eqb_tells a b)
 
 -- ---- one step more at the end of both
@@ -74,9 +67,9 @@ itself : (a : ℕ) → (a == a) ≡ true
 itself a = ⊎_elim (λ (w : (eqb a a ≡ true) × (a ≡ a)). w.0) (λ (w : (eqb a a ≡ false) × (a ≢ a)). absurd (w.1 refl)) (eqb_tells a a)
 
 one_same : (l e r : Bool) → e ≡ true → l ≡ false → (l || (e && r)) ≡ r
-one_same true e r f g = absurd (clash true refl g)
+one_same true e r f g = absurd (not_both true refl g)
 one_same false true r f g = refl
-one_same false false r f g = absurd (clash false f refl)
+one_same false false r f g = absurd (not_both false f refl)
 
 before_self : (walk : List Step) (later : Bool) → before_then walk walk later ≡ later
 before_self [] later = refl
@@ -170,7 +163,7 @@ module _ (tree : List Twig) (way : ℕ) (step : Step) (other : ℕ) where
     where
       unequal : (l e r : Bool) → e ≡ false → l ≡ (l || (e && r))
       unequal true e r f = refl
-      unequal false true r f = absurd (clash true refl f)
+      unequal false true r f = absurd (not_both true refl f)
       unequal false false r f = refl
 
 -- ---- paths of different lengths

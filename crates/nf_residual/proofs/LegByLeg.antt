@@ -6,6 +6,7 @@ use Rattle.std.proofs.lemmas.Option.{slice_get_within, get_or_from_slice_get}
 use Rattle.nf_rational.specs.Rational.{ℚ}
 use Rattle.nf_frac_def.specs.Passing.{Passing}
 use Rattle.nf_frac_def.specs.Checked.{Checked, fold_checked, ◌>>=◌}
+use Rattle.nf_frac_def.proofs.Binding.{bind_same}
 use Rattle.nf_model.specs.Entries.{number_at}
 use Rattle.nf_model.specs.Network.{Link, Network, IsNetwork}
 use Rattle.nf_quick_def.specs.Steps.{Step, begin_of, end_of, can_go}
@@ -17,10 +18,6 @@ use Rattle.nf_residual.specs.Legs.{leg_of, legs_from, AreLegs, along_leg}
 pub bind_more : {A B C : Type 0} (r : Checked A) (f : A → Checked B) (g : B → Checked C) (both : A → Checked C) → ((x : A) → both x ≡ (f x >>= g)) → (r >>= both) ≡ ((r >>= f) >>= g)
 bind_more (Ok x) f g both e = e x
 bind_more (Err p) f g both e = refl
-
-pub bind_same : {A B : Type 0} (r : Checked A) (f g : A → Checked B) → ((x : A) → f x ≡ g x) → (r >>= f) ≡ (r >>= g)
-bind_same (Ok x) f g e = e x
-bind_same (Err p) f g e = refl
 
 -- ---- a round over the arcs
 module _ (passes : Passing) (flows : List ℚ) (before : Known) where

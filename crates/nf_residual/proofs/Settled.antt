@@ -14,10 +14,11 @@ use Rattle.nf_quick_def.specs.Steps.{Step, place}
 use Rattle.nf_quick_def.specs.Order.{Reach, AreFirst, AreFewerOrFirst, IsAtMost, is_better}
 use Rattle.nf_quick_def.specs.Rounds.{Known, op_of, known_at, better_of, offered, along}
 use Rattle.nf_quick_laws.proofs.Orders.{IsAtMost-refl, IsAtMost-trans, is_better-true, is_better-false}
+use Rattle.nf_quick_laws.proofs.Offers.{known_at-set}
 use Rattle.nf_residual.specs.declared.legs.Leg.{Leg}
 use Rattle.nf_residual.specs.Legs.{along_leg}
 use Rattle.nf_residual.specs.Ways.{extended_by}
-use Rattle.nf_residual.proofs.Offering.{same_set, set_here, set_elsewhere}
+use Rattle.nf_residual.proofs.Offering.{same_set, set_elsewhere}
 
 -- ---- two paths that are at most each other are equal
 one_step : (link other : ℕ) (forward back : Bool) → place (record { link = link; forward = forward }) ≡ place (record { link = other; forward = back })
@@ -105,7 +106,7 @@ lost_still old way other e = by_test (is_better other old) refl
 -- An offer that changes nothing.
 pub lost_there : (known : Known) (v : ℕ) (way : Reach) → v < length known → offered known v way ≡ known → (old : Reach) × (known_at known v ≡ Some old) × (better_of (Some old) way ≡ old)
 lost_there known v way h e =
-    let at : known_at known v ≡ Some (better_of (known_at known v) way) = sym (ap (λ (k : Known). known_at k v) e) ∙ set_here known v (Some (better_of (known_at known v) way)) h in
+    let at : known_at known v ≡ Some (better_of (known_at known v) way) = sym (ap (λ (k : Known). known_at k v) e) ∙ known_at-set known v (Some (better_of (known_at known v) way)) h in
     (better_of (known_at known v) way, at, ap (λ (o : Option Reach). better_of o way) (sym at))
 
 lost_by : (known : Known) (v : ℕ) (way old : Reach) → v < length known → known_at known v ≡ Some old → better_of (Some old) way ≡ old → offered known v way ≡ known
@@ -117,7 +118,7 @@ offered_again : (known : Known) (v : ℕ) (way : Reach) → v < length known →
 offered_again known v way h =
     let count : length (offered known v way) ≡ length known = length-set known v _ in
     let inside : v < length (offered known v way) = omega (arith, count) in
-    lost_by (offered known v way) v way (better_of (known_at known v) way) inside (set_here known v (Some (better_of (known_at known v) way)) h) (again (known_at known v) way)
+    lost_by (offered known v way) v way (better_of (known_at known v) way) inside (known_at-set known v (Some (better_of (known_at known v) way)) h) (again (known_at known v) way)
 
 offered_then : (known : Known) (v w : ℕ) (way other : Reach) → v < length known → offered known v way ≡ known → offered (offered known w other) v way ≡ offered known w other
 offered_then known v w way other h e =
@@ -131,7 +132,7 @@ offered_then known v w way other h e =
         → offered (offered known w other) v way ≡ offered known w other
     by_node inside old at lost (inl k) =
         let here : known_at (offered known w other) v ≡ Some (better_of (Some old) other) =
-        ap (λ (u : ℕ). known_at (offered known u other) v) (sym k.1) ∙ set_here known v (Some (better_of (known_at known v) other)) h
+        ap (λ (u : ℕ). known_at (offered known u other) v) (sym k.1) ∙ known_at-set known v (Some (better_of (known_at known v) other)) h
         ∙ ap (λ (o : Option Reach). Some (better_of o other)) at in
         lost_by (offered known w other) v way (better_of (Some old) other) inside here (lost_still old way other lost)
     by_node inside old at lost (inr k) = lost_by (offered known w other) v way old inside (set_elsewhere known w v _ k.1 ∙ at) lost

@@ -1,29 +1,16 @@
 -- The tests of the code: a number is above 0; the lesser of two numbers.
-use Rattle.std.proofs.Common.{◌≡◌, ℕ, Bool, true, false, not, ◌∙◌, refl, ap, [], ◌∷◌, arith}
+use Rattle.std.proofs.Common.{◌≡◌, ℕ, Bool, true, false, not, ◌∙◌, refl, ap, arith}
 use mathlib.Core.Path.{ap₂}
 use lib.IntN.{ℤ, pos, ◌*ℤ◌, zero-*ℤ}
 use lib.Signed.{le_z, lt_z}
 use borrow.Author.Differences.{ints}
 use Rattle.std.specs.Prelude.{Some}
 use Rattle.std.specs.Ordering.{partial_lt}
-use Rattle.nf_rational.specs.Gcd.{gcd}
-use Rattle.nf_rational.specs.Rational.{ℚ, ratio}
-use Rattle.nf_rational.specs.Operations.{0ℚ, whole}
+use Rattle.nf_rational.specs.Rational.{ℚ}
+use Rattle.nf_rational.specs.Operations.{0ℚ}
 use Rattle.nf_rational.specs.Order.{cmp_ℚ, le_ℚ, lt_ℚ}
-use Rattle.nf_rational_laws.proofs.Polynomial.{ring, reading}
-use Rattle.nf_rational_laws.proofs.IntegerRing.{ints_ring}
+use Rattle.nf_rational_laws.proofs.Order.{times_one, zero_num, zero_den}
 use Rattle.nf_frac.proofs.Comparisons.{lt-cmp}
-
-zero_num : 0ℚ.num ≡ pos 0
-unfolding whole ratio gcd
-zero_num = refl
-
-zero_den : 0ℚ.den ≡ 1
-unfolding whole ratio gcd
-zero_den = refl
-
-times_one : (a : ℤ) → a *ℤ pos 1 ≡ a
-times_one a = ring ints_ring (a ∷ []) (search reading depth 30) tt
 
 flip : (n : ℤ) → not (le_z n (pos 0)) ≡ lt_z (pos 0) n
 flip n = by_test (le_z n (pos 0)) (lt_z (pos 0) n) refl refl

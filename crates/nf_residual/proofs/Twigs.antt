@@ -122,15 +122,12 @@ pub before_within : (tree : List Twig) (way : ℕ) → IsPathTree tree → way <
 before_within tree way good h = let earlier : (twig_at tree way).before ≤ way = good.earlier way in omega arith
 
 -- ---- the number of steps
-length-steps : (n : ℕ) (tree : List Twig) (i : ℕ) → length (steps_back n tree i) ≡ n
-length-steps zero tree i = refl
-length-steps (suc n) tree i =
-    let one : length (steps_back n tree (twig_at tree i).before ++ (twig_at tree i).last ∷ []) ≡ length (steps_back n tree (twig_at tree i).before) + 1 = length_push _ _ in
-    let rest : length (steps_back n tree (twig_at tree i).before) ≡ n = length-steps n tree (twig_at tree i).before in
-    omega arith
-
 pub steps_are : (n : ℕ) (tree : List Twig) (i : ℕ) → length (steps_back n tree i) ≡ n
-steps_are n tree i = length-steps n tree i
+steps_are zero tree i = refl
+steps_are (suc n) tree i =
+    let one : length (steps_back n tree (twig_at tree i).before ++ (twig_at tree i).last ∷ []) ≡ length (steps_back n tree (twig_at tree i).before) + 1 = length_push _ _ in
+    let rest : length (steps_back n tree (twig_at tree i).before) ≡ n = steps_are n tree (twig_at tree i).before in
+    omega arith
 
 -- ---- the steps are read from the last one back
 pub record ReadsOn (tree : List Twig) (way : ℕ) (steps : List Step) (here k : ℕ) : Type 0 where

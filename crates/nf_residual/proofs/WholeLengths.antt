@@ -1,13 +1,12 @@
 -- Lengths held as whole numbers: their operations don't exceed the bound, and their order is that of the numbers.
-use Rattle.std.proofs.Common.{◌≡◌, ℕ, ◌<◌, ◌≤◌, Bool, true, false, ℤ, pos, ◌+ℤ◌, ◌-ℤ◌, ◌*ℤ◌, neg_ℤ, nat_abs, [], ◌∷◌, Option, Some, None, refl, sym, ap, subst, ◌∙◌, arith}
+use Rattle.std.proofs.Common.{◌≡◌, ℕ, ◌<◌, ◌≤◌, Bool, true, false, ℤ, pos, ◌+ℤ◌, ◌-ℤ◌, ◌*ℤ◌, neg_ℤ, nat_abs, Option, Some, None, sym, ap, subst, ◌∙◌, arith}
 use mathlib.Core.Path.{ap₂}
 use Rattle.std.specs.Prelude.{Ok, SomeIff, IfSome}
 use Rattle.std.specs.Ordering.{int_cmp}
-use Rattle.nf_rational.specs.Gcd.{gcd}
 use Rattle.nf_rational.specs.Rational.{ℚ, same_parts}
 use Rattle.nf_rational.specs.Operations.{whole, ◌+ℚ◌, ◌/ℚ◌, neg_ℚ}
 use Rattle.nf_rational.specs.Order.{cmp_ℚ}
-use Rattle.nf_rational.proofs.Lowest.{num-ratio, den-ratio}
+use Rattle.nf_rational.proofs.Lowest.{den-ratio}
 use Rattle.nf_rational_laws.proofs.Field.{whole-plus, whole-times}
 use Rattle.nf_rational_laws.proofs.Quotient.{/ℚ-unique}
 use Rattle.nf_frac_def.specs.Passing.{passes_Q, bound_of}
@@ -19,40 +18,32 @@ use Rattle.nf_frac.specs.Short.{short}
 use Rattle.nf_frac.proofs.SmallSums.{sum_fits}
 use Rattle.nf_frac.proofs.Turned.{neg_within, num-neg, den-neg}
 use Rattle.nf_frac.proofs.Bits.{bits_of, plain, cast_plain}
-use Rattle.nf_frac.proofs.SmallParts.{fits_64, gcd_one, plain_64}
-use Rattle.nf_rational_laws.proofs.Polynomial.{ring, reading}
-use Rattle.nf_rational_laws.proofs.IntegerRing.{ints_ring}
+use Rattle.nf_frac.proofs.SmallParts.{fits_64, plain_64}
+use Rattle.nf_rational_laws.proofs.Order.{times_one}
 use mir.Syntax.{w64, w128}
 use mir.Val.{to_z, of_z, SFits}
 use mir.Facts.{to_z-of_z}
 use Rattle.nf_frac.proofs.Passing.{sum_done, difference_done}
-use Rattle.nf_frac.proofs.Made.{whole_apart}
+use Rattle.nf_frac.proofs.Made.{whole_apart, lowest_one, num-whole}
 use Rattle.nf_residual.specs.Lengths.{longest_whole, along_by, IsExactStep}
 
 -- ---- the parts of a whole number
-no_common : (m : ℕ) → gcd m 1 ≡ 1
-no_common m = sym (gcd_one m 1 refl)
-
-num_whole : (n : ℤ) → (whole n).num ≡ n
-unfolding whole
-num_whole n = num-ratio n 1 (omega arith) (no_common (nat_abs n))
-
 den_whole : (n : ℤ) → (whole n).den ≡ 1
 unfolding whole
-den_whole n = den-ratio n 1 (omega arith) (no_common (nat_abs n))
+den_whole n = den-ratio n 1 (omega arith) (lowest_one (nat_abs n))
 
 pub whole_of : (q : ℚ) → q.den ≡ 1 → whole q.num ≡ q
-whole_of q e = same_parts (whole q.num) q (num_whole q.num) (den_whole q.num ∙ sym e)
+whole_of q e = same_parts (whole q.num) q (num-whole q.num) (den_whole q.num ∙ sym e)
 
 within_short : (n : ℤ) → nat_abs n ≤ longest_whole → IsWithin short (whole n)
 within_short n h = record {
-  small = subst (λ (z : ℤ). nat_abs z ≤ short) (sym (num_whole n)) (omega arith);
+  small = subst (λ (z : ℤ). nat_abs z ≤ short) (sym (num-whole n)) (omega arith);
   small_den = subst (λ (k : ℕ). k ≤ short) (sym (den_whole n)) (omega arith);
 }
 
 whole_neg : (n : ℤ) → whole (neg_ℤ n) ≡ neg_ℚ (whole n)
 whole_neg n =
-    same_parts (whole (neg_ℤ n)) (neg_ℚ (whole n)) (num_whole (neg_ℤ n) ∙ sym (num-neg (whole n) ∙ ap neg_ℤ (num_whole n)))
+    same_parts (whole (neg_ℤ n)) (neg_ℚ (whole n)) (num-whole (neg_ℤ n) ∙ sym (num-neg (whole n) ∙ ap neg_ℤ (num-whole n)))
     (den_whole (neg_ℤ n) ∙ sym (den-neg (whole n) ∙ den_whole n))
 
 -- ---- their operations
@@ -67,14 +58,11 @@ difference_exact a b n h k e =
     )
 
 -- ---- their order
-times_one : (a : ℤ) → a *ℤ pos 1 ≡ a
-times_one a = ring ints_ring (a ∷ []) (search reading depth 30) tt
-
 pub order_is : (a b : ℤ) → int_cmp a b ≡ cmp_ℚ (whole a) (whole b)
 order_is a b = ap₂ int_cmp (one a b) (one b a)
   where
     one : (a b : ℤ) → a ≡ (whole a).num *ℤ pos (whole b).den
-    one a b = sym (ap₂ (λ (z : ℤ) (k : ℕ). z *ℤ pos k) (num_whole a) (den_whole b) ∙ times_one a)
+    one a b = sym (ap₂ (λ (z : ℤ) (k : ℕ). z *ℤ pos k) (num-whole a) (den_whole b) ∙ times_one a)
 
 -- ---- numbers as the code has them
 -- A value held as a whole number.
@@ -108,7 +96,7 @@ made_is (Some x) number n d h e f made = ap (λ (q : ℚ). Some q) (made.1 ∙ a
 made_is None number n d h e f made = absurd (made (record {
   some = λ z. apart (sym f ∙ z);
   fits = subst (λ (q : ℚ). IsWithin (bound_of 127) q) (sym (ap₂ (λ (a b : ℤ). whole a /ℚ whole b) e f ∙ over_one number)) (record {
-    small = subst (λ (z : ℤ). nat_abs z ≤ bound_of 127) (sym (num_whole number)) (omega arith);
+    small = subst (λ (z : ℤ). nat_abs z ≤ bound_of 127) (sym (num-whole number)) (omega arith);
     small_den = subst (λ (k : ℕ). k ≤ bound_of 127) (sym (den_whole number)) (omega arith);
   });
 }))

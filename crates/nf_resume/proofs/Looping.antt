@@ -1,28 +1,21 @@
 -- A loop over the entries of a list whose steps are computations: the results so far precede the remaining ones.
-use Rattle.std.proofs.Common.{◌≡◌, ℕ, ◌+◌, ◌≤◌, suc, List, [], ◌∷◌, ◌++◌, length, drop, refl, sym, ap, ◌∙◌, arith}
-use Rattle.std.specs.Prelude.{Result, Ok, Err, Some, slice_get}
+use Rattle.std.proofs.Common.{◌≡◌, ℕ, ◌+◌, ◌≤◌, List, [], ◌∷◌, ◌++◌, length, drop, sym, ap, ◌∙◌}
+use Rattle.std.specs.Prelude.{Ok, Some, slice_get}
 use Rattle.std.proofs.lemmas.List.{drop_all}
 use Rattle.nf_rational.specs.Rational.{ℚ}
 use Rattle.nf_frac_def.specs.declared.Part.{Part}
 use Rattle.nf_frac_def.specs.declared.Halt.{Halt}
 use Rattle.nf_frac_def.specs.Checked.{Checked, Stops, at_part, each}
-use Rattle.nf_frac_def.proofs.Each.{with_front}
+use Rattle.nf_frac_def.proofs.Each.{with_front, no_front}
 use Rattle.nf_curve.proofs.Exits.{each_goes, each_stops, each_ends, stops_on}
-use Rattle.nf_curve.proofs.Shortening.{drop-at}
-
-nothing_before : {B E : Type 0} (r : Result (List B) E) → with_front [] r ≡ r
-nothing_before (Ok ys) = refl
-nothing_before (Err p) = refl
-
-pub drop_next : {A : Type 0} (xs : List A) (k : ℕ) (x : A) → slice_get xs k ≡ Some x → drop k xs ≡ x ∷ drop (k + 1) xs
-drop_next {A} xs k x e = drop-at xs k x e ∙ ap (λ (n : ℕ). x ∷ drop n xs) (let same : suc k ≡ k + 1 = omega arith in same)
+use Rattle.nf_rational_laws.proofs.Entries.{drop_next}
 
 pub record Front {A B : Type 0} (f : A → Checked B) (xs : List A) (k : ℕ) (front : List B) : Type 0 where
   pub same : with_front front (each f (drop k xs)) ≡ each f xs
 
 module _ {A B : Type 0} (f : A → Checked B) (xs : List A) where
   pub front_first : (front : List B) → front ≡ [] → Front f xs 0 front
-  front_first front e = record { same = ap (λ (l : List B). with_front l (each f xs)) e ∙ nothing_before (each f xs) }
+  front_first front e = record { same = ap (λ (l : List B). with_front l (each f xs)) e ∙ no_front (each f xs) }
 
   module _ (part : Part) (k : ℕ) (front : List B) (so_far : Front f xs k front) where
     pub front_last : length xs ≤ k → at_part part (each f xs) ≡ Ok front

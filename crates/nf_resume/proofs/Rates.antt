@@ -1,24 +1,18 @@
 -- The rates of a curve, point by point.
-use Rattle.std.proofs.Common.{◌≡◌, ℕ, ◌+◌, ◌≤◌, List, [], ◌∷◌, ◌++◌, length, drop, refl, sym, ap, ◌∙◌, arith}
+use Rattle.std.proofs.Common.{◌≡◌, ℕ, ◌+◌, ◌≤◌, List, [], ◌∷◌, ◌++◌, length, drop, refl, sym, ap, ◌∙◌}
 use Rattle.std.specs.Prelude.{Ok, Err, Some, slice_get}
 use Rattle.std.proofs.lemmas.List.{drop_all}
 use Rattle.nf_rational.specs.Rational.{ℚ}
-use Rattle.nf_rational.specs.Order.{◌<ℚ◌}
 use Rattle.nf_frac_def.specs.Passing.{Passing}
 use Rattle.nf_frac_def.specs.declared.Part.{Part}
 use Rattle.nf_frac_def.specs.declared.PassedAt.{PassedAt}
 use Rattle.nf_frac_def.specs.Checked.{Checked, at_part, ◌>>=◌}
 use Rattle.nf_frac_def.proofs.Each.{with_front}
-use Rattle.nf_model.specs.Curve.{Point, IsCurve}
+use Rattle.nf_model.specs.Curve.{Point}
 use Rattle.nf_curve_def.specs.Lines.{checked_slope}
 use Rattle.nf_curve_def.specs.Short.{checked_slopes}
 use Rattle.nf_curve.proofs.Exits.{after_err, was_ok, front_err, front_more, front_ends}
-use Rattle.nf_curve.proofs.Placing.{rise-pairs, curve-rises}
-use Rattle.nf_resume.proofs.Looping.{drop_next}
-
--- neighbouring points
-pub times_apart : (points : List Point) (i : ℕ) (p q : Point) → IsCurve points → slice_get points i ≡ Some p → slice_get points (i + 1) ≡ Some q → p.0 <ℚ q.0
-times_apart points i p q c e f = rise-pairs points i (i + 1) p q (curve-rises points c) e f (omega arith)
+use Rattle.nf_rational_laws.proofs.Entries.{drop_next}
 
 -- The rates so far precede those from a point on.
 pub record RatesTo (passes : Passing) (points : List Point) (i : ℕ) (rates : List ℚ) : Type 0 where

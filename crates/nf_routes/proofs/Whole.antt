@@ -92,7 +92,3 @@ entries_in r entries = record { ends = r.ends; links = r.links; entries = entrie
 
 pub with_all : (all kept : Routed) → kept_result Last all ≡ kept → all ≡ entries_in kept all.entries
 with_all all kept e = ap (λ (r : Routed). entries_in r all.entries) e
-
-pub all_of : {A : Type 0} (r : Checked A) → (r >>= λ x. Ok x) ≡ r
-all_of (Ok x) = refl
-all_of (Err p) = refl

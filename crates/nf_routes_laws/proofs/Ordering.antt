@@ -4,11 +4,10 @@ use Rattle.nf_routes_laws.proofs.Common.{if◌then◌else◌, eqb_tells, Network
 use Rattle.nf_routes_laws.proofs.Common.{not_both}
 use Rattle.std.specs.List.{IsDistinct, list_any, list_all, range_with_len}
 use Rattle.std.proofs.lemmas.Map.Steps.{length-le_from_distinct_below}
-use Rattle.nf_model_laws.proofs.Ways.{distinct_more}
+use Rattle.nf_model_laws.proofs.Ways.{distinct_more, distinct_none}
 use Rattle.nf_routes_def.specs.Routes.{Route, AreRoutes, pairs_of, all_pairs, PrecedesOnRoute, LeadsOverRoutes, HoldCircle, is_taken, is_free, first_free, with_next, order_from, loading_order, takes_all}
 use Rattle.nf_routes_laws.proofs.Arriving.{walk-links}
 
--- ---- truth values
 -- ---- members of lists
 abbrev pub In : {A : Type 0} → A → List A → Type 0
 In x [] = ⊥
@@ -150,10 +149,6 @@ free-none pairs taken (x ∷ xs) e h k = ⊎_elim
   where
     none : (x : ℕ) → ◌≡◌ {A = Option ℕ} (Some x) None → ⊥
     none x h = cc
-
-distinct_none : IsDistinct eqb []
-unfolding IsDistinct
-distinct_none = tt
 
 link-below : (net : Network) (routes : List Route) → AreRoutes net routes → (e f : ℕ) → PrecedesOnRoute routes e f → e < length net.links
 link-below net routes are e f b =

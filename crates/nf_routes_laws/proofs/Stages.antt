@@ -1,5 +1,5 @@
 -- Lists by index: the entries of a route so far, the change by a step, and the properties of the links so far.
-use Rattle.std.proofs.Common.{◌≡◌, ◌≢◌, ℕ, zero, suc, List, [], ◌∷◌, ◌++◌, length, inl, inr, ⊎_elim, true, false, eqb, Option, Some, None, slice_get, unwrap_or, set, refl, sym, ap, subst, ◌∙◌, arith, ◌<◌}
+use Rattle.std.proofs.Common.{◌≡◌, ◌≢◌, ℕ, zero, suc, List, [], ◌∷◌, ◌++◌, length, inl, inr, ⊎_elim, true, false, eqb, Option, Some, None, slice_get, unwrap_or, set, refl, sym, ap, subst, ◌∙◌, arith}
 use Rattle.nf_routes_laws.proofs.Common.{Ok, map, eqb_tells, same_Some, ℚ, Passing, Point, Loaded, last_value, Route, LoadedLink, exit_end, begins_with}
 use Rattle.nf_routes_laws.proofs.Common.{goes_over, last_entry, but_last, begin_if, begin_all, next_if, next_all, exit_of, loaded_or, then_ok, same_Ok}
 use Rattle.nf_routes_laws.proofs.Ordering.{taken-in, in-taken, In}
@@ -14,11 +14,6 @@ get-next [] x rest zero h = refl
 get-next [] x rest (suc n) h = absurd (omega arith)
 get-next (y ∷ xs) x rest zero h = absurd (omega arith)
 get-next (y ∷ xs) x rest (suc n) h = get-next xs x rest n (omega arith)
-
-pub set-same : {A : Type 0} (xs : List A) (i : ℕ) (y : A) → i < length xs → slice_get (set xs i y) i ≡ Some y
-set-same [] i y h = absurd (omega arith)
-set-same (x ∷ xs) zero y h = refl
-set-same (x ∷ xs) (suc i) y h = set-same xs i y (omega arith)
 
 pub set-other : {A : Type 0} (xs : List A) (i j : ℕ) (y : A) → i ≢ j → slice_get (set xs i y) j ≡ slice_get xs j
 set-other [] i j y h = refl

@@ -7,8 +7,9 @@ use Rattle.nf_routes_laws.proofs.Common.{begins_with, goes_over, last_entry, but
 use Rattle.nf_routes_laws.proofs.Common.{load_all, end_or, loaded_or, link_loaded, stages_at, arrival_at, entry_at, then_ok, ≤ℚ_refl, ≤ℚ_trans, entry}
 use Rattle.nf_routes_laws.proofs.Common.{slice_get-image, same_Ok, not_both}
 use Rattle.nf_rational_laws.proofs.Tests.{max_ℚ_cases}
+use Rattle.nf_rational_laws.proofs.Entries.{set_same}
 use Rattle.nf_routes_laws.proofs.Ordering.{In, in-front, in-back, range-below, free-some, before-pair, before-of, placed}
-use Rattle.nf_routes_laws.proofs.Stages.{get-next, set-other, get-last, at-stage, exit_end-is, begun-count, begun-at, next-count, next-at, over-at, over-place, set-same}
+use Rattle.nf_routes_laws.proofs.Stages.{get-next, set-other, get-last, at-stage, exit_end-is, begun-count, begun-at, next-count, next-at, over-at, over-place}
 use Rattle.nf_routes_laws.proofs.Steps.{Stands, stage, stands-none, place-is, stands-over, stands-past, IsEntryOf, Over, over-is, past-is}
 use Rattle.nf_net_laws.proofs.WalkFacts.{slice_get-left}
 
@@ -291,7 +292,7 @@ module _ (passes : Passing) (net : Network) (routes : List Route) (horizon : ℚ
       below = let b = slice_get_within net.links e link is_link in let c = standing.link_count in omega arith
 
       final_here : slice_get final.links e ≡ Some (Some (record { end = end_by horizon (all_pairs routes) s.links e; loaded = d.loaded }))
-      final_here = grows.links e (in-back e front (e ∷ []) (inl refl)) ∙ ap (λ (l : List (Option LoadedLink)). slice_get l e) d.links_are ∙ set-same s.links e _ below
+      final_here = grows.links e (in-back e front (e ∷ []) (inl refl)) ∙ ap (λ (l : List (Option LoadedLink)). slice_get l e) d.links_are ∙ set_same s.links e _ below
 
       before_same : (f : ℕ) → In f front → slice_get final.links f ≡ slice_get s.links f
       before_same f w = grows.links f (in-front f front (e ∷ []) w) ∙ ap (λ (l : List (Option LoadedLink)). slice_get l f) d.links_are

@@ -1,5 +1,6 @@
 -- The loading of all links, one after the other, as the list has it.
 use Rattle.std.proofs.Common.{◌≡◌, ℕ, zero, suc, ◌+◌, ◌≤◌, List, [], ◌∷◌, ◌++◌, length, take, drop, sym, ap, subst, ◌∙◌, arith}
+use Rattle.nf_rational_laws.proofs.Entries.{drop_next}
 use Rattle.nf_routes_links.proofs.Common.{Option, Some, Ok, Err, slice_get, drop_all, take_all, take-append-drop, ℚ, 0ℚ, ◌≤ℚ◌, Halt, Load, PassedAt, Passing}
 use Rattle.nf_routes_links.proofs.Common.{Checked, Stops, at_part, ◌>>=◌, Link, Network, IsLink, IsNetwork, after_err, was_ok, stops_on, err_before, ok_before}
 use Rattle.nf_routes_links.proofs.Common.{SoFar, load_here, IsPlaced, order_placed, nothing_loaded, nothing_sent, all_loaded, MayLoad, IsFullyLoaded, kept_after}
@@ -8,7 +9,6 @@ use Rattle.nf_routes_def.specs.Routes.{Route, AreRoutes, HoldCircle, all_pairs, 
 use Rattle.nf_routes_laws.proofs.Ordering.{takes_all-straight}
 use Rattle.nf_routes_links.proofs.Alone.{stands_kept, all_kept-is}
 use Rattle.nf_routes_links.proofs.Stands.{Stands, stands_first, may_load, steps_of, stands_next, stands_last, all_taken}
-use Rattle.nf_routes_links.proofs.Folds.{drop_at}
 
 -- ---- a link of the order, when those before it are taken
 take_on : (xs : List ℕ) (i e : ℕ) → slice_get xs i ≡ Some e → take i xs ++ e ∷ [] ≡ take (suc i) xs
@@ -24,7 +24,7 @@ module _ (net : Network) (routes : List Route) (order : List ℕ) (is_order : or
     pub placed_at : IsPlaced (all_pairs routes) (length net.links) (take i order) e
     unfolding loading_order
     placed_at = order_placed (all_pairs routes) (length net.links) (length net.links) (take i order) e (drop (i + 1) order)
-        (sym is_order ∙ sym (take-append-drop i order) ∙ ap (λ (l : List ℕ). take i order ++ l) (drop_at order i e at))
+        (sym is_order ∙ sym (take-append-drop i order) ∙ ap (λ (l : List ℕ). take i order ++ l) (drop_next order i e at))
 
     pub may_load_at : (so_far : SoFar) → Stands net routes (take i order) so_far → MayLoad net routes e so_far
     may_load_at so_far stands = may_load net routes (take i order) e so_far stands placed_at
@@ -63,7 +63,7 @@ module _ (passes : Passing) (kept : Kept) (net : Network) (routes : List Route) 
     module _ (e : ℕ) (at : slice_get order i ≡ Some e) where
       here : (load_here passes horizon routes so_far e (slice_get net.links e) >>= λ next. load_kept passes kept net routes horizon (drop (i + 1) order)
           (kept_after kept next)) ≡ all_kept passes kept net routes horizon
-      here = sym (ap (λ (l : List ℕ). load_kept passes kept net routes horizon l so_far) (drop_at order i e at)) ∙ loads.same
+      here = sym (ap (λ (l : List ℕ). load_kept passes kept net routes horizon l so_far) (drop_next order i e at)) ∙ loads.same
 
       pub loads_stop : (h : Halt ℚ) → Stops (λ (q : ℚ). q) h (at_part Load (load_here passes horizon routes so_far e (slice_get net.links e)))
           → Stops (λ (q : ℚ). q) h (at_part Load (all_kept passes kept net routes horizon))

@@ -1,5 +1,6 @@
 -- The last entry of each route alone: the loading goes on as with all entries.
 use Rattle.std.proofs.Common.{◌≡◌, ℕ, zero, suc, ◌+◌, ◌<◌, ◌≤◌, List, [], ◌∷◌, ◌++◌, length, map, take, drop, set, Bool, true, false, refl, sym, ap, ◌∙◌, append-nil, arith}
+use Rattle.nf_frac_def.proofs.Binding.{bind_same}
 use Rattle.nf_routes_links.proofs.Common.{Option, Some, None, Ok, Err, slice_get, AllByRecursion, drop_all, take_all, ℚ, 0ℚ, Passing, Checked, ◌>>=◌, Point}
 use Rattle.nf_routes_links.proofs.Common.{Link, Network, Loaded, checked_loading, Route, all_pairs, loading_order, SoFar, begins_with, goes_over, last_entry}
 use Rattle.nf_routes_links.proofs.Common.{end_by, next_entry, begin_if, begin_all, add_if, sum_from, next_if, next_all, load_here, load_all, IsAmount}
@@ -98,11 +99,6 @@ first_kept Every s e = refl
 first_kept Last s e = ap (λ (l : List Sent). record { links = s.links; entries = l }) e
 
 -- ---- computations, one after the other
--- ---- computations, one after the other
-after_same : {A B : Type 0} (r : Checked A) (f g : A → Checked B) → ((x : A) → f x ≡ g x) → (r >>= f) ≡ (r >>= g)
-after_same (Ok x) f g same = same x
-after_same (Err p) f g same = refl
-
 abbrev alone : Checked Sent → Checked Sent
 alone r = r >>= λ sent. Ok (last_alone sent)
 
@@ -145,7 +141,7 @@ module _ (passes : Passing) where
   sum_alone e total (route ∷ routes) [] = refl
   sum_alone e total (route ∷ routes) (sent ∷ rest) =
       ap (λ (entry : List Point). add_if passes (goes_over route.links e) total entry >>= λ next. sum_from passes e next routes (map last_alone rest)) (last_of_alone sent)
-      ∙ after_same (add_if passes (goes_over route.links e) total (last_entry sent))
+      ∙ bind_same (add_if passes (goes_over route.links e) total (last_entry sent))
       (λ (next : List Point). sum_from passes e next routes (map last_alone rest)) (λ (next : List Point). sum_from passes e next routes rest)
       (λ next. sum_alone e next routes rest)
 
@@ -201,7 +197,7 @@ module _ (passes : Passing) where
       loads_alone : (begun : List Sent) (inflow : List Point) → ended (after_sum (map last_alone begun) inflow) ≡ ended (after_sum begun inflow)
       loads_alone begun inflow =
           chain (load inflow) (after_load (map last_alone begun)) (λ next. Ok (keeping_last next))
-          ∙ after_same (load inflow) (λ loaded. ended (after_load (map last_alone begun) loaded)) (λ loaded. ended (after_load begun loaded)) (λ loaded. sends_alone begun loaded)
+          ∙ bind_same (load inflow) (λ loaded. ended (after_load (map last_alone begun) loaded)) (λ loaded. ended (after_load begun loaded)) (λ loaded. sends_alone begun loaded)
           ∙ sym (chain (load inflow) (after_load begun) (λ next. Ok (keeping_last next)))
 
       sums_alone : (begun : List Sent) → ended (after_begin (map last_alone begun)) ≡ ended (after_begin begun)
@@ -209,7 +205,7 @@ module _ (passes : Passing) where
           let sum = sum_from passes e ((0ℚ, 0ℚ) ∷ []) routes begun in
           ap (λ (r : Checked (List Point)). ended (r >>= after_sum (map last_alone begun))) (sum_alone e ((0ℚ, 0ℚ) ∷ []) routes begun)
           ∙ chain sum (after_sum (map last_alone begun)) (λ next. Ok (keeping_last next))
-          ∙ after_same sum (λ inflow. ended (after_sum (map last_alone begun) inflow)) (λ inflow. ended (after_sum begun inflow)) (λ inflow. loads_alone begun inflow)
+          ∙ bind_same sum (λ inflow. ended (after_sum (map last_alone begun) inflow)) (λ inflow. ended (after_sum begun inflow)) (λ inflow. loads_alone begun inflow)
           ∙ sym (chain sum (after_sum begun) (λ next. Ok (keeping_last next)))
 
       begun_alone : (r : Checked (List Sent)) → ended (all_alone r >>= after_begin) ≡ ended (r >>= after_begin)

@@ -1,6 +1,6 @@
 -- A step for each route with what it has sent, one route after the other.
 use Rattle.std.proofs.Common.{◌≡◌, ℕ, zero, suc, ◌+◌, ◌<◌, ◌≤◌, List, [], ◌∷◌, ◌++◌, length, take, drop, set, refl, sym, ap, subst, ◌∙◌, append_assoc, append-nil, arith}
-use Rattle.nf_curve.proofs.Shortening.{drop-at}
+use Rattle.nf_rational_laws.proofs.Entries.{drop_next}
 use Rattle.nf_routes_links.proofs.Common.{Some, Ok, Err, slice_get, take_more_set, drop-set-lt, drop-drop, drop_all, take_all, length-set, ℚ, Halt, Load}
 use Rattle.nf_routes_links.proofs.Common.{Passing, Checked, Stops, at_part, ◌>>=◌, with_front, Point, Route, begins_with, goes_over, last_entry, begin_if}
 use Rattle.nf_routes_links.proofs.Common.{begin_all, add_if, sum_from, next_if, next_all, after_err, was_ok, front_none, front_err, stops_on, Along}
@@ -31,9 +31,6 @@ next_all-is passes e exit [] entries = refl
 next_all-is passes e exit (route ∷ routes) [] = refl
 next_all-is passes e exit (route ∷ routes) (sent ∷ rest) =
     ap (λ (r : Checked (List Sent)). next_if passes (goes_over route.links e) exit sent >>= λ here. r >>= λ later. Ok (here ∷ later)) (next_all-is passes e exit routes rest)
-
-pub drop_at : {A : Type 0} (xs : List A) (i : ℕ) (x : A) → slice_get xs i ≡ Some x → drop i xs ≡ x ∷ drop (i + 1) xs
-drop_at {A} xs i x h = drop-at xs i x h ∙ ap (λ (k : ℕ). x ∷ drop k xs) (let same : suc i ≡ i + 1 = omega arith in same)
 
 get_drop : {A : Type 0} (xs ys : List A) (i : ℕ) (x : A) → drop i xs ≡ drop i ys → slice_get xs i ≡ Some x → slice_get ys i ≡ Some x
 get_drop {A} xs ys i x same h = sym (first ys i) ∙ ap (λ (l : List A). slice_get l 0) (sym same) ∙ first xs i ∙ h
@@ -71,8 +68,8 @@ module _ (f : Route → Sent → Checked Sent) (routes : List Route) (old : List
       was = get_drop now old i sent so_far.rest is
 
       here : with_front (take i now) (f route sent >>= λ here. step_all f (drop (i + 1) routes) (drop (i + 1) old) >>= λ later. Ok (here ∷ later)) ≡ step_all f routes old
-      here = sym (ap (λ (l : List Route). with_front (take i now) (step_all f l (drop i old))) (drop_at routes i route at)
-          ∙ ap (λ (l : List Sent). with_front (take i now) (step_all f (route ∷ drop (i + 1) routes) l)) (drop_at old i sent was)) ∙ so_far.same
+      here = sym (ap (λ (l : List Route). with_front (take i now) (step_all f l (drop i old))) (drop_next routes i route at)
+          ∙ ap (λ (l : List Sent). with_front (take i now) (step_all f (route ∷ drop (i + 1) routes) l)) (drop_next old i sent was)) ∙ so_far.same
 
       pub steps_stop : (h : Halt ℚ) → Stops (λ (q : ℚ). q) h (at_part Load (f route sent)) → Stops (λ (q : ℚ). q) h (at_part Load (step_all f routes old))
       steps_stop h s = stops_on h (at_part Load (f route sent)) (at_part Load (step_all f routes old))
@@ -154,8 +151,8 @@ module _ (passes : Passing) (e : ℕ) (first : List Point) (routes : List Route)
     module _ (route : Route) (sent : Sent) (at : slice_get routes i ≡ Some route) (is : slice_get entries i ≡ Some sent) where
       sum_here : (add_if passes (goes_over route.links e) total (last_entry sent) >>= λ next. sum_from passes e next (drop (i + 1) routes)
           (drop (i + 1) entries)) ≡ sum_from passes e first routes entries
-      sum_here = sym (ap (λ (l : List Route). sum_from passes e total l (drop i entries)) (drop_at routes i route at)
-          ∙ ap (λ (l : List Sent). sum_from passes e total (route ∷ drop (i + 1) routes) l) (drop_at entries i sent is)) ∙ so_far.same
+      sum_here = sym (ap (λ (l : List Route). sum_from passes e total l (drop i entries)) (drop_next routes i route at)
+          ∙ ap (λ (l : List Sent). sum_from passes e total (route ∷ drop (i + 1) routes) l) (drop_next entries i sent is)) ∙ so_far.same
 
       pub sums_stop : (h : Halt ℚ) → Stops (λ (q : ℚ). q) h (at_part Load (add_if passes (goes_over route.links e) total (last_entry sent)))
           → Stops (λ (q : ℚ). q) h (at_part Load (sum_from passes e first routes entries))

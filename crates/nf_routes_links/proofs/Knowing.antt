@@ -1,7 +1,8 @@
 -- Values that are those of points are known.
 use Rattle.std.proofs.Common.{◌≡◌, ℕ, zero, suc, List, [], ◌∷◌, map, Bool, refl, sym, ap, subst, ◌∙◌}
 use Rattle.nf_curve_laws.proofs.Operations.{not_same}
-use Rattle.nf_routes_links.proofs.Common.{Some, Ok, slice_get, if◌then◌else◌, ℚ, ◌≤ℚ◌, lt_ℚ, ≤ℚ_trans, ≤ℚ_of_lt, ≤ℚ_of_same, same_Ok}
+use Rattle.nf_curve.proofs.Placing.{first-least}
+use Rattle.nf_routes_links.proofs.Common.{Some, Ok, slice_get, if◌then◌else◌, ℚ, ◌≤ℚ◌, lt_ℚ, same_Ok}
 use Rattle.nf_routes_links.proofs.Common.{Passing, passes_Q, Checked, each, ◌>>=◌, Point, TimesRise, IsCurve, sides_at, both_times, then_ok}
 use Rattle.nf_routes_links.proofs.Common.{AreKnown, AreThere, right_point}
 use Rattle.nf_rational_laws.proofs.Tests.{test_of_not_less}
@@ -11,11 +12,6 @@ use Rattle.nf_curve_def.specs.Values.{value_from, checked_value}
 use Rattle.nf_rational_laws.proofs.SignTests.{is_same-itself}
 
 -- ---- the value at the time of a point
-from_first : (p : Point) (rest : List Point) (i : ℕ) (q : Point) → TimesRise (p ∷ rest) → slice_get (p ∷ rest) i ≡ Some q → p.0 ≤ℚ q.0
-from_first p rest zero q r h = let same : p ≡ q = cc in ≤ℚ_of_same p.0 q.0 (ap (λ (x : Point). x.0) same)
-from_first p [] (suc i) q r h = absurd (cc)
-from_first p (s ∷ rest) (suc i) q r h = ≤ℚ_trans _ _ _ (≤ℚ_of_lt _ _ r.0) (from_first s rest i q r.1 h)
-
 module _ (passes : Passing) where
   at_first : (p : Point) (rest : List Point) → value_from passes p rest p.0 ≡ Ok p.1
   at_first p [] = refl
@@ -25,7 +21,7 @@ module _ (passes : Passing) where
   at_later p rest zero q r h = let same : p ≡ q = cc in subst (λ (x : Point). value_from passes p rest x.0 ≡ Ok x.1) same (at_first p rest)
   at_later p [] (suc i) q r h = absurd (cc)
   at_later p (s ∷ rest) (suc i) q r h =
-      let from : s.0 ≤ℚ q.0 = from_first s rest i q r.1 h in
+      let from : s.0 ≤ℚ q.0 = first-least s rest i q r.1 h in
       ap (λ (b : Bool). if b then Ok p.1 else (if lt_ℚ q.0 s.0 then checked_line passes p s q.0 else value_from passes s rest q.0)) (not_same q.0 p.0 (<_≤_trans _ _ _ r.0 from))
       ∙ ap (λ (b : Bool). if b then checked_line passes p s q.0 else value_from passes s rest q.0) (test_of_not_less q.0 s.0 from)
       ∙ at_later s rest i q r.1 h

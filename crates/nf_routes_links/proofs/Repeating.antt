@@ -1,15 +1,15 @@
 -- Travels of routes over the same links: each is that of the first of them.
 use Rattle.std.proofs.Common.{◌≡◌, ◌⊎◌, inl, inr, ⊎_elim, ℕ, zero, suc, ◌+◌, ◌≤◌, List, [], ◌∷◌, ◌++◌, length, drop, refl, sym, ap, subst, ◌∙◌}
+use Rattle.nf_rational_laws.proofs.Entries.{drop_next}
 use Rattle.nf_routes_links.proofs.Common.{Some, Ok, slice_get, drop_all, length_push, ℚ, Halt, Load, passes_Q, Checked, Stops, each, at_part, with_front, Point}
 use Rattle.nf_routes_links.proofs.Common.{Loaded, departures, each_goes, each_stops, each_ends, front_none, stops_on, was_ok, Route, NamedRoute, routes_of}
 use Rattle.nf_routes_links.proofs.Common.{links_of, links_at, travel_along, AreTravels}
-use Rattle.nf_routes_links.proofs.Folds.{drop_at}
 
 -- ---- the same links, one by one
 pub links_step : (left right : List ℕ) (i e f : ℕ) → slice_get left i ≡ Some e → slice_get right i ≡ Some f → e ≡ f → (drop i left ≡ drop i right → left ≡ right)
     → drop (i + 1) left ≡ drop (i + 1) right → left ≡ right
 links_step left right i e f h k same so_far rest =
-    so_far (drop_at left i e h ∙ ap (λ (n : ℕ). n ∷ drop (i + 1) left) same ∙ ap (λ (l : List ℕ). f ∷ l) rest ∙ sym (drop_at right i f k))
+    so_far (drop_next left i e h ∙ ap (λ (n : ℕ). n ∷ drop (i + 1) left) same ∙ ap (λ (l : List ℕ). f ∷ l) rest ∙ sym (drop_next right i f k))
 
 pub links_end : (left right : List ℕ) (i : ℕ) → length left ≤ i → length right ≤ i → (drop i left ≡ drop i right → left ≡ right) → left ≡ right
 links_end left right i h k so_far = so_far (drop_all i left h ∙ sym (drop_all i right k))
@@ -45,7 +45,7 @@ module _ (horizon : ℚ) (loaded : List Loaded) (routes : List NamedRoute) where
 
     module _ (named : NamedRoute) (at : slice_get routes i ≡ Some named) where
       rest : with_front travels (each travel_of (named.route ∷ routes_of (drop (i + 1) routes))) ≡ each travel_of (routes_of routes)
-      rest = sym (ap (λ (l : List NamedRoute). with_front travels (each travel_of (routes_of l))) (drop_at routes i named at)) ∙ all.same
+      rest = sym (ap (λ (l : List NamedRoute). with_front travels (each travel_of (routes_of l))) (drop_next routes i named at)) ∙ all.same
 
       here : travel_along passes_Q horizon loaded (links_at routes i) (departures horizon) ≡ travel_of named.route
       here = ap (λ o. travel_along passes_Q horizon loaded (links_of o) (departures horizon)) at

@@ -1,6 +1,6 @@
 -- What holds of what is loaded so far, from link to link.
 use Rattle.std.proofs.Common.{◌≡◌, ◌≢◌, ℕ, zero, suc, ◌+◌, ◌<◌, ◌≤◌, List, [], ◌∷◌, ◌++◌, length, set, ⊎_elim, Bool, true, false, eqb, ◌&&◌, ◌||◌, refl, sym, ap, subst, ◌∙◌, arith}
-use Rattle.nf_routes_laws.proofs.Stages.{set-same}
+use Rattle.nf_rational_laws.proofs.Entries.{set_same}
 use Rattle.nf_routes_links.proofs.Common.{Option, Some, None, Ok, slice_get, list_all, range_with_len, length-set, length-map, slice_get_within, eqb_tells, ℚ}
 use Rattle.nf_routes_links.proofs.Common.{0ℚ, ◌≤ℚ◌, ≤ℚ_trans, Passing, Point, Link, Network, IsLink, IsNetwork, hops, IsPositive-link, then_ok, Loaded}
 use Rattle.nf_routes_links.proofs.Common.{checked_loading, same_Ok, or_rest, LoadedLink, SoFar, begins_with, goes_over, end_by, begin_if, begin_all, sum_from}
@@ -116,7 +116,7 @@ module _ (passes : Passing) (net : Network) (routes : List Route) (horizon : ℚ
 
   loaded_then : (f : ℕ) → is_taken (taken ++ e ∷ []) f ≡ true → slice_get (set so_far.links e (Some here)) f ≡ Some None → ⊥
   loaded_then f t h = ⊎_elim
-      (λ (v : (eqb e f ≡ true) × (e ≡ f)). apart (sym (set-same so_far.links e (Some here) inside) ∙ ap (slice_get (set so_far.links e (Some here))) v.1 ∙ h))
+      (λ (v : (eqb e f ≡ true) × (e ≡ f)). apart (sym (set_same so_far.links e (Some here) inside) ∙ ap (slice_get (set so_far.links e (Some here))) v.1 ∙ h))
       (λ (v : (eqb e f ≡ false) × (e ≢ f)). s.loaded f (or_rest (eqb e f) _ v.0 (sym (taken-push taken e f) ∙ t)) (sym (set_other so_far.links e f (Some here) v.1) ∙ h))
       (eqb_tells e f)
     where
@@ -126,7 +126,7 @@ module _ (passes : Passing) (net : Network) (routes : List Route) (horizon : ℚ
   exits_then : (f : ℕ) (l : LoadedLink) → slice_get (set so_far.links e (Some here)) f ≡ Some (Some l) → AreExits l.loaded.exit
   exits_then f l h = ⊎_elim
       (λ (v : (eqb e f ≡ true) × (e ≡ f)). subst (λ (x : LoadedLink). AreExits x.loaded.exit)
-      (same (sym (set-same so_far.links e (Some here) inside) ∙ ap (slice_get (set so_far.links e (Some here))) v.1 ∙ h)) exits-are)
+      (same (sym (set_same so_far.links e (Some here) inside) ∙ ap (slice_get (set so_far.links e (Some here))) v.1 ∙ h)) exits-are)
       (λ (v : (eqb e f ≡ false) × (e ≢ f)). s.exits f l (sym (set_other so_far.links e f (Some here) v.1) ∙ h))
       (eqb_tells e f)
     where

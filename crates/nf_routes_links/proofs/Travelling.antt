@@ -1,11 +1,11 @@
 -- Travels over loaded links: by what is loaded, and that no time of them is negative.
 use Rattle.std.proofs.Common.{◌≡◌, ℕ, zero, suc, ◌+◌, ◌≤◌, List, [], ◌∷◌, length, drop, ⊎_elim, Bool, true, false, refl, sym, ap, subst, ◌∙◌, arith}
+use Rattle.nf_rational_laws.proofs.Entries.{drop_next}
 use Rattle.nf_routes_links.proofs.Common.{Option, Some, None, Ok, Err, map, slice_get, unwrap_or, if◌then◌else◌, drop_all, length-map, slice_get_within, ℚ, 0ℚ}
 use Rattle.nf_routes_links.proofs.Common.{◌≤ℚ◌, ≤ℚ_refl, ≤ℚ_trans, Halt, Load, Passing, Checked, Stops, at_part, each, ◌>>=◌, Point, Within, value, IsCurve}
 use Rattle.nf_routes_links.proofs.Common.{Network, NeverFalls-value, value-first, is_zero, is_same_cases, Loaded, loaded_at, departures, after_err, was_ok}
 use Rattle.nf_routes_links.proofs.Common.{stops_on, Route, AreRoutes, LoadedLink, SoFar, exit_of, loaded_or, travel_on, AreExits, IsFullyLoaded, HaveExits}
 use Rattle.nf_routes_links.proofs.Common.{GoOverAll, travel_along}
-use Rattle.nf_routes_links.proofs.Folds.{drop_at}
 use Rattle.nf_model_laws.specs.CurveLaws.{ValuesRise}
 use Rattle.nf_curve_def.specs.Composed.{checked_composed}
 use Rattle.nf_curve_def.specs.Meanings.{IsComposedOf}
@@ -121,7 +121,7 @@ module _ (passes : Passing) (horizon : ℚ) (loaded : List Loaded) (links : List
       here : (checked_composed passes link.exit travel horizon >>= λ next. travel_along passes horizon loaded (drop (i + 1) links) next)
           ≡ travel_along passes horizon loaded links (departures horizon)
       here = ap (λ (x : List Point). checked_composed passes x travel horizon >>= λ next. travel_along passes horizon loaded (drop (i + 1) links) next) (sym exit_is)
-          ∙ sym (ap (λ (l : List ℕ). travel_along passes horizon loaded l travel) (drop_at links i e at)) ∙ so_far.same
+          ∙ sym (ap (λ (l : List ℕ). travel_along passes horizon loaded l travel) (drop_next links i e at)) ∙ so_far.same
 
       pub travels_stop : (h : Halt ℚ) → Stops (λ (q : ℚ). q) h (at_part Load (checked_composed passes link.exit travel horizon))
           → Stops (λ (q : ℚ). q) h (at_part Load (travel_along passes horizon loaded links (departures horizon)))

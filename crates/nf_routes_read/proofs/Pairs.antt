@@ -5,6 +5,7 @@ use Rattle.std.specs.List.{list_all}
 use Rattle.nf_routes_def.specs.Routes.{pairs_of, all_pairs, is_taken}
 use Rattle.nf_routes_def.specs.RoutesFile.{NamedRoute, routes_of}
 use Rattle.std.proofs.lemmas.Bool.{or_right}
+use Rattle.nf_rational_laws.proofs.Results.{not_or}
 
 pub pairs_at : (links : List ℕ) (i : ℕ) (e f : ℕ) → slice_get links i ≡ Some e → slice_get links (suc i) ≡ Some f → pairs_of (drop i links) ≡ (e, f) ∷ pairs_of (drop (suc i) links)
 pairs_at [] i e f h k = absurd (cc)
@@ -30,10 +31,6 @@ all_pairs_at (x ∷ rest) (suc i) r h = all_pairs_at rest i r h
 
 -- ---- along one route
 
-or_early : (a b : Bool) → a ≡ false → (not a || b) ≡ true
-or_early true b h = absurd (cc)
-or_early false b h = refl
-
 abbrev pub test : List ℕ → ℕ → ℕ × ℕ → Bool
 test taken link p = not (eqb p.1 link) || is_taken taken p.0
 
@@ -56,4 +53,4 @@ module _ (links taken : List ℕ) (link i : ℕ) (some : 0 < i) (so_far : list_a
     pairs_taken t = goes_on (or_right (not (eqb f link)) (is_taken taken e) t)
 
     pub pairs_other : eqb f link ≡ false → list_all (test taken link) (pairs_of (drop (i + 1 - 1) links)) ≡ list_all (test taken link) (pairs_of links)
-    pairs_other t = goes_on (or_early (eqb f link) (is_taken taken e) t)
+    pairs_other t = goes_on (not_or (eqb f link) (is_taken taken e) t)

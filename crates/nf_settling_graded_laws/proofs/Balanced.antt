@@ -1,10 +1,10 @@
 -- A least supply has no excess at any node. So it is a graded flow, for bounded capacities.
 use Rattle.std.proofs.Common.{◌≡◌, ◌≢◌, ℕ, ◌<◌, if◌then◌else◌, [], ◌∷◌, inl, ⊎_elim, Bool, true, false, eqb, Option, sym, ap, subst, refl, ◌∙◌}
 use Rattle.std.proofs.lemmas.Bool.Decides.{eqb_tells}
-use Rattle.nf_settling_graded_laws.proofs.Common.{ℚ, 0ℚ, 1ℚ, ◌+ℚ◌, ◌-ℚ◌, ◌*ℚ◌, ◌≤ℚ◌, ◌<ℚ◌, reading_of, ≤ℚ_of_same, ≤ℚ_of_lt, ≤ℚ_antisymm, lt_or_le_ℚ}
+use Rattle.nf_settling_graded_laws.proofs.Common.{ℚ, 0ℚ, 1ℚ, ◌+ℚ◌, ◌-ℚ◌, ◌*ℚ◌, ◌≤ℚ◌, ◌<ℚ◌, reading_of, ≤ℚ_of_same, ≤ℚ_of_lt, ≤ℚ_antisymm, lt_or_le_ℚ, cases_eq}
 use Rattle.nf_settling_graded_laws.proofs.Common.{not_both_ℚ, nn_times, ≤ℚ_refl, ≤ℚ_trans, le, lt, eq, eq_times, linear_le, linear_lt, linear_eq, nn_after_less}
 use Rattle.nf_settling_graded_laws.proofs.Common.{nn_less_part, less_some_le, nn_of_one, Link, Network, IsLink, IsNetwork, sum_in, sum_out, IsPositive, HasIn}
-use Rattle.nf_settling_graded_laws.proofs.Common.{sum_to, only_at, only_at-here, only_at-else, out_less_in, Fits, demand, same_node, some_below, fits_used}
+use Rattle.nf_settling_graded_laws.proofs.Common.{sum_to, only_at, only_at-here, only_at-else, out_less_in, Fits, demand, some_below, fits_used}
 use Rattle.nf_settling_graded_laws.proofs.Common.{spare, HasSpare, spare_or_not, spare_of_enough, pushed, in-pushed, spare-else, spare-head, spare-tail}
 use Rattle.nf_model_laws.proofs.Totals.{all_zero, two_cancel}
 use Rattle.nf_thin_laws.proofs.Cuts.{EndsBelow-net}
@@ -77,8 +77,8 @@ module _ (net : Network) (cap : Link → Option ℚ) (rate : ℚ) (good : IsNetw
         (λ (m : link.head ≡ net.source). subst (λ (z : ℚ). z ≤ℚ levels link.tail)
         (sym (ap levels m ∙ over.starts)) (over.keeps_up link.tail (good.tails e link p)))
         (λ (m : link.head ≢ net.source). absurd (n (k, m)))
-        (same_node link.head net.source))
-        (same_node link.head link.tail)
+        (cases_eq link.head net.source))
+        (cases_eq link.head link.tail)
 
     pub IsGradedBy-balanced : IsGradedBy net cap rate flows levels
     IsGradedBy-balanced = record {
@@ -125,8 +125,8 @@ module _ (net : Network) (cap : Link → Option ℚ) (rate : ℚ) (good : IsNetw
             (given (spare net rate flows link.tail) _ a (spare-tail net rate flows e link p d is_open.0)
             (spare_nn link.tail (good.tails e link p) (λ t. other (m ∙ t))) part.1.above))
             (λ (m : v ≢ link.tail). subst (λ (z : ℚ). 0ℚ ≤ℚ z) (sym (spare-else net rate flows e link p d v k m)) (spare_nn v l other))
-            (same_node v link.tail))
-            (same_node v link.head)
+            (cases_eq v link.tail))
+            (cases_eq v link.head)
           where
             spare_nn : (v : ℕ) → v < net.nodes → v ≢ net.source → 0ℚ ≤ℚ spare net rate flows v
             spare_nn v l other = spare_of_enough _ _ _ (least.over.enough v l other)
@@ -153,7 +153,7 @@ module _ (net : Network) (cap : Link → Option ℚ) (rate : ℚ) (good : IsNetw
                 (λ (k : link.head ≡ v). ≤ℚ_of_lt _ _ (less (sum_in net.links flows v) _ _ a
                 (subst (λ (j : ℕ). only_at link.head 1ℚ j ≡ 1ℚ) k (only_at-here link.head 1ℚ)) (in-pushed net rate flows e link p d v) part.1.above))
                 (λ (k : link.head ≢ v). same (sum_in net.links flows v) _ _ a (only_at-else link.head 1ℚ v k) (in-pushed net rate flows e link p d v))
-                (same_node link.head v)
+                (cases_eq link.head v)
 
         too_low : ⊥
         too_low = not_both_ℚ _ _ less_inflow (least.flows_least new levels new_supply (≤ℚ_refl _))

@@ -3,10 +3,10 @@
 use Rattle.std.proofs.Common.{◌≡◌, ◌≢◌, ℕ, ◌<◌, if◌then◌else◌, List, [], ◌∷◌, inl, inr, ⊎_elim, Bool, true, false, eqb, Option, Some, None, slice_get, sym, ap, subst, refl, ◌∙◌}
 use Rattle.std.proofs.lemmas.Bool.Decides.{eqb_tells}
 use Rattle.std.proofs.lemmas.Option.{same_Some}
-use Rattle.nf_settling_graded_laws.proofs.Common.{ℚ, 0ℚ, 1ℚ, ◌+ℚ◌, ◌-ℚ◌, ◌*ℚ◌, ◌/ℚ◌, ◌≤ℚ◌, ◌<ℚ◌, reading_of, ≤ℚ_of_same, ≤ℚ_of_lt, nn_times, nn_plus, ≤ℚ_refl}
+use Rattle.nf_settling_graded_laws.proofs.Common.{ℚ, 0ℚ, 1ℚ, ◌+ℚ◌, ◌-ℚ◌, ◌*ℚ◌, ◌/ℚ◌, ◌≤ℚ◌, ◌<ℚ◌, reading_of, ≤ℚ_of_same, ≤ℚ_of_lt, nn_times, nn_plus, ≤ℚ_refl, cases_eq}
 use Rattle.nf_settling_graded_laws.proofs.Common.{≤ℚ_trans, le, eq, le_times, linear_le, Link, Network, IsLink, IsNetwork, hops, sum_in, sum_out, only_at}
 use Rattle.nf_settling_graded_laws.proofs.Common.{only_at-here, only_at-else, sum_in-none, sum_out-none, sum_in-order, sum_out-same, Fits, demand, Decided}
-use Rattle.nf_settling_graded_laws.proofs.Common.{same_node, spare, pushed, pushed-cases, spare-else, spare-head, spare-tail}
+use Rattle.nf_settling_graded_laws.proofs.Common.{spare, pushed, pushed-cases, spare-else, spare-head, spare-tail}
 use Rattle.nf_model.specs.Walk.{IsWalk}
 use Rattle.nf_model_laws.proofs.Affine.{nn-quotient, quotient-times}
 use Rattle.nf_model_laws.proofs.Networks.{IsWalk-starts, StartsWith}
@@ -26,7 +26,7 @@ module _ (net : Network) (good : IsNetwork net) (rate : ℚ) (nn : 0ℚ ≤ℚ r
   only-nn v w = ⊎_elim
       (λ (e : v ≡ w). subst (λ (k : ℕ). 0ℚ ≤ℚ only_at v rate k) e (subst (λ (z : ℚ). 0ℚ ≤ℚ z) (sym (only_at-here v rate)) nn))
       (λ (n : v ≢ w). ≤ℚ_of_same _ _ (sym (only_at-else v rate w n)))
-      (same_node v w)
+      (cases_eq v w)
 
   demand-is : (w : ℕ) → demand net rate w ≡ only_at net.sink rate w
   demand-is w = ⊎_elim
@@ -57,8 +57,8 @@ module _ (net : Network) (good : IsNetwork net) (rate : ℚ) (nn : 0ℚ ≤ℚ r
           (λ (k : link.head ≢ link.tail). ⊎_elim
           (λ (m : link.head ≡ net.source). from_source _ _ _ (only_at-else link.head rate w (λ j. other (sym j ∙ m))) (r.enough w other) (only-nn link.tail w))
           (λ (m : link.head ≢ net.source). absurd (n (k, m)))
-          (same_node link.head net.source))
-          (same_node link.head link.tail);
+          (cases_eq link.head net.source))
+          (cases_eq link.head link.tail);
     }
       where
         from_source : (s a b : ℚ) → a ≡ 0ℚ → 0ℚ ≤ℚ s +ℚ a → 0ℚ ≤ℚ b → 0ℚ ≤ℚ s +ℚ b
@@ -88,8 +88,8 @@ module _ (net : Network) (good : IsNetwork net) (rate : ℚ) (nn : 0ℚ ≤ℚ r
           (only_at-here link.tail rate) (r.enough link.tail (λ j. other (m ∙ j)))))
           (λ (m : w ≢ link.tail). elsewhere _ _ _ _ (spare-else net rate flows e link p rate w k m) (only_at-else link.head rate w (λ j. k (sym j)))
           (r.enough w other) (only-nn link.tail w))
-          (same_node w link.tail))
-          (same_node w link.head);
+          (cases_eq w link.tail))
+          (cases_eq w link.head);
     }
       where
         at_head : (s t a b : ℚ) → t ≡ s +ℚ rate → a ≡ rate → 0ℚ ≤ℚ s +ℚ a → 0ℚ ≤ℚ b → 0ℚ ≤ℚ t +ℚ b
@@ -162,7 +162,7 @@ module _ (net : Network) (good : IsNetwork net) (rate : ℚ) (nn : 0ℚ ≤ℚ r
     keeps_up v h = ⊎_elim
         (λ (k : v ≡ net.source). ≤ℚ_of_same _ _ (sym (ap levels k ∙ level_source)))
         (λ (k : v ≢ net.source). subst (λ (z : ℚ). 1ℚ ≤ℚ z) (sym (level_else v k)) height_one)
-        (same_node v net.source)
+        (cases_eq v net.source)
 
     -- An open link out of the source is full.
     abbrev filled_by : {A : Type 0} → Decided A → Bool → ℚ → ℚ → ℚ
@@ -241,7 +241,7 @@ module _ (net : Network) (good : IsNetwork net) (rate : ℚ) (nn : 0ℚ ≤ℚ r
       started-fits o = subst (λ (z : ℚ). Fits (Some (size link)) (started e) (levels link.tail) z) (sym (level_else link.head o.1)) (⊎_elim
           (λ (k : link.tail ≡ net.source). full_fits (started e) (levels link.tail) (started-full k o) (ap levels k ∙ level_source))
           (λ (k : link.tail ≢ net.source). level_fits (started e) (levels link.tail) (started-else k) (level_else link.tail k))
-          (same_node link.tail net.source))
+          (cases_eq link.tail net.source))
 
     IsSupply-started : IsSupply net (λ link. Some (size link)) rate started levels
     IsSupply-started = record {

@@ -1,5 +1,4 @@
 -- The names that most proofs of this crate cite, passed on from one place. Declares nothing.
-pub use Rattle.nf_complete_laws.proofs.Bare.{same_node}
 pub use Rattle.nf_complete_laws.proofs.Deciding.{Decided, NoLink, both, same_or_not}
 pub use Rattle.nf_complete_laws.proofs.ExistsDeciding.{SomeLink, less_or_not, not_so, some_below, some_link}
 pub use Rattle.nf_complete_laws.proofs.Fitting.{
@@ -33,3 +32,4 @@ pub use Rattle.nf_rational_laws.proofs.Facts.{less_some_le, nn_after_less, nn_le
 pub use Rattle.nf_rational_laws.proofs.Linear.{eq, eq_times, le, le_times, linear_eq, linear_le, linear_lt, lt}
 pub use Rattle.nf_rational_laws.proofs.Order.{<ℚ_irrefl, less_nn, less_ps, lt_or_le_ℚ, nn_plus, nn_times, not_both_ℚ, ≤ℚ_antisymm, ≤ℚ_of_lt, ≤ℚ_of_same}
 pub use Rattle.nf_rational_laws.proofs.Polynomial.{reading_of}
+pub use Rattle.std.proofs.lemmas.Bool.{cases_eq}

@@ -1,8 +1,8 @@
 -- Systems of linear inequalities describe supplies. So one supply has the least sum of levels, and among those the least sum of inflows. The proof
 -- is that of `nf_complete_laws/Assigned`, for supplies.
 use Rattle.std.proofs.Common.{◌≡◌, ◌≢◌, ℕ, ◌<◌, Option, sym, subst}
-use Rattle.nf_settling_graded_laws.proofs.Common.{ℚ, 0ℚ, 1ℚ, ◌+ℚ◌, ◌-ℚ◌, ◌≤ℚ◌, nn_of_one, Link, Network, IsNetwork, IsLink, sum_in, sum_out, IsPositive, sum_to}
-use Rattle.nf_settling_graded_laws.proofs.Common.{sum_to-nn, demand, same_node, not_so, sum_in-not_negative}
+use Rattle.nf_settling_graded_laws.proofs.Common.{ℚ, 0ℚ, 1ℚ, ◌+ℚ◌, ◌-ℚ◌, ◌≤ℚ◌, nn_of_one, Link, Network, IsNetwork, IsLink, sum_in, sum_out, IsPositive, sum_to, cases_eq}
+use Rattle.nf_settling_graded_laws.proofs.Common.{sum_to-nn, demand, not_so, sum_in-not_negative}
 use Rattle.nf_linear_laws.specs.Systems.{form_value}
 use Rattle.nf_linear_laws.proofs.Choices.{MeetsOne, LeastOfTwo, least_of_two}
 use Rattle.nf_complete_laws.proofs.Affine.{Affine, Affine-value, Affine-form, Affine-floor, Affine-constant, Affine-plus, Affine-sum_to, Affine-sum_in, Affine-sum_out}
@@ -45,7 +45,7 @@ module _ (net : Network) (cap : Link → Option ℚ) (rate : ℚ) where
 
   enough_described : Described Enough
   enough_described = Described-to net.nodes (λ v x. v ≢ net.source → EnoughAt v x)
-      (λ v _. Described-when (v ≢ net.source) (EnoughAt v) (not_so (same_node v net.source))
+      (λ v _. Described-when (v ≢ net.source) (EnoughAt v) (not_so (cases_eq v net.source))
       (λ _. Described-le (λ x. sum_out net.links (flows_of x) v +ℚ demand net rate v) (λ x. sum_in net.links (flows_of x) v)
       (Affine-plus (λ x. sum_out net.links (flows_of x) v) (λ x. demand net rate v) (Affine-sum_out net.links (λ e x. flows_of x e) v flow)
       (Affine-constant (demand net rate v)))

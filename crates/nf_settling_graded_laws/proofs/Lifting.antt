@@ -1,8 +1,8 @@
 -- Pushes begin with a supply whose nodes with excess have levels above 1. They end with one whose nodes with excess are closed. The proof is that
 -- of `nf_complete_laws/Growing`, for supplies.
 use Rattle.std.proofs.Common.{◌≡◌, ◌≢◌, ℕ, zero, suc, ◌<◌, ◌≤◌, ◌⊎◌, inl, inr, ⊎_elim, Option, sym, ap, subst, ◌∙◌, arith}
-use Rattle.nf_settling_graded_laws.proofs.Common.{ℚ, 0ℚ, 1ℚ, ◌+ℚ◌, ◌-ℚ◌, ◌≤ℚ◌, ◌<ℚ◌, ≤ℚ_of_lt, ≤ℚ_of_same, not_both_ℚ, nn_less_part, less_some_le, Link}
-use Rattle.nf_settling_graded_laws.proofs.Common.{Network, IsLink, IsNetwork, IsPositive, Decided, both, same_or_not, NoLink, same_node, not_so, less_or_not}
+use Rattle.nf_settling_graded_laws.proofs.Common.{ℚ, 0ℚ, 1ℚ, ◌+ℚ◌, ◌-ℚ◌, ◌≤ℚ◌, ◌<ℚ◌, ≤ℚ_of_lt, ≤ℚ_of_same, not_both_ℚ, nn_less_part, less_some_le, Link, cases_eq}
+use Rattle.nf_settling_graded_laws.proofs.Common.{Network, IsLink, IsNetwork, IsPositive, Decided, both, same_or_not, NoLink, not_so, less_or_not}
 use Rattle.nf_settling_graded_laws.proofs.Common.{SomeLink, some_link, IsAtMost, HasRoom, room_or_not, spare, HasSpare, spare_or_not, spare_of_enough, pushed}
 use Rattle.nf_settling_graded_laws.proofs.Common.{spare-else, spare-head, spare-tail}
 use Rattle.nf_complete_laws.proofs.Counting.{lack, lack-le, lack-lt, count_to, count_to-lt}
@@ -68,8 +68,8 @@ module _ (net : Network) (cap : Link → Option ℚ) (rate : ℚ) (levels : ℕ 
             (λ (k : v ≢ giver). ⊎_elim
             (λ (m : v ≡ gainer). subst (λ (j : ℕ). P (spare net rate new j)) (sym m) (positive _ at_gainer))
             (λ (m : v ≢ gainer). subst P (sym (others v k m)) same)
-            (same_node v gainer))
-            (same_node v giver)
+            (cases_eq v gainer))
+            (cases_eq v giver)
 
         grown : Grows net cap rate levels flows
         grown = record {
@@ -82,8 +82,8 @@ module _ (net : Network) (cap : Link → Option ℚ) (rate : ℚ) (levels : ℕ 
                 (λ (k : v ≢ giver). ⊎_elim
                 (λ (m : v ≡ gainer). subst (λ (j : ℕ). 1ℚ <ℚ levels j) (sym m) (subst (λ (z : ℚ). 1ℚ <ℚ z) (sym one_level) (f.lifted giver has)))
                 (λ (m : v ≢ gainer). f.lifted v (s.0, subst (λ (z : ℚ). 0ℚ <ℚ z) (others v k m) s.1))
-                (same_node v gainer))
-                (same_node v giver);
+                (cases_eq v gainer))
+                (cases_eq v giver);
           };
           keeps = λ v s. (s.0, by_node (λ (z : ℚ). 0ℚ <ℚ z) v (λ z k. k) s.1);
           node = gainer;

@@ -8,6 +8,7 @@ use Rattle.std.proofs.lemmas.List.Sums.{fails_before_first, passes_at_first}
 use Rattle.std.proofs.lemmas.Bool.{lt-ltb, le-ltb, ltb-true, eqb-true, ne_eqb}
 use native.Mathlib.Decide.{dec_lt}
 use Rattle.nf_text_def.specs.Lines.{TextLine, lines_from, lines_of_parts, ended_line}
+use Rattle.nf_text_def.proofs.LineParts.{lines_of_parts-more}
 use Rattle.nf_text.specs.Reading.{lf_place, has_lf, ends_with_cr, bytes_len, whole_len, first_line}
 use Rattle.nf_text.proofs.Positions.{position_or_len_within}
 
@@ -16,11 +17,6 @@ is_lf b = b == 10
 
 lf_place-le : (text : List ℕ) → lf_place text ≤ length text
 lf_place-le text = position_or_len_within is_lf text
-
--- a part and the rest of the parts, of which there is one
-lines_of_parts-more : (n : ℕ) (part : List ℕ) (parts : List (List ℕ)) → 0 < length parts → lines_of_parts n (part ∷ parts) ≡ ended_line n part ∷ lines_of_parts (n + 1) parts
-lines_of_parts-more n part [] h = absurd (omega (arith, h))
-lines_of_parts-more n part (next ∷ parts) h = refl
 
 some_part : (text : List ℕ) → 0 < length (slice_split is_lf text)
 some_part text = omega (arith, length-slice_split is_lf text)

@@ -3,17 +3,12 @@ use Rattle.std.proofs.Common.{◌≡◌, ℕ, zero, suc, Bool, List, [], ◌∷�
 use Rattle.std.specs.Prelude.{◌↔◌, Option, Some, IsNone, slice_get}
 use Rattle.std.proofs.lemmas.Option.{none-some, same_Some}
 use Rattle.nf_model.specs.Entries.{Has}
-use Rattle.nf_model.specs.Walk.{Hop, IsWalk}
-use Rattle.nf_model.specs.Network.{Network, hop_of, hops}
+use Rattle.nf_model.specs.Walk.{Hop}
+use Rattle.nf_model.specs.Network.{Network, hops}
 use Rattle.nf_model.specs.ThinFlow.{Sets}
 use Rattle.nf_graph.specs.Order.{IsChosenCycle}
 use Rattle.nf_thin_laws.specs.ActiveLinks.{IsActiveWalk, HoldNoCycle}
-use Rattle.nf_model_laws.proofs.Networks.{hop_at}
-
--- a walk by active links is a walk by chosen hops
-active_walk : (net : Network) (sets : Sets) (walk : List ℕ) (v w : ℕ) → IsActiveWalk net sets walk v w → IsWalk (hops net) walk v w
-active_walk net sets [] v w s = s
-active_walk net sets (e ∷ walk) v w s = (hop_of s.0, hop_at net e s.0 s.1, s.3, active_walk net sets walk (s.0).head w s.4)
+use Rattle.nf_thin_laws.proofs.ActiveLinks.{IsWalk-active}
 
 all_active : (net : Network) (sets : Sets) (walk : List ℕ) (v w : ℕ) → IsActiveWalk net sets walk v w → (i e : ℕ) → slice_get walk i ≡ Some e → Has sets.active e
 all_active net sets [] v w s i e h = absurd (none-some e h)
@@ -24,7 +19,7 @@ pub none_round : (net : Network) (sets : Sets) → ((cycle : List ℕ) → IsCho
 none_round net sets none e walk v s = none (e ∷ walk) (record {
   node = v;
   some = omega arith;
-  closed = active_walk net sets (e ∷ walk) v v s;
+  closed = IsWalk-active net sets (e ∷ walk) v v s;
   allowed = all_active net sets (e ∷ walk) v v s;
 })
 

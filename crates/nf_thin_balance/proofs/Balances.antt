@@ -1,7 +1,7 @@
 -- The surplus of each node on the first links, link by link.
 use Rattle.std.proofs.Common.{◌≡◌, ◌≢◌, ℕ, zero, suc, ◌<◌, ◌≤◌, List, length, replicate, ⊎_elim, Bool, true, false, eqb, refl, sym, ap, subst, ◌∙◌, arith}
 use Rattle.std.specs.Prelude.{Some, slice_get, slice_set}
-use Rattle.std.proofs.lemmas.Bool.{true≢false}
+use Rattle.std.proofs.lemmas.Bool.{true≢false, ne_eqb}
 use Rattle.std.proofs.lemmas.Bool.Decides.{eqb_tells}
 use Rattle.std.proofs.lemmas.Option.{none-some, same_Some}
 use Rattle.nf_rational.specs.Rational.{ℚ}
@@ -25,12 +25,6 @@ eqb_same : (v w : ℕ) → v ≡ w → eqb v w ≡ true
 eqb_same v w same = ⊎_elim
     (λ (t : (eqb v w ≡ true) × (v ≡ w)). t.0)
     (λ (t : (eqb v w ≡ false) × (v ≢ w)). absurd (t.1 same))
-    (eqb_tells v w)
-
-pub eqb_other : (v w : ℕ) → v ≢ w → eqb v w ≡ false
-eqb_other v w other = ⊎_elim
-    (λ (t : (eqb v w ≡ true) × (v ≡ w)). absurd (other t.1))
-    (λ (t : (eqb v w ≡ false) × (v ≢ w)). t.0)
     (eqb_tells v w)
 
 pub test_other : (b : Bool) (v w : ℕ) → b ≡ eqb v w → b ≡ false → v ≢ w
@@ -78,7 +72,7 @@ module _ (net : Network) (ranges nodes : List Range) (e : ℕ) (link : Link) (is
           let same : rest ≡ range = same_Some rest range (sym (ap (λ (l : List Range). slice_get l h) after_is ∙ set_same middle h rest below) ∙ at) in
           let was : slice_get nodes h ≡ Some kept = sym (middle_at h (λ back. apart (sym back))) ∙ kept_at in
           subst (λ (r : Range). IsWithin r (surplus_of_first net flow h (suc e))) same
-          (subst (IsWithin rest) (lesser_surplus net flow h e link is_link (ap (λ (w : ℕ). eqb w h) tail_is ∙ eqb_other t h apart) (ap (λ (w : ℕ). eqb w h) head_is ∙ eqb_same h h refl))
+          (subst (IsWithin rest) (lesser_surplus net flow h e link is_link (ap (λ (w : ℕ). eqb w h) tail_is ∙ ne_eqb t h apart) (ap (λ (w : ℕ). eqb w h) head_is ∙ eqb_same h h refl))
           (differences _ _ (so_far h kept was flow within) (within e here there)))
 
       at_tail : (range : Range) → slice_get after t ≡ Some range → BoundsFirst net ranges t (suc e) range
@@ -86,13 +80,13 @@ module _ (net : Network) (ranges nodes : List Range) (e : ℕ) (link : Link) (is
           let same : out ≡ range = same_Some out range (sym (after_at t apart ∙ (ap (λ (l : List Range). slice_get l t) middle_is ∙ set_same nodes t out tail_below)) ∙ at) in
           subst (λ (r : Range). IsWithin r (surplus_of_first net flow t (suc e))) same
           (subst (IsWithin out) (greater_surplus net flow t e link is_link (ap (λ (w : ℕ). eqb w t) tail_is ∙ eqb_same t t refl)
-          (ap (λ (w : ℕ). eqb w t) head_is ∙ eqb_other h t (λ back. apart (sym back))))
+          (ap (λ (w : ℕ). eqb w t) head_is ∙ ne_eqb h t (λ back. apart (sym back))))
           (sums _ _ (so_far t sent sent_at flow within) (within e here there)))
 
       elsewhere : (v : ℕ) (range : Range) → v ≢ h → v ≢ t → slice_get after v ≡ Some range → BoundsFirst net ranges v (suc e) range
       elsewhere v range not_head not_tail at flow within = subst (IsWithin range)
           (same_surplus net flow v e link is_link
-          ((ap (λ (w : ℕ). eqb w v) tail_is ∙ eqb_other t v (λ back. not_tail (sym back))) ∙ sym (ap (λ (w : ℕ). eqb w v) head_is ∙ eqb_other h v (λ back. not_head (sym back)))))
+          ((ap (λ (w : ℕ). eqb w v) tail_is ∙ ne_eqb t v (λ back. not_tail (sym back))) ∙ sym (ap (λ (w : ℕ). eqb w v) head_is ∙ ne_eqb h v (λ back. not_head (sym back)))))
           (so_far v range (sym (after_at v not_head ∙ middle_at v not_tail) ∙ at) flow within)
 
       pub each_more : BoundEach net ranges (suc e) after

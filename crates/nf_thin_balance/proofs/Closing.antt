@@ -12,7 +12,7 @@ use Rattle.nf_pattern.proofs.Setting.{set_same, set_other, tell}
 use Rattle.nf_thin_balance.specs.declared.ranges.Range.{Range}
 use Rattle.nf_thin_balance.specs.Ranges.{IsWithin}
 use Rattle.nf_thin_balance.specs.Conserving.{AreWithin, surplus_by}
-use Rattle.nf_thin_balance.proofs.Conserving.{other_false, other_true}
+use Rattle.nf_thin_balance.proofs.Conserving.{other_false, other_true, later_term}
 
 -- ---- the flows of all links but one
 abbrev pub but : ℕ → (ℕ → ℚ) → ℕ → ℚ
@@ -35,23 +35,19 @@ here_term : (b : Bool) (a s : ℚ) → (if b then a +ℚ s else s) ≡ (if b the
 here_term true a s = linear_eq (a ∷ s ∷ []) [] (search reading_of depth 12) tt tt
 here_term false a s = linear_eq (s ∷ []) [] (search reading_of depth 12) tt tt
 
-other_term : (b : Bool) (a s t x : ℚ) → s ≡ t +ℚ x → (if b then a +ℚ s else s) ≡ (if b then a +ℚ t else t) +ℚ x
-other_term true a s t x e = linear_eq (a ∷ s ∷ t ∷ x ∷ []) (eq e ∷ []) (search reading_of depth 12) tt tt
-other_term false a s t x e = e
-
 sum_out-but : (links : List Link) (flow : ℕ → ℚ) (v e : ℕ) (link : Link) → slice_get links e ≡ Some link
     → sum_out links flow v ≡ sum_out links (but e flow) v +ℚ (if eqb link.tail v then flow e else 0ℚ)
 sum_out-but [] flow v e link at = absurd (none-some link at)
 sum_out-but (l ∷ links) flow v zero link at = here_term (eqb l.tail v) (flow 0) (sum_out links (λ (i : ℕ). flow (suc i)) v)
     ∙ ap (λ (k : Link). sum_out (l ∷ links) (but 0 flow) v +ℚ (if eqb k.tail v then flow 0 else 0ℚ)) (same_Some l link at)
-sum_out-but (l ∷ links) flow v (suc e) link at = other_term (eqb l.tail v) (flow 0) _ _ _ (sum_out-but links (λ (i : ℕ). flow (suc i)) v e link at)
+sum_out-but (l ∷ links) flow v (suc e) link at = later_term (eqb l.tail v) (flow 0) _ _ _ (sum_out-but links (λ (i : ℕ). flow (suc i)) v e link at)
 
 sum_in-but : (links : List Link) (flow : ℕ → ℚ) (v e : ℕ) (link : Link) → slice_get links e ≡ Some link
     → sum_in links flow v ≡ sum_in links (but e flow) v +ℚ (if eqb link.head v then flow e else 0ℚ)
 sum_in-but [] flow v e link at = absurd (none-some link at)
 sum_in-but (l ∷ links) flow v zero link at = here_term (eqb l.head v) (flow 0) (sum_in links (λ (i : ℕ). flow (suc i)) v)
     ∙ ap (λ (k : Link). sum_in (l ∷ links) (but 0 flow) v +ℚ (if eqb k.head v then flow 0 else 0ℚ)) (same_Some l link at)
-sum_in-but (l ∷ links) flow v (suc e) link at = other_term (eqb l.head v) (flow 0) _ _ _ (sum_in-but links (λ (i : ℕ). flow (suc i)) v e link at)
+sum_in-but (l ∷ links) flow v (suc e) link at = later_term (eqb l.head v) (flow 0) _ _ _ (sum_in-but links (λ (i : ℕ). flow (suc i)) v e link at)
 
 -- With the link's flow, the sum is the surplus that the node needs.
 with_leaving : (o p i j x n : ℚ) → o ≡ p +ℚ x → i ≡ j +ℚ 0ℚ → o -ℚ i ≡ n → (p -ℚ j) +ℚ x ≡ n

@@ -30,7 +30,7 @@ first_term : (b : Bool) (a : ℚ) → (if b then a +ℚ 0ℚ else 0ℚ) ≡ 0ℚ
 first_term true a = linear_eq (a ∷ []) [] (search reading_of depth 12) tt tt
 first_term false a = linear_eq [] [] (search reading_of depth 12) tt tt
 
-later_term : (b : Bool) (a s t c : ℚ) → s ≡ t +ℚ c → (if b then a +ℚ s else s) ≡ (if b then a +ℚ t else t) +ℚ c
+pub later_term : (b : Bool) (a s t c : ℚ) → s ≡ t +ℚ c → (if b then a +ℚ s else s) ≡ (if b then a +ℚ t else t) +ℚ c
 later_term true a s t c e = linear_eq (a ∷ s ∷ t ∷ c ∷ []) (eq e ∷ []) (search reading_of depth 12) tt tt
 later_term false a s t c e = e
 

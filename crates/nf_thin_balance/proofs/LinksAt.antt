@@ -2,6 +2,7 @@
 use Rattle.std.proofs.Common.{◌≡◌, ◌≢◌, ℕ, zero, suc, ◌+◌, ◌<◌, ◌≤◌, List, length, replicate, ⊎_elim, sym, ap, subst, ◌∙◌, arith}
 use Rattle.std.specs.Prelude.{Some, slice_get, slice_set}
 use Rattle.std.proofs.lemmas.Option.{same_Some, slice_get_within}
+use Rattle.std.proofs.lemmas.Bool.{ne_eqb}
 use Rattle.nf_rational_laws.proofs.Entries.{entry}
 use Rattle.nf_rational_laws.proofs.Naturals.{before_or_at}
 use Rattle.nf_model.specs.Network.{Link, Network, IsLink}
@@ -12,7 +13,7 @@ use Rattle.nf_thin_balance.specs.Ranges.{IsWithin}
 use Rattle.nf_thin_balance.specs.Conserving.{BoundsFirst}
 use Rattle.nf_thin_balance.specs.LinksAt.{IsNextAt, HasLinksFrom}
 use Rattle.nf_thin_balance.proofs.Conserving.{same_surplus}
-use Rattle.nf_thin_balance.proofs.Balances.{eqb_other, replicated}
+use Rattle.nf_thin_balance.proofs.Balances.{replicated}
 
 -- ---- links that are not at the node
 module _ (net : Network) (ranges : List Range) (v e : ℕ) (range : Range) (so_far : BoundsFirst net ranges v e range) where
@@ -21,7 +22,7 @@ module _ (net : Network) (ranges : List Range) (v e : ℕ) (range : Range) (so_f
   one_passed n within none so flow held =
       let here = entry net.links n within in
       let apart = none here.0 here.1 in
-      subst (IsWithin range) (same_surplus net flow v n here.0 here.1 (eqb_other (here.0).tail v apart.0 ∙ sym (eqb_other (here.0).head v apart.1))) (so flow held)
+      subst (IsWithin range) (same_surplus net flow v n here.0 here.1 (ne_eqb (here.0).tail v apart.0 ∙ sym (ne_eqb (here.0).head v apart.1))) (so flow held)
 
   passed_to : (n : ℕ) → e ≤ n → n ≤ length net.links → ((k : ℕ) (link : Link) → e ≤ k → k < n → IsLink net k link → (link.tail ≢ v) × (link.head ≢ v)) → BoundsFirst net ranges v n range
   passed_to zero low high none = subst (λ (k : ℕ). BoundsFirst net ranges v k range) (let s : e ≡ zero = omega arith in s) so_far

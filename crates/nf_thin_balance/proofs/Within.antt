@@ -14,8 +14,9 @@ use Rattle.nf_rational_laws.proofs.IntegerRing.{ints_ring}
 use Rattle.nf_rational_laws.proofs.Ratio.{Is-self, Is-same, Is-times, Is-less, Is-whole}
 use Rattle.nf_rational_laws.proofs.Field.{whole-plus}
 use Rattle.nf_rational_laws.proofs.Linear.{le, linear_le, linear_eq}
-use Rattle.nf_rational_laws.proofs.Order.{≤ℚ_of_same, less_nn, nn_in, nn_out, nn_times, nn_whole}
+use Rattle.nf_rational_laws.proofs.Order.{≤ℚ_of_same, less_nn, nn_in, nn_out, nn_times, nn_whole, shifted_le}
 use Rattle.nf_rational_laws.proofs.Chains.{≤ℚ_trans}
+use Rattle.nf_rational_laws.proofs.Facts.{le_of_gap}
 use Rattle.nf_frac_def.specs.declared.Op.{Op}
 use Rattle.nf_frac_def.specs.declared.Passed.{Passed}
 use Rattle.nf_frac_def.specs.Passing.{Passing, result_of}
@@ -29,12 +30,6 @@ use Rattle.nf_thin_balance.specs.Ranges.{IsFrom, IsUpTo, IsWithin, IsEndOfSum, I
 -- ---- whole numbers
 whole-less : (a b : ℤ) → whole (a -ℤ b) ≡ whole a -ℚ whole b
 whole-less a b = Is-same _ _ _ _ (Is-whole (a -ℤ b)) (Is-less a (pos 1) b (pos 1) (Is-whole a) (Is-whole b)) (ring ints_ring (a ∷ b ∷ []) (search reading depth 30) tt)
-
-le_of_less : (x y : ℚ) → 0ℚ ≤ℚ y -ℚ x → x ≤ℚ y
-le_of_less x y h = linear_le (x ∷ y ∷ []) (le h ∷ []) (search reading_of depth 12) tt
-
-gap : (a b : ℤ) → a ≤ℤ b → pos 0 ≤ℤ (b -ℤ a)
-gap a b h = omega (arith, ints)
 
 no_gap : (a b : ℤ) → pos 0 ≤ℤ (b -ℤ a) → a ≤ℤ b
 no_gap a b h = omega (arith, ints)
@@ -50,17 +45,17 @@ around a b x h k = no_gap a b (subst (λ (z : ℤ). pos 0 ≤ℤ z) (less_is a b
 -- ---- a number times the scale
 module _ (scale : ℕ) (number : ℚ) where
   pub scaled_from : (end : ℤ) → (end *ℤ pos number.den) ≤ℤ (number.num *ℤ pos scale) → whole end ≤ℚ scaled scale number
-  scaled_from end h = le_of_less (whole end) (scaled scale number) (nn_in _ _
+  scaled_from end h = le_of_gap (whole end) (scaled scale number) (nn_in _ _
       (Is-less _ _ _ _ (Is-times (pos scale) (pos 1) number.num (pos number.den) (Is-whole (pos scale)) (Is-self number)) (Is-whole end))
-      (subst (λ (z : ℤ). pos 0 ≤ℤ z) (same (pos scale) number.num (pos number.den) end) (gap _ _ h)))
+      (subst (λ (z : ℤ). pos 0 ≤ℤ z) (same (pos scale) number.num (pos number.den) end) (shifted_le _ _ h)))
     where
       same : (s n d e : ℤ) → n *ℤ s -ℤ e *ℤ d ≡ (s *ℤ n) *ℤ pos 1 +ℤ neg_ℤ e *ℤ (pos 1 *ℤ d)
       same s n d e = ring ints_ring (s ∷ n ∷ d ∷ e ∷ []) (search reading depth 30) tt
 
   pub scaled_up_to : (end : ℤ) → (number.num *ℤ pos scale) ≤ℤ (end *ℤ pos number.den) → scaled scale number ≤ℚ whole end
-  scaled_up_to end h = le_of_less (scaled scale number) (whole end) (nn_in _ _
+  scaled_up_to end h = le_of_gap (scaled scale number) (whole end) (nn_in _ _
       (Is-less _ _ _ _ (Is-whole end) (Is-times (pos scale) (pos 1) number.num (pos number.den) (Is-whole (pos scale)) (Is-self number)))
-      (subst (λ (z : ℤ). pos 0 ≤ℤ z) (same (pos scale) number.num (pos number.den) end) (gap _ _ h)))
+      (subst (λ (z : ℤ). pos 0 ≤ℤ z) (same (pos scale) number.num (pos number.den) end) (shifted_le _ _ h)))
     where
       same : (s n d e : ℤ) → e *ℤ d -ℤ n *ℤ s ≡ e *ℤ (pos 1 *ℤ d) +ℤ neg_ℤ (s *ℤ n) *ℤ pos 1
       same s n d e = ring ints_ring (s ∷ n ∷ d ∷ e ∷ []) (search reading depth 30) tt
@@ -74,7 +69,7 @@ module _ (scale : ℕ) (number : ℚ) where
 
 -- The greater number has the greater multiple.
 le_scaled : (scale : ℕ) (x y : ℚ) → x ≤ℚ y → scaled scale x ≤ℚ scaled scale y
-le_scaled scale x y h = le_of_less (scaled scale x) (scaled scale y) (subst (λ (z : ℚ). 0ℚ ≤ℚ z) (apart (whole (pos scale)) x y)
+le_scaled scale x y h = le_of_gap (scaled scale x) (scaled scale y) (subst (λ (z : ℚ). 0ℚ ≤ℚ z) (apart (whole (pos scale)) x y)
     (nn_times (whole (pos scale)) (y -ℚ x) (nn_whole scale) (less_nn x y h)))
   where
     apart : (s x y : ℚ) → s *ℚ (y -ℚ x) ≡ s *ℚ y -ℚ s *ℚ x

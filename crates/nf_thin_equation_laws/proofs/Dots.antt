@@ -6,7 +6,7 @@ use Rattle.nf_rational.specs.Rational.{ℚ}
 use Rattle.nf_rational.specs.Operations.{0ℚ, ◌+ℚ◌, ◌-ℚ◌, ◌*ℚ◌}
 use Rattle.nf_rational_laws.proofs.Polynomial.{reading_of}
 use Rattle.nf_rational_laws.proofs.Linear.{eq, eq_times, linear_eq}
-use Rattle.nf_rational_laws.proofs.Facts.{zero_plus, sum_of_sum, zero_of_times_zero}
+use Rattle.nf_rational_laws.proofs.Facts.{zero_plus, sum_of_sum, zero_of_times_zero, zero_less_zero}
 use Rattle.nf_model.specs.Entries.{number_at}
 use Rattle.nf_model.specs.Network.{Link, sum_in, sum_out}
 use Rattle.nf_thin_def.specs.Equations.{active_from, one_if, leaves_less_enters, onto_links}
@@ -32,9 +32,6 @@ term_only f c x d e h = linear_eq (f ∷ c ∷ x ∷ d ∷ []) (eq_times x e ∷
 
 terms_less : (f g h x d a b : ℚ) → f ≡ g -ℚ h → d ≡ a -ℚ b → f *ℚ x +ℚ d ≡ (g *ℚ x +ℚ a) -ℚ (h *ℚ x +ℚ b)
 terms_less f g h x d a b e k = linear_eq (f ∷ g ∷ h ∷ x ∷ d ∷ a ∷ b ∷ []) (eq_times x e ∷ eq k ∷ []) (search reading_of) tt tt
-
-none_less : 0ℚ ≡ 0ℚ -ℚ 0ℚ
-none_less = linear_eq [] [] (search reading_of) tt tt
 
 -- ---- a row of a table
 module _ {A : Type 0} (f : A → ℚ) where
@@ -67,8 +64,8 @@ module _ {A : Type 0} (f : A → ℚ) where
   dot-zero h (u ∷ us) (x ∷ xs) = term_gone (f u) x (dot f us xs) (h u) (dot-zero h us xs)
 
   pub dot-less : (g h : A → ℚ) → ((u : A) → f u ≡ g u -ℚ h u) → (us : List A) (xs : List ℚ) → dot f us xs ≡ dot g us xs -ℚ dot h us xs
-  dot-less g h e [] xs = none_less
-  dot-less g h e (u ∷ us) [] = none_less
+  dot-less g h e [] xs = zero_less_zero
+  dot-less g h e (u ∷ us) [] = zero_less_zero
   dot-less g h e (u ∷ us) (x ∷ xs) = terms_less (f u) (g u) (h u) x _ _ _ (e u) (dot-less g h e us xs)
 
 pub dot-map : {A B : Type 0} (f : B → ℚ) (g : A → B) (us : List A) (xs : List ℚ) → dot f (map g us) xs ≡ dot (λ u. f (g u)) us xs
@@ -136,7 +133,7 @@ no_flow false false so si d h = h
 pub node-dot : (links : List Link) (active : List Bool) (k : ℕ) (h : ℕ → ℚ) (xs : List ℚ) (v : ℕ) → length active ≡ length links → length xs ≡ length (active_from k active)
     → ((i e : ℕ) → e ≡ k + i → h e ≡ leaves_less_enters (slice_get links i) v)
     → dot h (active_from k active) xs ≡ sum_out links (number_at (onto_links active xs)) v -ℚ sum_in links (number_at (onto_links active xs)) v
-node-dot [] [] k h xs v same l f = none_less
+node-dot [] [] k h xs v same l f = zero_less_zero
 node-dot [] (b ∷ active) k h xs v same l f = absurd (cc)
 node-dot (link ∷ links) [] k h xs v same l f = absurd (cc)
 node-dot (link ∷ links) (true ∷ active) k h [] v same l f = absurd (cc)

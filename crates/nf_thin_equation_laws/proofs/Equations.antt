@@ -7,8 +7,9 @@ use Rattle.nf_rational.specs.Rational.{ℚ}
 use Rattle.nf_rational.specs.Operations.{0ℚ, 1ℚ, neg_ℚ, ◌+ℚ◌, ◌-ℚ◌, ◌*ℚ◌}
 use Rattle.nf_rational_laws.proofs.Polynomial.{reading_of}
 use Rattle.nf_rational_laws.proofs.Linear.{linear_eq}
-use Rattle.nf_rational_laws.proofs.Facts.{first_and_zero, first_is_zero}
+use Rattle.nf_rational_laws.proofs.Facts.{first_and_zero}
 use Rattle.nf_rational_laws.proofs.Field.{one-*ℚ}
+use Rattle.nf_rational_laws.proofs.Signs.{first_is_zero}
 use Rattle.nf_model.specs.declared.State.TheVariants.{Tight, Zero}
 use Rattle.nf_model.specs.Entries.{number_at}
 use Rattle.nf_model.specs.Network.{Link, Network, IsNetwork, IsLink}

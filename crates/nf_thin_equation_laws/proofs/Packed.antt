@@ -23,7 +23,7 @@ onto-length (true ∷ active) [] = ap suc (onto-length active [])
 onto-length (true ∷ active) (x ∷ xs) = ap suc (onto-length active xs)
 onto-length (false ∷ active) xs = ap suc (onto-length active xs)
 
-not_set : Some false ≡ Some true → ⊥
+pub not_set : Some false ≡ Some true → ⊥
 not_set e = cc
 
 -- No flow is lost if the others are 0.

@@ -31,7 +31,7 @@ has_at flags e None h = inr (λ k. cc)
 has_at flags e (Some true) h = inl h
 has_at flags e (Some false) h = inr (λ k. cc)
 
-has_or_not : (flags : List Bool) (e : ℕ) → Has flags e ⊎ (Has flags e → ⊥)
+pub has_or_not : (flags : List Bool) (e : ℕ) → Has flags e ⊎ (Has flags e → ⊥)
 has_or_not flags e = has_at flags e (slice_get flags e) refl
 
 may_at : (sets : Sets) (e : ℕ) → Has sets.active e ⊎ (Has sets.active e → ⊥) → Has sets.resetting e ⊎ (Has sets.resetting e → ⊥) → NeedsState sets e ⊎ (NeedsState sets e → ⊥)
@@ -42,7 +42,7 @@ may_at sets e (inr not_active) resetting = inr (λ h. not_active h.0)
 may_or_not : (sets : Sets) (e : ℕ) → NeedsState sets e ⊎ (NeedsState sets e → ⊥)
 may_or_not sets e = may_at sets e (has_or_not sets.active e) (has_or_not sets.resetting e)
 
-state_is : (p : Pattern) (e : ℕ) (s t : State) → HasState p e s → HasState p e t → s ≡ t
+pub state_is : (p : Pattern) (e : ℕ) (s t : State) → HasState p e s → HasState p e t → s ≡ t
 state_is p e s t h k = same_Some s t (same_Some (Some s) (Some t) (sym h ∙ k))
 
 module _ (hops : List Hop) (sets : Sets) (last : Pattern) (known : length last ≡ length sets.active) (b c : Pattern)

@@ -1,5 +1,6 @@
 -- The slopes of a thin flow force states.
 use Rattle.std.proofs.Common.{◌≡◌, ◌≢◌, ◌⊎◌, inl, inr, ℕ, Bool, true, false, List, length, refl, sym, ap, subst, ◌∙◌, if◌then◌else◌}
+use Rattle.nf_rational_laws.proofs.Results.{None_of_test}
 use Rattle.nf_thin_laws.proofs.Common.{Option, Some, None, slice_get, is_none, unwrap_or, none-some, same_Some, ℚ, ◌≤ℚ◌, ◌<ℚ◌, lt_ℚ, ≤ℚ_of_same, not_both_ℚ}
 use Rattle.nf_thin_laws.proofs.Common.{lt_ℚ_cases, State, Tight, Full, Zero, number_at, Has, Link, Network, IsLink, IsNetwork, unbounded, Sets, exit_slope}
 use Rattle.nf_thin_laws.proofs.Common.{Enters, IsThinFlow, Pattern, HasState, NeedsState, IsPattern, IsListedIn, IsSolvable, AreSets, HoldNoCycle, AllowState}
@@ -36,10 +37,6 @@ unbounded_exit false None flow s e = refl
 unbounded_exit true (Some c) flow s e = absurd (none-some c (sym e))
 unbounded_exit false (Some c) flow s e = absurd (none-some c (sym e))
 
-none_is : (o : Option ℚ) → is_none o ≡ true → o ≡ None
-none_is None e = refl
-none_is (Some c) e = absurd (cc)
-
 module _ (net : Network) (sets : Sets) (rate : ℚ) (base : Pattern) (flows slopes : List ℚ) (good : IsNetwork net) (are : AreSets net sets) (acyclic : HoldNoCycle net sets)
     (flags : length sets.resetting ≡ length net.links) (is_base : IsPattern sets (unbounded net) base) (thin : IsThinFlow net sets rate flows slopes) where
   why : (e : ℕ) (f : State) → HasState (forced_by net slopes base) e f
@@ -62,7 +59,7 @@ module _ (net : Network) (sets : Sets) (rate : ℚ) (base : Pattern) (flows slop
       other h = NoneEntersSource-thin net sets rate good acyclic flows slopes thin e link (record { is_link = p; active = a; head = h })
 
       capacity : link.capacity ≡ None
-      capacity = none_is link.capacity (same_Some (unlimited link) true (sym (slice_get-image unlimited net.links e link p) ∙ u))
+      capacity = None_of_test link.capacity (same_Some (unlimited link) true (sym (slice_get-image unlimited net.links e link p) ∙ u))
 
   not_tight : (s t : ℚ) → Why Tight s t → ⊥
   not_tight s t (inl w) = cc

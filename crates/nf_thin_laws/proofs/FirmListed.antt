@@ -10,7 +10,7 @@ use Rattle.nf_thin_laws.proofs.Counting.{AreIn-length}
 abbrev MayBe : Bool → Bool → Bool → Option State → Type 0
 MayBe t f z s = ((t ≡ true) × (s ≡ Some Tight)) ⊎ (((f ≡ true) × (s ≡ Some Full)) ⊎ ((z ≡ true) × (s ≡ Some Zero)))
 
-in_allowed : (flag : Bool) (state : State) (states : List (Option State)) (s : Option State) → IsIn (if_allowed flag state states) s → ((flag ≡ true) × (s ≡ Some state)) ⊎ IsIn states s
+pub in_allowed : (flag : Bool) (state : State) (states : List (Option State)) (s : Option State) → IsIn (if_allowed flag state states) s → ((flag ≡ true) × (s ≡ Some state)) ⊎ IsIn states s
 in_allowed true state states s (inl same) = inl (refl, same)
 in_allowed true state states s (inr later) = inr later
 in_allowed false state states s h = inr h

@@ -34,3 +34,4 @@ pub mod Answered
 pub mod FirmListed
 pub mod Unranking
 pub mod PlacesBelow
+pub mod BaseFirst

@@ -1,6 +1,7 @@
 -- A loop that pushes a result for each numbered entry of a list: the results so far come before those of the remaining entries.
-use Rattle.std.proofs.Common.{◌≡◌, ℕ, zero, suc, ◌+◌, ◌≤◌, List, [], ◌∷◌, ◌++◌, length, drop, sym, ap, subst, refl, ◌∙◌, arith}
-use Rattle.nf_thin_laws.proofs.Common.{Some, slice_get, Result, Ok, Err, enumerate_from, append-nil, none-some, same_Some, ℚ, PassedAt, each, at_part, placed}
+use Rattle.std.proofs.Common.{◌≡◌, ℕ, suc, ◌+◌, ◌≤◌, List, [], ◌∷◌, ◌++◌, length, drop, sym, ap, subst, refl, ◌∙◌, arith}
+use Rattle.nf_rational_laws.proofs.Entries.{drop_entry}
+use Rattle.nf_thin_laws.proofs.Common.{Some, slice_get, Result, Ok, Err, enumerate_from, append-nil, ℚ, PassedAt, each, at_part, placed}
 use Rattle.nf_thin_laws.proofs.Common.{same_Err}
 use Rattle.std.proofs.Math.ListN.{drop_of_length-le}
 use Rattle.std.proofs.lemmas.List.FromFn.{length-enumerate_from}
@@ -10,18 +11,13 @@ use Rattle.nf_frac_def.proofs.AtPart.{part_ok}
 use Rattle.nf_frac_def.proofs.Each.{with_front, each_ok, each_err}
 use Rattle.nf_thin_laws.proofs.Ending.{enumerated}
 
-pub drop_at : {A : Type 0} (xs : List A) (i : ℕ) (x : A) → slice_get xs i ≡ Some x → drop i xs ≡ x ∷ drop (suc i) xs
-drop_at [] i x e = absurd (none-some x e)
-drop_at (y ∷ xs) zero x e = ap (λ (z : _). z ∷ xs) (same_Some y x e)
-drop_at (y ∷ xs) (suc i) x e = drop_at xs i x e
-
 module _ {A B : Type 0} (f : ℕ × A → Result B (Passed ℚ)) (xs : List A) where
   abbrev pub SoFar : List B → ℕ → Type 0
   SoFar front i = each f (enumerate_from 0 xs) ≡ with_front front (each f (drop i (enumerate_from 0 xs)))
 
   module _ (front : List B) (i : ℕ) (x : A) (at : slice_get xs i ≡ Some x) (so : SoFar front i) where
     left_is : drop i (enumerate_from 0 xs) ≡ (i, x) ∷ drop (suc i) (enumerate_from 0 xs)
-    left_is = drop_at (enumerate_from 0 xs) i (i, x) (subst (λ (j : ℕ). slice_get (enumerate_from 0 xs) i ≡ Some (j, x)) (omega arith) (enumerated 0 xs i x at))
+    left_is = drop_entry (enumerate_from 0 xs) i (i, x) (subst (λ (j : ℕ). slice_get (enumerate_from 0 xs) i ≡ Some (j, x)) (omega arith) (enumerated 0 xs i x at))
 
     so_now : each f (enumerate_from 0 xs) ≡ with_front front (each f ((i, x) ∷ drop (suc i) (enumerate_from 0 xs)))
     so_now = so ∙ ap (λ (rest : List (ℕ × A)). with_front front (each f rest)) left_is

@@ -1,5 +1,6 @@
 -- A search has one answer.
-use Rattle.std.proofs.Common.{◌≡◌, ℕ, ◌<◌, ◌≤◌, List, refl, sym, ap, ◌∙◌, subst, arith, inl, inr, Result, Ok, Err, is_ok, IsOk}
+use Rattle.std.proofs.Common.{◌≡◌, ℕ, ◌<◌, ◌≤◌, List, refl, sym, ap, ◌∙◌, subst, arith, inl, inr, Result, Err}
+use Rattle.nf_rational_laws.proofs.Results.{IsOk-not_Err}
 use Rattle.nf_thin_laws.proofs.Common.{cases_lt, ℚ, Passing, PassedAt, Network, hops, unbounded, Sets, Pattern, Solves, pattern_lists, HasPlace, SearchAnswer}
 use Rattle.nf_thin_laws.proofs.Common.{Found, OverBudget, PassesAt, NoPattern, IsFirstAccepted, IsOverBudget, IsInVain, IsFirstPassing, NonePasses, Answers}
 use Rattle.nf_thin_laws.proofs.Common.{IsSearch}
@@ -11,10 +12,6 @@ same_place p q not_before not_after = elim (cases_lt p q) [ inl h ↦ absurd (no
   where
     at : q ≤ p → p ≡ q
     at h = elim (cases_lt q p) [ inl k ↦ absurd (not_after k) | inr k ↦ omega arith ]
-
-pub ok_or_err : {A E : Type 0} (r : Result A E) (e : E) → IsOk r → r ≡ Err e → ⊥
-ok_or_err (Ok x) e is_ok is_err = cc
-ok_or_err (Err f) e is_ok is_err = cc
 
 module _ (passes : Passing) (net : Network) (sets : Sets) (rate : ℚ) (listing : List Pattern) where
   module _ (budget : ℕ) where
@@ -39,14 +36,14 @@ module _ (passes : Passing) (net : Network) (sets : Sets) (rate : ℚ) (listing 
 
   same_passing : (p q : ℕ) (a b : PassedAt ℚ) → IsFirstPassing passes net sets rate listing p a → IsFirstPassing passes net sets rate listing q b → PassesAt p a ≡ PassesAt q b
   same_passing p q a b h i =
-      let place : p ≡ q = same_place p q (λ lt. ok_or_err (pattern_lists passes net sets rate h.pattern) a (i.first p h.pattern lt h.has_place) h.passed)
-      (λ lt. ok_or_err (pattern_lists passes net sets rate i.pattern) b (h.first q i.pattern lt i.has_place) i.passed) in
+      let place : p ≡ q = same_place p q (λ lt. IsOk-not_Err (pattern_lists passes net sets rate h.pattern) a (i.first p h.pattern lt h.has_place) h.passed)
+      (λ lt. IsOk-not_Err (pattern_lists passes net sets rate i.pattern) b (h.first q i.pattern lt i.has_place) i.passed) in
       let pattern : h.pattern ≡ i.pattern = same_pattern listing q h.pattern i.pattern (subst (λ (r : ℕ). HasPlace listing r h.pattern) place h.has_place) i.has_place in
       let there : ◌≡◌ {A = Result _ _} (Err a) (Err b) = sym h.passed ∙ (ap (pattern_lists passes net sets rate) pattern ∙ i.passed) in
       cc
 
   none_not_passing : (q : ℕ) (b : PassedAt ℚ) → NonePasses passes net sets rate listing → IsFirstPassing passes net sets rate listing q b → ⊥
-  none_not_passing q b h i = ok_or_err (pattern_lists passes net sets rate i.pattern) b (h q i.pattern i.has_place) i.passed
+  none_not_passing q b h i = IsOk-not_Err (pattern_lists passes net sets rate i.pattern) b (h q i.pattern i.has_place) i.passed
 
   same_answer : (budget : ℕ) (a b : SearchAnswer) → Answers passes net sets rate listing budget a → Answers passes net sets rate listing budget b → a ≡ b
   same_answer budget (Found p a f k) (Found q b g l) h i = same_found budget p q a b f g k l h i

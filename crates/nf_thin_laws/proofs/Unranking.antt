@@ -140,15 +140,15 @@ of_rank-rank (Some Tight) = refl
 of_rank-rank (Some Full) = refl
 of_rank-rank (Some Zero) = refl
 
-rank_same : (s t : Option State) → rank s ≡ rank t → s ≡ t
-rank_same s t h = sym (of_rank-rank s) ∙ ap of_rank h ∙ of_rank-rank t
+pub same_rank : (s t : Option State) → rank s ≡ rank t → s ≡ t
+same_rank s t h = sym (of_rank-rank s) ∙ ap of_rank h ∙ of_rank-rank t
 
-is_in-is : (states : List (Option State)) (s : Option State) → is_in states s ≡ true → IsIn states s
+pub is_in-is : (states : List (Option State)) (s : Option State) → is_in states s ≡ true → IsIn states s
 is_in-is [] s h = absurd (false≢true h)
 is_in-is (t ∷ states) s h = go (rank s == rank t) refl (λ later. is_in-is states s later)
   where
     go : (same : Bool) → (rank s == rank t) ≡ same → (is_in states s ≡ true → IsIn states s) → IsIn (t ∷ states) s
-    go true e later = inl (rank_same s t (eqb-true (rank s) (rank t) e))
+    go true e later = inl (same_rank s t (eqb-true (rank s) (rank t) e))
     go false e later = inr (later (sym (ap (λ (x : Bool). if x then true else is_in states s) e) ∙ h))
 
 -- The count, if a test holds.

@@ -6,9 +6,9 @@ use Rattle.nf_model.specs.Pattern.{Pattern}
 use Rattle.nf_thin_laws.specs.Forcing.{change}
 use Rattle.nf_thin_laws.specs.Ways.{left_ways, ways_by, ways_below, ways}
 use Rattle.nf_thin_laws.specs.Firm.{is_in, firm_earlier}
+use Rattle.nf_rational_laws.proofs.Entries.{drop_entry}
 use Rattle.nf_thin_narrow.specs.declared.firm.Firm.{Firm}
 use Rattle.nf_thin_narrow.specs.Firming.{states_of_firm, firm_choices}
-use Rattle.nf_thin_narrow.proofs.Stepping.{drop_entry}
 
 -- The counts of assignments from link i on.
 abbrev pub ways_from : Pattern → List Firm → ℕ → ℕ → ℕ

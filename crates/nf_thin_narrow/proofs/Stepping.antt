@@ -1,7 +1,6 @@
 -- One more link: the counts of assignments from it on, by those of the links after it.
 use Rattle.std.proofs.Common.{◌≡◌, ℕ, zero, suc, ◌+◌, ◌<◌, ◌≤◌, min, Bool, true, List, [], ◌∷◌, ◌++◌, length, take, drop, sym, ap, ◌∙◌, arith}
 use Rattle.std.specs.Prelude.{Option, Some, slice_get, if◌then◌else◌}
-use Rattle.std.proofs.lemmas.Option.{none-some, same_Some}
 use Rattle.std.proofs.Math.ListN.{drop_of_length-le}
 use Rattle.std.proofs.Math.Seq.{take-length}
 use Rattle.std.proofs.lemmas.List.{append-nil}
@@ -11,13 +10,9 @@ use Rattle.nf_thin_laws.specs.Forcing.{change}
 use Rattle.nf_thin_laws.specs.Ways.{left_ways, ways_by, ways_below, ways, ways_earlier, states_of, choices_of}
 use Rattle.nf_thin_laws.proofs.ForcedOrder.{changes_first}
 use Rattle.nf_thin_laws.proofs.Counting.{left_ways-of}
+use Rattle.nf_rational_laws.proofs.Entries.{drop_entry}
 use Rattle.nf_thin_narrow.specs.Rows.{most, number_in, Tells}
 use Rattle.nf_thin_narrow.proofs.Capping.{by_capped, below_capped, caps_of, counted_capped}
-
-pub drop_entry : {A : Type 0} (xs : List A) (i : ℕ) (x : A) → slice_get xs i ≡ Some x → drop i xs ≡ x ∷ drop (suc i) xs
-drop_entry [] i x h = absurd (none-some x h)
-drop_entry (y ∷ xs) zero x h = ap (λ (z : _). z ∷ xs) (same_Some y x h)
-drop_entry (y ∷ xs) (suc i) x h = drop_entry xs i x h
 
 pub changes_behind : (base p : Pattern) (i : ℕ) → changes (drop i base) (drop i p) ≤ changes base p
 changes_behind base p zero = omega arith

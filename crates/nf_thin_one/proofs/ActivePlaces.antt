@@ -9,6 +9,7 @@ use Rattle.nf_model.specs.Network.{Network}
 use Rattle.nf_model.specs.ThinFlow.{Sets}
 use Rattle.nf_linear_def.specs.Table.{Row}
 use Rattle.nf_thin_def.specs.Equations.{Unknown, SlopeOf, FlowOn, active_from, unknowns, row}
+use Rattle.nf_thin_equation_laws.proofs.Packed.{not_set}
 
 -- how many links before number e are active
 abbrev pub active_before : List Bool → ℕ → ℕ
@@ -20,9 +21,6 @@ active_before (false ∷ rest) (suc e) = active_before rest e
 pub none_before : (flags : List Bool) → active_before flags 0 ≡ 0
 none_before [] = refl
 none_before (b ∷ flags) = refl
-
-not_set : Some false ≡ Some true → ⊥
-not_set e = cc
 
 one_before : (flags : List Bool) (e : ℕ) → Has flags e → active_before flags (suc e) ≡ suc (active_before flags e)
 one_before [] e h = absurd (none-some true h)

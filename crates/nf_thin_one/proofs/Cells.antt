@@ -6,6 +6,7 @@ use Rattle.std.proofs.lemmas.Bool.Decides.{eqb_tells}
 use Rattle.nf_rational.specs.Rational.{ℚ}
 use Rattle.nf_rational.specs.Operations.{0ℚ}
 use Rattle.nf_model.specs.Entries.{number_at}
+use Rattle.nf_model.proofs.Entries.{number_at-zeros}
 use Rattle.nf_linear_def.specs.Table.{Row, row_at}
 use Rattle.nf_thin_one.specs.Filling.{ChangesRow, IsFilledTo}
 
@@ -40,17 +41,12 @@ got-copies (suc n) (suc i) x d h = got-copies n i x d (omega arith)
 abbrev pub blank_row : ℕ → Row
 blank_row size = replicate (size + 1) 0ℚ
 
-pub no_number : (n j : ℕ) → number_at (replicate n 0ℚ) j ≡ 0ℚ
-no_number zero j = refl
-no_number (suc n) zero = refl
-no_number (suc n) (suc j) = no_number n j
-
 -- one number in a row of zeros
 pub alone : (n w v : ℕ) (x : ℚ) → w < n → number_at (set (replicate n 0ℚ) w x) v ≡ (if eqb v w then x else 0ℚ)
 alone n w v x h = ⊎_elim
     (λ (s : (eqb v w ≡ true) × (v ≡ w)). ap (number_at (set (replicate n 0ℚ) w x)) s.1
     ∙ (got-same (replicate n 0ℚ) w x 0ℚ (let l : length (replicate n 0ℚ) ≡ n = length-copies n 0ℚ in omega arith) ∙ ap (λ (b : Bool). if b then x else 0ℚ) (sym s.0)))
-    (λ (s : (eqb v w ≡ false) × (v ≢ w)). got-other (replicate n 0ℚ) w v x 0ℚ s.1 ∙ (no_number n v ∙ ap (λ (b : Bool). if b then x else 0ℚ) (sym s.0)))
+    (λ (s : (eqb v w ≡ false) × (v ≢ w)). got-other (replicate n 0ℚ) w v x 0ℚ s.1 ∙ (number_at-zeros n v ∙ ap (λ (b : Bool). if b then x else 0ℚ) (sym s.0)))
     (eqb_tells v w)
 
 pub same_rows : (rows others : List Row) → length rows ≡ length others → ((k : ℕ) → k < length rows → row_at rows k ≡ row_at others k) → rows ≡ others

@@ -2,7 +2,7 @@
 use Rattle.std.proofs.Common.{◌≡◌, ◌≢◌, ℕ, zero, suc, ◌+◌, ◌<◌, ◌≤◌, List, [], ◌∷◌, ◌++◌, length, map, filter, ⊎_elim, ◌⊎◌, inl, inr, Bool, true, false, not, cond, eqb, Some, None, refl, sym, ap, ◌∙◌, arith}
 use Rattle.std.specs.Prelude.{slice_get, unwrap_or, if◌then◌else◌}
 use Rattle.std.specs.List.{range_with_len, flat_map, enumerate_from}
-use Rattle.std.proofs.lemmas.Bool.{cases_order}
+use Rattle.std.proofs.lemmas.Bool.{cases_order, ne_eqb}
 use Rattle.std.proofs.lemmas.Bool.Decides.{eqb_tells}
 use Rattle.std.proofs.lemmas.List.{length-map, length-append}
 use Rattle.std.proofs.lemmas.Option.{none-some, same_Some}
@@ -14,7 +14,6 @@ use Rattle.nf_model.specs.ThinFlow.{Sets}
 use Rattle.nf_model.specs.Pattern.{Pattern}
 use Rattle.nf_linear_def.specs.Table.{Row, row_at}
 use Rattle.nf_thin_def.specs.Equations.{unknowns, row, source_factor, node_row, link_factor, link_rows, equations}
-use Rattle.nf_linear_laws.proofs.Pivots.{different}
 use Rattle.nf_thin_equation_laws.proofs.Rows.{filtered-length, set_rows-length}
 use Rattle.nf_thin_equation_laws.proofs.Equations.{flow_count, unknowns-length}
 use Rattle.nf_thin_one.proofs.Cells.{got-past}
@@ -92,7 +91,7 @@ module _ (f : ℕ → Row) (w : ℕ) (others : List Row) where
 
       here : k ≡ v → row_at (map f (kept k (suc n)) ++ others) i ≡ f v
       here e = ap (row_at (map f (kept k (suc n)) ++ others)) (first_place k v i apart e p)
-          ∙ (first_kept (eqb k w) k (kept (k + 1) n) (different k w (λ s. apart (sym e ∙ s))) ∙ ap f e)
+          ∙ (first_kept (eqb k w) k (kept (k + 1) n) (ne_eqb k w (λ s. apart (sym e ∙ s))) ∙ ap f e)
 
       shifted : (i : ℕ) → eqb k w ≡ false → k ≢ w → k < v → IsPlace k v i → ((j : ℕ) → IsPlace (k + 1) v j
           → row_at (map f (kept (k + 1) n) ++ others) j ≡ f v) → row_at (map f (kept k (suc n)) ++ others) i ≡ f v

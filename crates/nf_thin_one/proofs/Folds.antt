@@ -8,16 +8,16 @@ use Rattle.nf_frac_def.specs.declared.Passed.{Passed}
 use Rattle.nf_frac_def.specs.declared.PassedAt.{PassedAt}
 use Rattle.nf_frac_def.specs.Checked.{fold_checked, placed, at_part}
 use Rattle.nf_frac_def.proofs.Each.{fold_ok, fold_err}
-use Rattle.nf_thin_laws.proofs.Numbered.{drop_at}
+use Rattle.nf_rational_laws.proofs.Entries.{drop_entry}
 
 module _ {A B E : Type 0} (f : B → A → Result B E) (xs : List A) (start : B) where
   pub goes_on : (so_far next : B) (i : ℕ) (x : A) → slice_get xs i ≡ Some x → fold_checked f start xs ≡ fold_checked f so_far (drop i xs) → f so_far x ≡ Ok next
       → fold_checked f start xs ≡ fold_checked f next (drop (suc i) xs)
-  goes_on so_far next i x at h e = h ∙ (ap (fold_checked f so_far) (drop_at xs i x at) ∙ fold_ok f so_far x (drop (suc i) xs) next e)
+  goes_on so_far next i x at h e = h ∙ (ap (fold_checked f so_far) (drop_entry xs i x at) ∙ fold_ok f so_far x (drop (suc i) xs) next e)
 
   pub stops : (so_far : B) (i : ℕ) (x : A) (p : E) → slice_get xs i ≡ Some x → fold_checked f start xs ≡ fold_checked f so_far (drop i xs)
       → f so_far x ≡ Err p → fold_checked f start xs ≡ Err p
-  stops so_far i x p at h e = h ∙ (ap (fold_checked f so_far) (drop_at xs i x at) ∙ fold_err f so_far x (drop (suc i) xs) p e)
+  stops so_far i x p at h e = h ∙ (ap (fold_checked f so_far) (drop_entry xs i x at) ∙ fold_err f so_far x (drop (suc i) xs) p e)
 
   pub ends : (so_far : B) (i : ℕ) → length xs ≤ i → fold_checked f start xs ≡ fold_checked f so_far (drop i xs) → fold_checked f start xs ≡ Ok so_far
   ends so_far i end h = h ∙ ap (fold_checked f so_far) (drop_of_length-le xs end)

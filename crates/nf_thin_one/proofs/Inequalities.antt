@@ -1,11 +1,11 @@
 -- The tests of a link's verdict are its inequality.
-use Rattle.std.proofs.Common.{◌≡◌, ◌≢◌, ℕ, ◌+◌, ◌<◌, List, ⊎_elim, Bool, true, false, not, ◌&&◌, eqb, sym, subst, refl, ◌∙◌, arith}
+use Rattle.std.proofs.Common.{◌≡◌, ◌≢◌, ℕ, ◌+◌, ◌<◌, List, ⊎_elim, Bool, true, false, ◌&&◌, eqb, sym, subst, refl, arith}
 use Rattle.std.proofs.lemmas.Bool.Decides.{eqb_tells}
 use Rattle.std.specs.Prelude.{if◌then◌else◌, Option, Some, None, Ok, Err}
 use Rattle.nf_rational.specs.Rational.{ℚ}
 use Rattle.nf_rational.specs.Operations.{0ℚ, ◌*ℚ◌}
-use Rattle.nf_rational.specs.Order.{◌≤ℚ◌, ◌<ℚ◌, le_ℚ}
-use Rattle.nf_rational_laws.proofs.Tests.{le_of_test, lt_of_test, test_of_le}
+use Rattle.nf_rational.specs.Order.{◌≤ℚ◌}
+use Rattle.nf_rational_laws.proofs.Tests.{le_of_test, test_of_le}
 use Rattle.nf_frac_def.specs.declared.Passed.{Passed}
 use Rattle.nf_frac_def.specs.declared.Op.TheVariants.{Product}
 use Rattle.nf_frac_def.specs.Passing.{Passing}
@@ -65,20 +65,6 @@ pub all_true : (a b : Bool) → a ≡ true → b ≡ true → (a && b) ≡ true
 all_true true true e f = refl
 all_true true false e f = f
 all_true false b e f = e
-
-pub negative_of : (x : ℚ) (b : Bool) → b ≡ not (le_ℚ 0ℚ x) → b ≡ true → x <ℚ 0ℚ
-negative_of x b e t = lt_of_test 0ℚ x (turned (le_ℚ 0ℚ x) (sym e ∙ t))
-  where
-    turned : (c : Bool) → not c ≡ true → c ≡ false
-    turned true e = sym e
-    turned false e = refl
-
-pub not_negative_of : (x : ℚ) (b : Bool) → b ≡ not (le_ℚ 0ℚ x) → b ≡ false → 0ℚ ≤ℚ x
-not_negative_of x b e t = le_of_test 0ℚ x (turned (le_ℚ 0ℚ x) (sym e ∙ t))
-  where
-    turned : (c : Bool) → not c ≡ false → c ≡ true
-    turned true e = refl
-    turned false e = sym e
 
 -- none of the numbers so far is negative, nor is the next
 pub one_more_not_negative : (xs : List ℚ) (v : ℕ) → ((w : ℕ) → w < v → 0ℚ ≤ℚ number_at xs w) → 0ℚ ≤ℚ number_at xs v → (w : ℕ) → w < v + 1 → 0ℚ ≤ℚ number_at xs w

@@ -1,16 +1,13 @@
 -- The row of a link, number by number.
-use Rattle.std.proofs.Common.{◌≡◌, ℕ, ◌<◌, [], ◌∷◌, List, length, set, Bool, true, false, not, eqb, refl, sym, ap, subst, ◌∙◌}
+use Rattle.std.proofs.Common.{◌≡◌, ℕ, ◌<◌, [], ◌∷◌, List, length, set, Bool, true, not, eqb, sym, ap, subst, ◌∙◌}
 use Rattle.std.specs.Prelude.{if◌then◌else◌, unwrap_or}
+use Rattle.std.proofs.lemmas.Bool.{not-true}
 use Rattle.nf_rational.specs.Rational.{ℚ}
 use Rattle.nf_rational.specs.Operations.{0ℚ, 1ℚ, neg_ℚ}
 use Rattle.nf_model.specs.Network.{Link}
 use Rattle.nf_linear_def.specs.Table.{Row, row_at}
 use Rattle.nf_thin_one.specs.Filling.{ChangesRow, with_entries, tight_entries, full_entries}
 use Rattle.nf_thin_one.proofs.Cells.{none_changes, number_changes, two_changes}
-
-apart : (b : Bool) → not b ≡ true → b ≡ false
-apart true e = absurd (cc)
-apart false e = refl
 
 module _ (old once twice : List Row) (i : ℕ) (link : Link) where
   pub full_changes : (j : ℕ) (x y : ℚ) → i < length old → once ≡ set old i (set (row_at old i) j x) → twice ≡ set once i (set (row_at once i) i y)
@@ -24,7 +21,7 @@ module _ (old once twice : List Row) (i : ℕ) (link : Link) where
       → ChangesRow old twice i (with_entries (row_at old i) (tight_entries link))
   tight_changes j k x y h other head tail one negative a b =
       subst (λ (b : Bool). ChangesRow old twice i (with_entries (row_at old i) (if b then [] else (link.head, 1ℚ) ∷ (link.tail, neg_ℚ 1ℚ) ∷ [])))
-      (sym (apart (eqb link.head link.tail) other))
+      (sym (not-true (eqb link.head link.tail) other))
       (two_changes old once twice i link.head link.tail 1ℚ (neg_ℚ 1ℚ) h
       (a ∙ (λ n. set old i (set (row_at old i) (head n) (one n)))) (b ∙ (λ n. set once i (set (row_at once i) (tail n) (negative n)))))
 

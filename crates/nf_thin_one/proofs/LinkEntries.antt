@@ -2,29 +2,27 @@
 use Rattle.std.proofs.Common.{◌≡◌, ◌≢◌, ℕ, ◌+◌, ◌<◌, ◌≤◌, [], ◌∷◌, length, set, replicate, ⊎_elim, ◌⊎◌, inl, inr, Bool, true, false, eqb, Some, None, sym, ap, ◌∙◌, add-one, arith}
 use Rattle.std.specs.Prelude.{if◌then◌else◌, Option, unwrap_or}
 use Rattle.std.proofs.Math.ListN.{length-set}
-use Rattle.std.proofs.lemmas.Bool.{cases_order}
+use Rattle.std.proofs.lemmas.Bool.{cases_order, ne_eqb}
 use Rattle.std.proofs.lemmas.Bool.Decides.{eqb_tells}
 use Rattle.nf_rational.specs.Rational.{ℚ}
 use Rattle.nf_rational.specs.Operations.{0ℚ, 1ℚ, neg_ℚ, ◌-ℚ◌}
 use Rattle.nf_rational_laws.proofs.Polynomial.{reading_of}
 use Rattle.nf_rational_laws.proofs.Linear.{linear_eq}
+use Rattle.nf_rational_laws.proofs.Facts.{zero_less_zero}
 use Rattle.nf_model.specs.declared.State.{State}
 use Rattle.nf_model.specs.declared.State.TheVariants.{Tight, Full, Zero}
 use Rattle.nf_model.specs.Entries.{number_at, Has}
 use Rattle.nf_model.specs.Network.{Link, Network}
 use Rattle.nf_model.specs.ThinFlow.{Sets}
+use Rattle.nf_model.proofs.Entries.{number_at-zeros}
 use Rattle.nf_linear_def.specs.Table.{Row}
 use Rattle.nf_thin_def.specs.Equations.{unknowns, row, one_if, fills_factor, link_factor}
 use Rattle.nf_thin_equation_laws.proofs.Equations.{unknowns-length}
 use Rattle.nf_thin_one.specs.Filling.{with_entries, tight_entries, link_entries}
-use Rattle.nf_linear_laws.proofs.Pivots.{different}
-use Rattle.nf_thin_one.proofs.Cells.{alone, got-same, got-other, length-copies, no_number}
+use Rattle.nf_thin_one.proofs.Cells.{alone, got-same, got-other, length-copies}
 use Rattle.nf_thin_one.proofs.ActivePlaces.{active_before, before_grows, before_within, row_of_entries}
 
 -- ---- over plain numbers
-neither : 0ℚ ≡ 0ℚ -ℚ 0ℚ
-neither = linear_eq [] [] (search reading_of depth 12) tt tt
-
 both : 0ℚ ≡ 1ℚ -ℚ 1ℚ
 both = linear_eq [] [] (search reading_of depth 12) tt tt
 
@@ -39,7 +37,7 @@ minus_zero = linear_eq [] [] (search reading_of depth 12) tt tt
 
 pub no_step : (b : Bool) → 0ℚ ≡ one_if b -ℚ one_if b
 no_step true = both
-no_step false = neither
+no_step false = zero_less_zero
 
 -- the coefficient of a link's flow at a node that it leaves, or enters, or neither
 pub unit_leaves : (leaves enters : Bool) → leaves ≡ true → enters ≡ false → 1ℚ ≡ one_if leaves -ℚ one_if enters
@@ -53,7 +51,7 @@ unit_enters true enters n e = absurd (cc)
 unit_enters false false n e = absurd (cc)
 
 pub unit_neither : (leaves enters : Bool) → leaves ≡ false → enters ≡ false → 0ℚ ≡ one_if leaves -ℚ one_if enters
-unit_neither false false n e = neither
+unit_neither false false n e = zero_less_zero
 unit_neither true enters n e = absurd (cc)
 unit_neither false true n e = absurd (cc)
 
@@ -73,7 +71,7 @@ module _ (net : Network) (sets : Sets) (e own : ℕ) (link : Link) (active : Has
   wide = length-copies (length (unknowns net sets) + 1) 0ℚ
 
   zero_at : (j : ℕ) → number_at zeros j ≡ 0ℚ
-  zero_at j = no_number (length (unknowns net sets) + 1) j
+  zero_at j = number_at-zeros (length (unknowns net sets) + 1) j
 
   own_inside : own < length (unknowns net sets)
   own_inside = let a = before_within sets.active 0 e active in let b = unknowns-length net sets in omega arith
@@ -138,7 +136,7 @@ module _ (net : Network) (sets : Sets) (e own : ℕ) (link : Link) (active : Has
   stepped_at v apart = ⊎_elim
       (λ (s : (eqb v link.tail ≡ true) × (v ≡ link.tail)). ap (number_at (set (set zeros link.head 1ℚ) link.tail (neg_ℚ 1ℚ))) s.1
       ∙ (got-same (set zeros link.head 1ℚ) link.tail (neg_ℚ 1ℚ) 0ℚ (let w = headed-length 1ℚ in let u = unknowns-length net sets in omega arith)
-      ∙ (second_alone ∙ (ap (λ (b : Bool). one_if b -ℚ 1ℚ) (sym (different v link.head (λ t. apart (sym t ∙ s.1))))
+      ∙ (second_alone ∙ (ap (λ (b : Bool). one_if b -ℚ 1ℚ) (sym (ne_eqb v link.head (λ t. apart (sym t ∙ s.1))))
       ∙ ap (λ (b : Bool). one_if (eqb v link.head) -ℚ one_if b) (sym s.0)))))
       (λ (s : (eqb v link.tail ≡ false) × (v ≢ link.tail)). got-other (set zeros link.head 1ℚ) link.tail v (neg_ℚ 1ℚ) 0ℚ s.1
       ∙ (headed-at 1ℚ v ∙ (less_nothing (one_if (eqb v link.head)) ∙ ap (λ (b : Bool). one_if (eqb v link.head) -ℚ one_if b) (sym s.0))))

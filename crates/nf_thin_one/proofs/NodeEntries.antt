@@ -9,10 +9,11 @@ use Rattle.nf_rational.specs.Operations.{0ℚ}
 use Rattle.nf_model.specs.Entries.{number_at, Has}
 use Rattle.nf_model.specs.Network.{Network}
 use Rattle.nf_model.specs.ThinFlow.{Sets}
+use Rattle.nf_model.proofs.Entries.{number_at-zeros}
 use Rattle.nf_linear_def.specs.Table.{Row}
 use Rattle.nf_thin_def.specs.Equations.{unknowns, leaves_less_enters, node_factor, node_row}
 use Rattle.nf_thin_equation_laws.proofs.Equations.{unknowns-length}
-use Rattle.nf_thin_one.proofs.Cells.{got-same, got-other, length-copies, blank_row, no_number}
+use Rattle.nf_thin_one.proofs.Cells.{got-same, got-other, length-copies, blank_row}
 use Rattle.nf_thin_one.proofs.ActivePlaces.{active_before, one_more_before, none_more_before, before_grows, before_within, row_of_entries}
 
 module _ (net : Network) (sets : Sets) (v : ℕ) where
@@ -30,9 +31,9 @@ module _ (net : Network) (sets : Sets) (v : ℕ) where
   pub factors_first : HasFactorsTo (blank_row (length (unknowns net sets))) 0
   factors_first = record {
     count = length-copies (length (unknowns net sets) + 1) 0ℚ;
-    slopes = λ w b. no_number (length (unknowns net sets) + 1) w;
+    slopes = λ w b. number_at-zeros (length (unknowns net sets) + 1) w;
     flows = λ d b a. absurd (omega arith);
-    rest = λ j b. no_number (length (unknowns net sets) + 1) j;
+    rest = λ j b. number_at-zeros (length (unknowns net sets) + 1) j;
   }
 
   pub factors_more : (numbers : Row) (e : ℕ) (x : ℚ) → Has sets.active e → x ≡ leaves_less_enters (slice_get net.links e) v → HasFactorsTo numbers e

@@ -6,11 +6,12 @@ use Rattle.nf_rational.specs.Operations.{0ℚ, 1ℚ}
 use Rattle.nf_model.specs.Network.{Network}
 use Rattle.nf_model.specs.ThinFlow.{Sets}
 use Rattle.nf_model.specs.Pattern.{Pattern}
+use Rattle.nf_model.proofs.Entries.{number_at-zeros}
 use Rattle.nf_linear_def.specs.Table.{Row, row_at}
 use Rattle.nf_thin_def.specs.Equations.{unknowns, row, source_factor, equations}
 use Rattle.nf_thin_equation_laws.proofs.Equations.{unknowns-length}
 use Rattle.nf_thin_one.specs.Filling.{ChangesRow, IsFilledTo}
-use Rattle.nf_thin_one.proofs.Cells.{alone, got-same, got-other, got-copies, length-copies, no_number, none_changes, number_changes, filled_first, filled_more}
+use Rattle.nf_thin_one.proofs.Cells.{alone, got-same, got-other, got-copies, length-copies, none_changes, number_changes, filled_first, filled_more}
 use Rattle.nf_thin_one.proofs.ActivePlaces.{active_before, before_within, row_of_entries}
 use Rattle.nf_thin_one.proofs.EquationRows.{source_at, as_many_rows}
 
@@ -28,7 +29,7 @@ module _ (net : Network) (sets : Sets) (source : net.source < net.nodes) where
       ∙ alone (size + 1) net.source v 1ℚ (let u = unknowns-length net sets in omega arith))
       (λ e a. (let u = unknowns-length net sets in let w = before_within sets.active 0 e a in
       got-other (set zeros net.source 1ℚ) size (net.nodes + active_before sets.active e) 1ℚ 0ℚ (λ s. absurd (omega arith)))
-      ∙ (got-other zeros net.source (net.nodes + active_before sets.active e) 1ℚ 0ℚ (λ s. absurd (omega arith)) ∙ no_number (size + 1) (net.nodes + active_before sets.active e)))
+      ∙ (got-other zeros net.source (net.nodes + active_before sets.active e) 1ℚ 0ℚ (λ s. absurd (omega arith)) ∙ number_at-zeros (size + 1) (net.nodes + active_before sets.active e)))
       (got-same (set zeros net.source 1ℚ) size 1ℚ 0ℚ (let a : length (set zeros net.source 1ℚ) ≡ size + 1 = length-set zeros net.source 1ℚ ∙ length-copies (size + 1) 0ℚ in omega arith))
 
   module _ (sink : net.sink < net.nodes) (count : length sets.active ≡ length net.links) (table : List Row) (new : table ≡ replicate size zeros) where

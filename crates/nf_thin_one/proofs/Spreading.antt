@@ -4,7 +4,7 @@ use Rattle.std.specs.Prelude.{Some, slice_get}
 use Rattle.nf_rational.specs.Rational.{ℚ}
 use Rattle.nf_rational.specs.Operations.{0ℚ}
 use Rattle.nf_thin_def.specs.Equations.{active_from, onto_links, flows_in}
-use Rattle.nf_thin_laws.proofs.Numbered.{drop_at}
+use Rattle.nf_rational_laws.proofs.Entries.{drop_entry}
 
 -- the flows of the links before link e, with the values from this place on left for the others
 pub record AreFlows (active : List Bool) (values : List ℚ) (nodes : ℕ) (flows : List ℚ) (e next : ℕ) : Type 0 where
@@ -22,7 +22,7 @@ module _ (active : List Bool) (values : List ℚ) (nodes : ℕ) where
     has_value at =
         let l = so.left in
         let c : length (active_from 0 (drop e active)) ≡ suc (length (active_from 1 (drop (suc e) active))) =
-        ap (λ (a : List Bool). length (active_from 0 a)) (drop_at active e true at) in
+        ap (λ (a : List Bool). length (active_from 0 a)) (drop_entry active e true at) in
         omega arith
 
     pub active_more : (value : ℚ) (i j : ℕ) → i ≡ e + 1 → j ≡ next + 1 → slice_get active e ≡ Some true → slice_get values next ≡ Some value
@@ -35,8 +35,8 @@ module _ (active : List Bool) (values : List ℚ) (nodes : ℕ) where
       where
         parts : onto_links (drop e active) (drop next values) ≡ value ∷ onto_links (drop i active) (drop j values)
         parts =
-            ap (λ (a : List Bool). onto_links a (drop next values)) (drop_at active e true at)
-            ∙ ap (onto_links (true ∷ drop (suc e) active)) (drop_at values next value at_value)
+            ap (λ (a : List Bool). onto_links a (drop next values)) (drop_entry active e true at)
+            ∙ ap (onto_links (true ∷ drop (suc e) active)) (drop_entry values next value at_value)
             ∙ ap (λ (k : ℕ). value ∷ onto_links (drop k active) (drop (suc next) values)) (let s : suc e ≡ i = omega arith in s)
             ∙ ap (λ (k : ℕ). value ∷ onto_links (drop i active) (drop k values)) (let s : suc next ≡ j = omega arith in s)
 
@@ -44,7 +44,7 @@ module _ (active : List Bool) (values : List ℚ) (nodes : ℕ) where
         count =
             let l = so.left in
             let c : length (active_from 0 (drop e active)) ≡ suc (length (active_from 1 (drop (suc e) active))) =
-            ap (λ (a : List Bool). length (active_from 0 a)) (drop_at active e true at) in
+            ap (λ (a : List Bool). length (active_from 0 a)) (drop_entry active e true at) in
             let d : length (active_from 1 (drop (suc e) active)) ≡ length (active_from 0 (drop i active)) =
             same_count (drop (suc e) active) 1 0 ∙ ap (λ (k : ℕ). length (active_from 0 (drop k active))) (let s : suc e ≡ i = omega arith in s) in
             omega arith
@@ -58,14 +58,14 @@ module _ (active : List Bool) (values : List ℚ) (nodes : ℕ) where
       where
         parts : onto_links (drop e active) (drop next values) ≡ 0ℚ ∷ onto_links (drop i active) (drop next values)
         parts =
-            ap (λ (a : List Bool). onto_links a (drop next values)) (drop_at active e false at)
+            ap (λ (a : List Bool). onto_links a (drop next values)) (drop_entry active e false at)
             ∙ ap (λ (k : ℕ). 0ℚ ∷ onto_links (drop k active) (drop next values)) (let s : suc e ≡ i = omega arith in s)
 
         count : next + length (active_from 0 (drop i active)) ≡ length values
         count =
             let l = so.left in
             let c : length (active_from 0 (drop e active)) ≡ length (active_from 1 (drop (suc e) active)) =
-            ap (λ (a : List Bool). length (active_from 0 a)) (drop_at active e false at) in
+            ap (λ (a : List Bool). length (active_from 0 a)) (drop_entry active e false at) in
             let d : length (active_from 1 (drop (suc e) active)) ≡ length (active_from 0 (drop i active)) =
             same_count (drop (suc e) active) 1 0 ∙ ap (λ (k : ℕ). length (active_from 0 (drop k active))) (let s : suc e ≡ i = omega arith in s) in
             omega arith

@@ -1,5 +1,5 @@
 -- Families of freely combinable states, no pattern in two of them, and how many of their assignments come before a pattern.
-use Rattle.std.proofs.Common.{◌≡◌, ◌≢◌, ◌⊎◌, inl, inr, ℕ, zero, suc, ◌+◌, ◌<◌, ◌≤◌, min, Bool, true, false, List, [], ◌∷◌, length, refl, sym, ap, subst, ◌∙◌, arith}
+use Rattle.std.proofs.Common.{◌≡◌, ◌≢◌, ◌⊎◌, inl, inr, ℕ, zero, suc, ◌+◌, ◌<◌, ◌≤◌, min, true, List, [], ◌∷◌, length, refl, sym, ap, subst, ◌∙◌, arith}
 use Rattle.std.specs.Prelude.{Option, Some, None, slice_get, slice_set, map}
 use Rattle.std.proofs.Math.ListN.{length-set}
 use Rattle.std.proofs.lemmas.Option.{none-some, same_Some, slice_get_within}
@@ -10,7 +10,7 @@ use Rattle.nf_model.specs.ThinFlow.{Sets}
 use Rattle.nf_model.specs.Pattern.{Pattern, HasState, IsPattern, IsListedIn, rank}
 use Rattle.nf_thin_laws.specs.Ways.{Choices, IsIn, AreIn}
 use Rattle.nf_thin_laws.specs.Firm.{if_allowed, choices_by, firm_before, AllAscend}
-use Rattle.nf_thin_laws.proofs.FirmListed.{firm_listed, all_ascend}
+use Rattle.nf_thin_laws.proofs.FirmListed.{firm_listed, all_ascend, in_allowed}
 use Rattle.nf_pattern.specs.Front.{IsListingOf}
 use Rattle.nf_pattern.proofs.Setting.{set_same, set_other, tell}
 use Rattle.nf_thin_narrow.specs.declared.firm.Firm.{Firm}
@@ -23,11 +23,6 @@ use Rattle.nf_graph.proofs.NetworkHops.{hops_length}
 use Rattle.nf_thin_rank.proofs.Members.{members, members_sum, members_few, in_family, told_in, members_before}
 
 -- ---- the states of one link
-in_allowed : (flag : Bool) (state : State) (states : List (Option State)) (s : Option State) → IsIn (if_allowed flag state states) s → ((flag ≡ true) × (s ≡ Some state)) ⊎ IsIn states s
-in_allowed true state states s (inl same) = inl (refl, same)
-in_allowed true state states s (inr later) = inr later
-in_allowed false state states s h = inr h
-
 module _ (b : State) (f : Firm) (s : Option State) where
   one_of : IsIn (states_of_firm (Some b) f) s → ((f.tight ≡ true) × (s ≡ Some Tight)) ⊎ (((f.full ≡ true) × (s ≡ Some Full)) ⊎ ((f.zero ≡ true) × (s ≡ Some Zero)))
   one_of h = first (in_allowed f.tight Tight (if_allowed f.full Full (if_allowed f.zero Zero [])) s h)

@@ -1,5 +1,5 @@
 -- How many of a listing's first patterns a family has: at least as many as its assignments before the next pattern.
-use Rattle.std.proofs.Common.{◌≡◌, ◌≢◌, ◌⊎◌, inl, inr, ℕ, zero, suc, ◌+◌, ◌<◌, ◌≤◌, Bool, true, false, eqb-true, List, [], ◌∷◌, length, refl, sym, ap, ◌∙◌, arith}
+use Rattle.std.proofs.Common.{◌≡◌, ◌≢◌, ◌⊎◌, inl, inr, ℕ, zero, suc, ◌+◌, ◌<◌, ◌≤◌, Bool, true, false, List, [], ◌∷◌, length, refl, ap, ◌∙◌, arith}
 use Rattle.std.specs.Prelude.{Option, Some, None, slice_get, ◌==◌, if◌then◌else◌}
 use Rattle.std.proofs.lemmas.Bool.{false≢true}
 use Rattle.std.proofs.lemmas.Bool.Decides.{eqb_tells}
@@ -11,9 +11,8 @@ use Rattle.nf_model.specs.Pattern.{Pattern, rank, IsListed}
 use Rattle.nf_thin_def.specs.Listing.{IsListing}
 use Rattle.nf_thin_laws.specs.Ways.{Choices, IsIn, AreIn, ways_before}
 use Rattle.nf_thin_laws.specs.Firm.{AllAscend, is_in, firm_before}
-use Rattle.nf_thin_laws.proofs.Unranking.{number_before}
+use Rattle.nf_thin_laws.proofs.Unranking.{number_before, is_in-is}
 use Rattle.nf_thin_laws.proofs.PlacesBelow.{there, fewer_lower, before_lower}
-use Rattle.nf_pattern.proofs.Successors.{same_rank}
 
 -- ---- sums over the first patterns of a list
 abbrev pub members : (Pattern → ℕ) → List Pattern → ℕ → ℕ
@@ -65,14 +64,6 @@ is_in_of (t ∷ states) s (inr later) = go (rank s == rank t) (is_in_of states s
     go true e = refl
     go false e = e
 
-of_is_in : (states : List (Option State)) (s : Option State) → is_in states s ≡ true → IsIn states s
-of_is_in [] s h = absurd (false≢true h)
-of_is_in (t ∷ states) s h = go (rank s == rank t) refl (λ later. of_is_in states s later)
-  where
-    go : (same : Bool) → (rank s == rank t) ≡ same → (is_in states s ≡ true → IsIn states s) → IsIn (t ∷ states) s
-    go true e later = inl (same_rank s t (eqb-true (rank s) (rank t) e))
-    go false e later = inr (later (sym (ap (λ (x : Bool). if x then true else is_in states s) e) ∙ h))
-
 pub are_in_of : (choices : Choices) (p : Pattern) → AreIn choices p → are_in choices p ≡ true
 are_in_of [] [] h = refl
 are_in_of [] (s ∷ p) h = absurd h
@@ -87,7 +78,7 @@ pub of_are_in : (choices : Choices) (p : Pattern) → are_in choices p ≡ true 
 of_are_in [] [] h = tt
 of_are_in [] (s ∷ p) h = absurd (false≢true h)
 of_are_in (c ∷ choices) [] h = absurd (false≢true h)
-of_are_in (c ∷ choices) (s ∷ p) h = let w = both (is_in c s) (are_in choices p) h in (of_is_in c s w.0, of_are_in choices p w.1)
+of_are_in (c ∷ choices) (s ∷ p) h = let w = both (is_in c s) (are_in choices p) h in (is_in-is c s w.0, of_are_in choices p w.1)
 
 -- The assignment is in the family, or counts 0.
 pub told_in : (choices : Choices) (r : Pattern) → (AreIn choices r × (in_family choices r ≡ 1)) ⊎ (in_family choices r ≡ 0)

@@ -1,5 +1,6 @@
 -- An equilibrium, up to the departure that it reached, is a feasible flow over time, and delivers the supply by the sink's label.
 use Rattle.std.proofs.Common.{◌≡◌, ◌≢◌, ℕ, ◌<◌, [], ◌∷◌, ⊎_elim, true, false, eqb, Option, Some, unwrap_or, option_map, sym, ap, subst, ◌∙◌}
+use Rattle.nf_rational_laws.proofs.Facts.{same_of_plus_zero}
 use Rattle.nf_unique_laws.proofs.Common.{eqb_tells, slice_get_within, ℚ, 0ℚ, ◌+ℚ◌, ◌-ℚ◌, ◌*ℚ◌, ◌≤ℚ◌, ◌<ℚ◌, reading_of, ≤ℚ_of_lt, ≤ℚ_of_same, lt_or_le_ℚ, le, eq}
 use Rattle.nf_unique_laws.proofs.Common.{linear_le, linear_eq, ≤ℚ_refl, ≤ℚ_trans, Within, Link, Network, IsNetwork, IsLink, sum_in, sum_out, supply, IsOutflow}
 use Rattle.nf_unique_laws.proofs.Common.{Flow, points_at, points_of, label, inflow, outflow, Balances, Equilibrium, IsOutflow-unique, tail_or, link_within}
@@ -21,9 +22,6 @@ balanced i o e = linear_le (i ∷ o ∷ []) (eq e ∷ []) (search reading_of) tt
 
 stays : (i o u : ℚ) → i +ℚ 0ℚ ≡ o +ℚ u → 0ℚ ≤ℚ u → o ≤ℚ i
 stays i o u e h = linear_le (i ∷ o ∷ u ∷ []) (eq e ∷ le h ∷ []) (search reading_of) tt
-
-none_stays : (i o : ℚ) → i +ℚ 0ℚ ≡ o +ℚ 0ℚ → i ≡ o
-none_stays i o e = linear_eq (i ∷ o ∷ []) (eq e ∷ []) (search reading_of) tt tt
 
 what_stays : (i o u : ℚ) → i +ℚ 0ℚ ≡ o +ℚ u → i -ℚ o ≡ u
 what_stays i o u e = linear_eq (i ∷ o ∷ u ∷ []) (eq e ∷ []) (search reading_of) tt tt
@@ -139,7 +137,7 @@ module _ (net : Network) (flow : Flow) (good : IsNetwork net) (is : Equilibrium 
       → sum_in net.links (λ e. left_of net flow e time) v ≡ sum_out net.links (λ e. entered_of net flow e time) v
   none_waits v time h a b =
       let w : Within 0ℚ (end v) (clipped (end v) time) = clipped-within (end v) time (end-nn v h) in
-      ins-at v time ∙ none_stays _ _ (sums v (clipped (end v) time) 0ℚ 0ℚ w (is.nash.conserves.inner v (clipped (end v) time) h a b w)) ∙ sym (outs-at v time)
+      ins-at v time ∙ same_of_plus_zero _ _ (sums v (clipped (end v) time) 0ℚ 0ℚ w (is.nash.conserves.inner v (clipped (end v) time) h a b w)) ∙ sym (outs-at v time)
 
   supply-nn : (departure : ℚ) → 0ℚ ≤ℚ departure → 0ℚ ≤ℚ supply net departure
   supply-nn departure h = subst (λ (z : ℚ). z ≤ℚ supply net departure) (supplied-begins net.pieces good.pieces) (supplied-rises net.pieces good.pieces 0ℚ departure (≤ℚ_refl 0ℚ) h)

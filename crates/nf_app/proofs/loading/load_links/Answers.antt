@@ -6,7 +6,7 @@ use Rattle.nf_rational.specs.Rational.{ℚ}
 use Rattle.nf_frac_def.specs.declared.Part.TheVariants.{Load}
 use Rattle.nf_frac_def.specs.Passing.{passes_Q}
 use Rattle.nf_frac_def.specs.Checked.{at_part, each, Gives}
-use Rattle.nf_frac_def.proofs.Each.{with_front}
+use Rattle.nf_frac_def.proofs.Each.{with_front, no_front}
 use Rattle.nf_model.specs.Network.{Link, Piece}
 use Rattle.nf_load_def.specs.Loading as lists
 use Rattle.nf_load_def.specs.Loads.{load_link_list, load_list}
@@ -15,7 +15,7 @@ use Rattle.nf_report_def.specs.LoadsFile.{pieces_at}
 use Rattle.nf_load.specs.Loadings.{loaded_of}
 use Rattle.nf_load.specs.declared.loading.Loaded as code
 use Rattle.nf_app.specs.Lists.{loading_list}
-use Rattle.nf_app.proofs.LinkLoads.{no_front, zip_next, zip_ends}
+use Rattle.nf_app.proofs.LinkLoads.{zip_next, zip_ends}
 use Rattle.nf_app.proofs.loading.load_links.Goals as goal
 
 pub loop-link-init : goal.loop-link-init

@@ -1,8 +1,9 @@
 use Rattle.std.proofs.Common.{◌∙◌, sym, ap, length}
 use Rattle.std.proofs.lemmas.Result.{err_from_is_err_and}
+use Rattle.std.proofs.lemmas.Bool.{MatchBool-at_true, MatchBool-at_false}
 use Rattle.nf_frac_def.specs.declared.Halt.{Halt}
 use Rattle.nf_complete_read.specs.Files.{given_of}
-use Rattle.nf_app.proofs.SettleCalls.{start_stopped, rate_there, Called, sets_good, sets_source, sets_rate, tested, thin_there, thin_again, not_thin, test_stopped, settling_stopped, settled_there, none_of, some_of}
+use Rattle.nf_app.proofs.SettleCalls.{start_stopped, rate_there, Called, sets_good, sets_source, sets_rate, tested, thin_there, thin_again, not_thin, test_stopped, settling_stopped, settled_there}
 use Rattle.nf_app.proofs.settling.settle_at_start.Goals as goal
 
 pub returns-in_err-sets : goal.returns-in_err-sets
@@ -62,7 +63,7 @@ returns-then-not-branch c =
       slopes_same = sym c.deref-2.ensures.value;
     } in
     not_thin c.args.net.now.net (given_of c.args.flows.now) sets.0 sets.1 c.in_ok-sets.sets c.rate_at-rate.result c.deref.result.now c.deref-2.result.now
-    called sets.2.0 c.in_ok-is_thin.ensures.list (none_of c.in_ok-is_thin.field-0 _ _ c.in_ok-is_thin.ensures.thin c.if-not-branch.true)
+    called sets.2.0 c.in_ok-is_thin.ensures.list (MatchBool-at_false _ _ c.if-not-branch.true c.in_ok-is_thin.ensures.thin)
 
 pub settle-requires-clause-sets : goal.settle-requires-clause-sets
 settle-requires-clause-sets c =
@@ -104,7 +105,7 @@ settle-requires-clause-thin c =
       slopes_same = sym c.deref-4.ensures.value;
     } in
     let thin = thin_there c.args.net.now.net (given_of c.args.flows.now) sets.0 sets.1 c.in_ok-sets.sets c.rate_at-rate.result c.deref.result.now
-    c.deref-2.result.now called (some_of c.in_ok-is_thin.field-0 _ _ c.in_ok-is_thin.ensures.thin c.if-not-branch.false) in
+    c.deref-2.result.now called (MatchBool-at_true _ _ c.if-not-branch.false c.in_ok-is_thin.ensures.thin) in
     thin_again c.args.net.now.net (given_of c.args.flows.now) sets.0 sets.1 c.in_ok-sets.sets c.rate_at-rate.result c.deref-3.result.now c.deref-4.result.now again thin
 
 pub returns-in_err-settled : goal.returns-in_err-settled
@@ -125,7 +126,7 @@ returns-in_err-settled c =
     let test = tested c.args.net.now.net (given_of c.args.flows.now) sets.0 sets.1 c.in_ok-sets.sets c.rate_at-rate.result c.deref.result.now
     c.deref-2.result.now called c.in_ok-is_thin.ensures.list in
     let thin = thin_there c.args.net.now.net (given_of c.args.flows.now) sets.0 sets.1 c.in_ok-sets.sets c.rate_at-rate.result c.deref.result.now
-    c.deref-2.result.now called (some_of c.in_ok-is_thin.field-0 _ _ c.in_ok-is_thin.ensures.thin c.if-not-branch.false) in
+    c.deref-2.result.now called (MatchBool-at_true _ _ c.if-not-branch.false c.in_ok-is_thin.ensures.thin) in
     let p = err_from_is_err_and c.from_residual-in_err-settled.result c.from_residual-in_err-settled.ensures.1 in
     rw (p.1, p.2) (settling_stopped c.args.net.now.net (given_of c.args.flows.now) sets.0 sets.1 c.in_ok-sets.sets c.rate_at-rate.result
     c.deref-3.result.now c.deref-4.result.now again sets.2.0 test thin c.in_err-settled.field-0.0 c.in_err-settled.ensures.list)
@@ -148,7 +149,7 @@ returns c =
     let test = tested c.args.net.now.net (given_of c.args.flows.now) sets.0 sets.1 c.in_ok-sets.sets c.rate_at-rate.result c.deref.result.now
     c.deref-2.result.now called c.in_ok-is_thin.ensures.list in
     let thin = thin_there c.args.net.now.net (given_of c.args.flows.now) sets.0 sets.1 c.in_ok-sets.sets c.rate_at-rate.result c.deref.result.now
-    c.deref-2.result.now called (some_of c.in_ok-is_thin.field-0 _ _ c.in_ok-is_thin.ensures.thin c.if-not-branch.false) in
+    c.deref-2.result.now called (MatchBool-at_true _ _ c.if-not-branch.false c.in_ok-is_thin.ensures.thin) in
     let e = c.in_ok-settled.ensures in
     settled_there c.args.net.now.net (given_of c.args.flows.now) sets.0 sets.1 c.in_ok-sets.sets c.rate_at-rate.result c.deref-3.result.now
     c.deref-4.result.now again sets.2.0 test thin c.in_ok-settled.settled e.list e.pattern e.thin e.listed e.solution

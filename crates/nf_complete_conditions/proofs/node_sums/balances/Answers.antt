@@ -6,8 +6,9 @@ use Rattle.std.specs.Prelude.{Ok}
 use Rattle.nf_frac_def.specs.Passing.{passes_Q}
 use Rattle.nf_frac_def.specs.Checked.{each}
 use Rattle.nf_complete_def.specs.ThinList.{sums_at}
+use Rattle.nf_rational_laws.proofs.Entries.{slice_get-below}
 use Rattle.nf_complete_conditions.specs.ThinParts.{IsBalanced}
-use Rattle.nf_complete_conditions.proofs.Telling.{node_at, each_node, node_each, tells_like, told_more, told_stops, told_all}
+use Rattle.nf_complete_conditions.proofs.Telling.{each_node, node_each, tells_like, told_more, told_stops, told_all}
 use Rattle.nf_complete_conditions.proofs.node_sums.balances.Goals as goal
 
 pub returns-in_err-here : goal.returns-in_err-here
@@ -15,13 +16,13 @@ returns-in_err-here c =
     let p = err_from_is_err_and c.from_residual.result c.from_residual.ensures.1 in
     rw (p.1, p.2) (told_stops (sums_at passes_Q c.args.net.now.net c.args.sets.now c.args.rate c.args.flows.now)
     (IsBalanced c.args.net.now.net c.args.sets.now c.args.rate c.args.flows.now)
-    (range_with_len 0 c.args.net.now.net.nodes) c.loop-v.v c.loop-v.v (node_at c.args.net.now.net.nodes c.loop-v.v (omega arith)) c.loop-v.all
+    (range_with_len 0 c.args.net.now.net.nodes) c.loop-v.v c.loop-v.v (slice_get-below c.args.net.now.net.nodes c.loop-v.v (omega arith)) c.loop-v.all
     c.loop-v.invariant c.in_err-here.field-0.0 c.in_err-here.ensures)
 
 pub loop-v-preserved : goal.loop-v-preserved
 loop-v-preserved c = rw (c.both-all.ensures) (told_more (sums_at passes_Q c.args.net.now.net c.args.sets.now c.args.rate c.args.flows.now)
     (IsBalanced c.args.net.now.net c.args.sets.now c.args.rate c.args.flows.now) (range_with_len 0 c.args.net.now.net.nodes)
-    c.loop-v.v c.loop-v.v (node_at c.args.net.now.net.nodes c.loop-v.v (omega arith)) c.loop-v.all c.loop-v.invariant c.in_ok-here.here c.in_ok-here.ensures)
+    c.loop-v.v c.loop-v.v (slice_get-below c.args.net.now.net.nodes c.loop-v.v (omega arith)) c.loop-v.all c.loop-v.invariant c.in_ok-here.here c.in_ok-here.ensures)
 
 pub returns : goal.returns
 returns c = tells_like (each (sums_at passes_Q c.args.net.now.net c.args.sets.now c.args.rate c.args.flows.now) (range_with_len 0 c.args.net.now.net.nodes)) (Ok c.loop-v.all)

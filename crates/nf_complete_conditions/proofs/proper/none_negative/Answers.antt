@@ -5,9 +5,9 @@ use Rattle.nf_rational.specs.Operations.{0ℚ}
 use Rattle.nf_rational.specs.Order.{◌≤ℚ◌}
 use Rattle.nf_rational_laws.proofs.Order.{not_both_ℚ}
 use Rattle.nf_rational_laws.proofs.Chains.{≤ℚ_refl}
+use Rattle.nf_rational_laws.proofs.Tests.{negative_of, not_negative_of}
 use Rattle.nf_model.specs.Entries.{number_at}
 use Rattle.nf_thin_laws.proofs.Flags.{number_at-beyond}
-use Rattle.nf_complete_conditions.proofs.Deciding.{negative_of, not_negative_of}
 use Rattle.nf_complete_conditions.proofs.proper.none_negative.Goals as goal
 
 pub returns-then-is_negative_at : goal.returns-then-is_negative_at

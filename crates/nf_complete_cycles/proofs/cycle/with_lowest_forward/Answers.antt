@@ -1,6 +1,7 @@
 use Rattle.std.proofs.Common.{ℕ, List, [], Bool, None, sym, ap, subst, ◌∙◌}
+use Rattle.std.proofs.lemmas.Bool.{not-true}
 use Rattle.nf_complete_cycles.specs.Cycles.{IsFirstCycle, round_onto, lowest_from}
-use Rattle.nf_complete_cycles.proofs.Cycling.{lowest-none, kept-forward, turned-forward, if-ok, not_true, not_false}
+use Rattle.nf_complete_cycles.proofs.Cycling.{lowest-none, kept-forward, turned-forward, if-ok, not_false}
 use Rattle.nf_complete_cycles.proofs.cycle.with_lowest_forward.Goals as goal
 use Rattle.nf_complete_cycles.proofs.cycle.with_lowest_forward.Goals.{in-Some+else-not-least, in_default}
 
@@ -9,7 +10,7 @@ returns-then-not-least c = λ hops chosen closed. if-ok c.rounded.result _ (λ a
     (λ all h. subst (λ (s : List (ℕ × Bool)). IsFirstCycle hops chosen s) (sym (h ∙ ap (round_onto []) c.deref-then-not-least.ensures.value))
     (turned-forward hops chosen c.args.steps.items c.in-Some.least closed
     (ap (lowest_from None) (sym c.deref.ensures.value) ∙ sym c.lowest.ensures ∙ c.in-Some.is)
-    (ap (λ (p : ℕ × Bool). p.1) (sym c.least.view_is) ∙ not_true c.least.inside.forward c.if-not-least.true)))
+    (ap (λ (p : ℕ × Bool). p.1) (sym c.least.view_is) ∙ not-true c.least.inside.forward c.if-not-least.true)))
     c.rounded.ensures
 
 pub returns : goal.returns

@@ -7,13 +7,13 @@ use Rattle.std.proofs.lemmas.Result.{err_from_is_err_and}
 use Rattle.nf_rational.specs.Rational.{ℚ}
 use Rattle.nf_rational.specs.Order.{◌<ℚ◌, lt_ℚ}
 use Rattle.nf_rational_laws.proofs.Order.{<ℚ_irrefl}
+use Rattle.nf_rational_laws.proofs.Entries.{drop_entry}
 use Rattle.nf_frac_def.specs.Passing.{passes_Q}
 use Rattle.nf_frac_def.specs.Checked.{Checked, at_part, each}
 use Rattle.nf_curve_def.specs.Composed.{corner_at}
 use Rattle.nf_curve.specs.Steps.{behind}
 use Rattle.nf_curve.proofs.Between.{corner_goes, corner_stops}
 use Rattle.nf_curve.proofs.Exits.{stops_on}
-use Rattle.nf_curve.proofs.Shortening.{drop-at}
 use Rattle.nf_curve.proofs.composed.add_corners_up.Goals as goal
 
 pub loop-corner-init : goal.loop-corner-init
@@ -30,7 +30,7 @@ returns-in_err-add_corner_below c =
     let p = err_from_is_err_and c.from_residual.result c.from_residual.ensures.1 in
     let corners : List (ℚ × ℚ) → Checked (List (ℚ × ℚ)) = λ l. each (corner_at passes_Q c.args.p.now c.args.q.now) (filter (λ (x : ℚ × ℚ). lt_ℚ x.0 c.args.q.now.1) l) in
     let g = slice_get_read c.args.between.now _ c.loop-corner.corner-index c.corner-item.result refl c.loop-corner-test.true c.corner-item.is in
-    let d = drop-at c.args.between.now c.loop-corner.corner-index c.corner-item.result g in
+    let d = drop_entry c.args.between.now c.loop-corner.corner-index c.corner-item.result g in
     rw (p.1, p.2) (stops_on c.in_err-add_corner_below.field-0.0 (at_part c.args.part
     (behind c.loop-corner.composed.items (corners (c.corner-item.result ∷ []))))
     (at_part c.args.part (behind c.args.composed.now.items (corners c.args.between.now)))
@@ -42,7 +42,7 @@ pub loop-corner-preserved : goal.loop-corner-preserved
 loop-corner-preserved c =
     let corners : List (ℚ × ℚ) → Checked (List (ℚ × ℚ)) = λ l. each (corner_at passes_Q c.args.p.now c.args.q.now) (filter (λ (x : ℚ × ℚ). lt_ℚ x.0 c.args.q.now.1) l) in
     let g = slice_get_read c.args.between.now _ c.loop-corner.corner-index c.corner-item.result refl c.loop-corner-test.true c.corner-item.is in
-    let d = drop-at c.args.between.now c.loop-corner.corner-index c.corner-item.result g in
+    let d = drop_entry c.args.between.now c.loop-corner.corner-index c.corner-item.result g in
     ap (λ (k : ℕ). behind c.add_corner_below.new.composed.items (corners (drop k c.args.between.now))) (add-one c.loop-corner.corner-index)
     ∙ corner_goes (corner_at passes_Q c.args.p.now c.args.q.now) c.args.part c.loop-corner.composed.items _
     (λ (x : ℚ × ℚ). lt_ℚ x.0 c.args.q.now.1) c.corner-item.result (drop (suc c.loop-corner.corner-index) c.args.between.now)

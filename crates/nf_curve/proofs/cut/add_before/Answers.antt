@@ -5,7 +5,7 @@ use Rattle.std.proofs.lemmas.List.{at_drop_all}
 use Rattle.std.proofs.lemmas.Result.{err_from_is_err_and}
 use Rattle.nf_rational.specs.Rational.{ℚ}
 use Rattle.nf_curve_def.specs.Values.{points_before}
-use Rattle.nf_curve.proofs.Shortening.{drop-at}
+use Rattle.nf_rational_laws.proofs.Entries.{drop_entry}
 use Rattle.nf_curve.proofs.cut.add_before.Goals as goal
 
 pub returns-then-not-is_below : goal.returns-then-not-is_below
@@ -14,7 +14,7 @@ returns-then-not-is_below c =
     let rest : List (ℚ × ℚ) = drop (suc c.loop-point.point-index) c.args.points.now in
     sym (append-nil c.loop-point.cut.items)
     ∙ ap (λ (b : Bool). c.loop-point.cut.items ++ (if b then c.point-item.result ∷ points_before c.args.last rest else [])) (sym (sym c.is_below.ensures ∙ c.if-not-is_below.true))
-    ∙ ap (λ (l : List (ℚ × ℚ)). c.loop-point.cut.items ++ points_before c.args.last l) (sym (drop-at c.args.points.now c.loop-point.point-index c.point-item.result g))
+    ∙ ap (λ (l : List (ℚ × ℚ)). c.loop-point.cut.items ++ points_before c.args.last l) (sym (drop_entry c.args.points.now c.loop-point.point-index c.point-item.result g))
     ∙ c.loop-point.invariant
 
 pub returns-in_err-push : goal.returns-in_err-push
@@ -29,7 +29,7 @@ loop-point-preserved c =
     ∙ ap (λ (l : List (ℚ × ℚ)). l ++ points_before c.args.last rest) c.in_ok-push.ensures.items
     ∙ append_assoc c.loop-point.cut.items (c.point-item.result ∷ []) (points_before c.args.last rest)
     ∙ ap (λ (b : Bool). c.loop-point.cut.items ++ (if b then c.point-item.result ∷ points_before c.args.last rest else [])) (sym (sym c.is_below.ensures ∙ c.if-not-is_below.false))
-    ∙ ap (λ (l : List (ℚ × ℚ)). c.loop-point.cut.items ++ points_before c.args.last l) (sym (drop-at c.args.points.now c.loop-point.point-index c.point-item.result g))
+    ∙ ap (λ (l : List (ℚ × ℚ)). c.loop-point.cut.items ++ points_before c.args.last l) (sym (drop_entry c.args.points.now c.loop-point.point-index c.point-item.result g))
     ∙ c.loop-point.invariant
 
 pub returns : goal.returns

@@ -2,9 +2,9 @@ use Rattle.std.proofs.Common.{◌≡◌, ℕ, ◌+◌, ◌<◌, ◌≤◌, List,
 use Rattle.std.specs.Prelude.{if◌then◌else◌, Some, None, Ok}
 use Rattle.std.proofs.lemmas.Bool.{false≢true}
 use Rattle.std.proofs.lemmas.Result.{err_from_is_err_and, IfOk-from_err}
+use Rattle.std.proofs.lemmas.List.{take_all}
 use Rattle.nf_frac_def.specs.declared.Halt.TheVariants as Halt
 use Rattle.nf_linear.specs.Pivots.{eliminated, HasPivots}
-use Rattle.nf_linear.proofs.Grids.{whole_front}
 use Rattle.nf_linear.proofs.Stages.{first_stage, stage_square, stage_none, stage_stops, stage_more, stage_all, stage_pivots}
 use Rattle.nf_linear.proofs.elimination.clear_columns.Goals as goal
 
@@ -80,7 +80,7 @@ returns-clause-list g c =
     let end : length c.loop-column.rows ≤ c.loop-column.column = omega arith in
     let pivots = c.loop-column.invariant.4 in
     let count = c.requires.count in
-    let whole = whole_front c.loop-column.pivots c.loop-column.column (omega arith) in
+    let whole = take_all c.loop-column.column c.loop-column.pivots (omega arith) in
     ap (λ (all : List ℕ). Ok (Some (eliminated c.loop-column.rows all))) (sym whole)
     ∙ sym (stage_all g.C.Number.Scalar.passes c.args.rows.now c.loop-column.rows
     (take c.loop-column.column c.loop-column.pivots) c.loop-column.column c.loop-column.invariant.0 end)
@@ -92,6 +92,6 @@ returns-clause-pivots g c =
     let end : length c.loop-column.rows ≤ c.loop-column.column = omega arith in
     let pivots = c.loop-column.invariant.4 in
     let count = c.requires.count in
-    let whole = whole_front c.loop-column.pivots c.loop-column.column (omega arith) in
+    let whole = take_all c.loop-column.column c.loop-column.pivots (omega arith) in
     λ _. subst (HasPivots c.loop-column.rows) whole (stage_pivots g.C.Number.Scalar.passes c.args.rows.now c.loop-column.rows
     (take c.loop-column.column c.loop-column.pivots) c.loop-column.column c.loop-column.invariant.0 end c.loop-column.auto.column-end)

@@ -4,13 +4,13 @@ use Rattle.std.proofs.lemmas.Result.{err_from_is_err_and, IfOk-from_err}
 use Rattle.nf_rational.specs.Rational.{ℚ}
 use Rattle.nf_frac_def.specs.declared.Part.TheVariants as Part
 use Rattle.nf_frac_def.specs.Checked.{at_part}
+use Rattle.nf_frac_def.proofs.AtPart.{part_ok}
 use Rattle.nf_model.specs.Entries.{number_at}
 use Rattle.nf_linear_def.specs.Table.{row_at}
 use Rattle.nf_linear.specs.Marks.{IsZeroUnless, Covers}
 use Rattle.nf_linear.specs.Rows.{meant, some_from}
 use Rattle.nf_linear.proofs.Clearing.{row_got, later_fit, eliminated, within_row}
 use Rattle.nf_linear.proofs.Covering.{covered_after, set_read}
-use Rattle.nf_linear.proofs.Taken.{ok_of_part}
 use Rattle.nf_linear.proofs.elimination.eliminate.Goals as goal
 
 pub clear_rows-requires : goal.clear_rows-requires
@@ -105,7 +105,7 @@ returns-clause-covers g c =
     (covered_after g.C.Number.Scalar.passes c.args.column c.args.pivot (g.C.Number.Scalar.means c.at-own.result)
     (meant g.C.Number.Scalar.means (take c.later-count.result c.later-count.new.entries))
     c.in_ok-cleared.cleared c.args.columns.now c.args.rows.now c.clear_rows.new.rows c.requires.covers
-    (ok_of_part Part.Table _ c.clear_rows.new.rows c.in_ok-cleared.ensures.list) c.in_ok-cleared.ensures.kept)
+    (part_ok Part.Table _ c.clear_rows.new.rows c.in_ok-cleared.ensures.list) c.in_ok-cleared.ensures.kept)
 
 pub returns-in_err-cleared-clause-covers : goal.returns-in_err-cleared-clause-covers
 returns-in_err-cleared-clause-covers g c = IfOk-from_err c.from_residual.result _ c.from_residual.ensures.0

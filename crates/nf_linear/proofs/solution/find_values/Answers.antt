@@ -1,11 +1,10 @@
 use Rattle.std.proofs.Common.{◌≡◌, ℕ, suc, ◌+◌, ◌<◌, ◌≤◌, List, [], ◌∷◌, length, map, take, Ok, get_or, subst, sym, ◌∙◌, ap, refl, length-set, arith}
 use Rattle.std.proofs.lemmas.Result.{err_from_is_err_and}
-use Rattle.std.proofs.lemmas.List.{map-append, take_more_set}
+use Rattle.std.proofs.lemmas.List.{map-append, take_more_set, take_all}
 use Rattle.nf_rational.specs.Rational.{ℚ}
 use Rattle.nf_frac_def.specs.Checked.{seen_passed_at}
 use Rattle.nf_model.specs.Entries.{number_at}
 use Rattle.nf_linear.proofs.Clearing.{row_read}
-use Rattle.nf_linear.proofs.Grids.{whole_front}
 use Rattle.nf_linear.proofs.Values.{ValuesSoFar, values_stop, values_more, values_all}
 use Rattle.nf_linear.proofs.solution.find_values.Goals as goal
 
@@ -56,7 +55,7 @@ bounds-found-column g c = subst (λ (n : ℕ). c.loop-column.column < n) (sym (c
 
 pub returns : goal.returns
 returns g c =
-    let whole = whole_front c.loop-column.found c.loop-column.column (subst (λ (n : ℕ). n ≤ c.loop-column.column)
+    let whole = take_all c.loop-column.column c.loop-column.found (subst (λ (n : ℕ). n ≤ c.loop-column.column)
     (sym (c.loop-column.invariant.1 ∙ c.requires.room)) c.loop-column-test.false) in
     ap (λ found. Ok (map g.C.Number.Scalar.means found)) (sym whole)
     ∙ sym (values_all g.C.Number.Scalar.passes c.args.rows.now c.args.pivots.now

@@ -8,14 +8,14 @@ use Rattle.nf_frac_def.specs.Checked.{each}
 use Rattle.nf_frac_def.proofs.Each.{with_front}
 use Rattle.nf_load_def.specs.Loading.{Waits, exit_of}
 use Rattle.nf_curve.proofs.Exits.{each_goes, each_stops, each_ends}
-use Rattle.nf_curve.proofs.Shortening.{drop-at}
+use Rattle.nf_rational_laws.proofs.Entries.{drop_entry}
 use Rattle.nf_load.proofs.exiting.all_exits.Goals as goal
 
 pub returns-in_err-one : goal.returns-in_err-one
 returns-in_err-one c =
     let p = err_from_is_err_and c.from_residual-in_err-one.result c.from_residual-in_err-one.ensures.1 in
     let g = slice_get_read c.args.waits.now _ c.loop-moment.moment-index c.moment-item.result refl c.loop-moment-test.true c.moment-item.is in
-    let d = drop-at c.args.waits.now c.loop-moment.moment-index c.moment-item.result g in
+    let d = drop_entry c.args.waits.now c.loop-moment.moment-index c.moment-item.result g in
     rw (p.1, p.2) (each_stops Load (exit_of passes_Q c.args.capacity.now c.args.transit) c.loop-moment.all.items _ c.moment-item.result
     (drop (suc c.loop-moment.moment-index) c.args.waits.now)
     (ap (λ (l : List Waits). with_front c.loop-moment.all.items (each (exit_of passes_Q c.args.capacity.now c.args.transit) l)) (sym d) ∙ c.loop-moment.invariant)
@@ -24,7 +24,7 @@ returns-in_err-one c =
 pub loop-moment-preserved : goal.loop-moment-preserved
 loop-moment-preserved c =
     let g = slice_get_read c.args.waits.now _ c.loop-moment.moment-index c.moment-item.result refl c.loop-moment-test.true c.moment-item.is in
-    let d = drop-at c.args.waits.now c.loop-moment.moment-index c.moment-item.result g in
+    let d = drop_entry c.args.waits.now c.loop-moment.moment-index c.moment-item.result g in
     rw (c.in_ok-push.ensures.items, add-one) (each_goes Load (exit_of passes_Q c.args.capacity.now c.args.transit) c.loop-moment.all.items _
     c.moment-item.result (drop (suc c.loop-moment.moment-index) c.args.waits.now)
     (ap (λ (l : List Waits). with_front c.loop-moment.all.items (each (exit_of passes_Q c.args.capacity.now c.args.transit) l)) (sym d) ∙ c.loop-moment.invariant)

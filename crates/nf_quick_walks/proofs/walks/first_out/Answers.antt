@@ -1,4 +1,5 @@
-use Rattle.std.proofs.Common.{◌≡◌, ℕ, ◌<◌, length, Some, sym, ap, subst, ◌∙◌}
+use Rattle.std.proofs.Common.{ℕ, ◌<◌, length, sym, ap, subst, ◌∙◌}
+use Rattle.std.proofs.lemmas.Option.{same_Some}
 use Rattle.nf_rational.specs.Rational.{ℚ}
 use Rattle.nf_quick_walks.specs.Spent.{is_out}
 use Rattle.nf_quick_walks.proofs.WalkByWalk.{found_out, looks_more}
@@ -18,10 +19,7 @@ pub loop-number-preserved : goal.loop-number-preserved
 loop-number-preserved c = looks_more c.args.net.now.net.links c.args.node c.args.flows.now c.loop-number.number c.loop-number.invariant c.link-here.result c.link-here.ensures.link
     (sym (c.is_out.ensures ∙ ap (λ (x : ℚ). is_out c.link-here.result c.args.node x) c.flow_at.ensures) ∙ c.if-is_out.false)
 
-same_number : (a b : ℕ) → Some a ≡ Some b → a ≡ b
-same_number a b e = cc
-
 pub returns-then-is_out-clause-within : goal.returns-then-is_out-clause-within
 returns-then-is_out-clause-within c = λ e same.
-    subst (λ (n : ℕ). n < length c.args.net.now.net.links) (same_number c.loop-number.number e same)
+    subst (λ (n : ℕ). n < length c.args.net.now.net.links) (same_Some c.loop-number.number e same)
     (subst (λ (n : ℕ). c.loop-number.number < n) c.link_count-number-end.ensures c.loop-number-test.true)

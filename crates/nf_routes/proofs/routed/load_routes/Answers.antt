@@ -5,17 +5,17 @@ use Rattle.nf_frac_def.specs.declared.Part.TheVariants.{Load}
 use Rattle.nf_frac_def.specs.declared.PassedAt.{PassedAt}
 use Rattle.nf_frac_def.specs.Passing.{passes_Q}
 use Rattle.nf_frac_def.specs.Checked.{Gives, at_part}
+use Rattle.nf_frac_def.proofs.Binding.{bind_end}
 use Rattle.nf_routes_def.specs.Meanings.{IsRouted, RoutesArrive}
 use Rattle.nf_routes_def.specs.RoutesFile.{routes_of}
 use Rattle.nf_routes_def.specs.RoutesList.{Routed, routes_list}
 use Rattle.nf_routes.specs.Routed.{routed_of}
 use Rattle.nf_routes_links.proofs.Sharing.{gives_ok}
-use Rattle.nf_routes.proofs.Whole.{all_of}
 use Rattle.nf_routes.proofs.routed.load_routes.Goals as goal
 
 pub returns-clause-list : goal.returns-clause-list
 returns-clause-list c = subst (λ (r : Result Routed (PassedAt ℚ)). Gives routed_of (λ (q : ℚ). q) c.load_kept.result r)
-    (ap (at_part Load) (all_of (routes_list passes_Q c.args.net.now.net (routes_of c.args.routes.now) c.args.horizon))) c.load_kept.ensures.list
+    (ap (at_part Load) (bind_end (routes_list passes_Q c.args.net.now.net (routes_of c.args.routes.now) c.args.horizon))) c.load_kept.ensures.list
 
 pub returns-clause-routed : goal.returns-clause-routed
 returns-clause-routed c = gives_ok routed_of c.load_kept.result (routes_list passes_Q c.args.net.now.net (routes_of c.args.routes.now) c.args.horizon)

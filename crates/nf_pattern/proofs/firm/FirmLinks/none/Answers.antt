@@ -1,10 +1,10 @@
 use Rattle.std.proofs.Common.{Bool, List, sym, subst, ◌∙◌, rules}
 use Rattle.nf_model.specs.Entries.{Has}
-use Rattle.nf_pattern.proofs.Calming.{none_has}
+use Rattle.nf_graph.proofs.Flags.{Has-replicate}
 use Rattle.nf_pattern.proofs.firm.FirmLinks.none.Goals as goal
 
 pub returns-clause-count : goal.returns-clause-count
 returns-clause-count c = sym c.in_ok-flags.flags.ok.0 ∙ c.in_ok-flags.ensures.len
 
 pub returns-clause-none : goal.returns-clause-none
-returns-clause-none c e has = none_has _ e (subst (λ (flags : List Bool). Has flags e) (c.in_ok-flags.ensures.items_if_clones_equal (λ y e. search rules)) has)
+returns-clause-none c e has = Has-replicate _ e (subst (λ (flags : List Bool). Has flags e) (c.in_ok-flags.ensures.items_if_clones_equal (λ y e. search rules)) has)
