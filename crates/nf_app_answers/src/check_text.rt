@@ -61,31 +61,6 @@ fn write_no<O: Sink>(
     write_line(out, b"no", &[rule, subject, time, left, right])
 }
 
-// Writes the line of a broken rule: the rule, the node or link, the time and the two values.
-fn write_broken_rule<O: Sink>(
-    out: &mut O,
-    net: &Network,
-    rule: CheckRule,
-    subject: Subject,
-    sides: (Q, Q, Q),
-) -> Result<(), SinkFault>
-    ensures { Wrote (state_of O.Sink out.old) (state_of O.Sink out.new) (line_of_words (codes "no"
-        ∷ check_rule_word rule ∷ subject_word net.now subject ∷ printed sides.0 ∷ printed sides.1
-        ∷ printed sides.2 ∷ [])) result }
-{
-    let time = number_text(sides.0);
-    let left = number_text(sides.1);
-    let right = number_text(sides.2);
-    write_no(
-        out,
-        check_rule_text(rule),
-        subject_text(net, subject),
-        time.text(),
-        left.text(),
-        right.text(),
-    )
-}
-
 /// Writes the line of a verdict. A `no` holds the first broken rule, the node or link that breaks it, the time, and two different values.
 /// Allocates nothing.
 ///
@@ -102,6 +77,18 @@ pub fn write_verdict<O: Sink>(out: &mut O, net: &Network, verdict: &Answer) -> R
             time,
             left,
             right,
-        } => write_broken_rule(out, net, *rule, *subject, (*time, *left, *right)),
+        } => {
+            let time = number_text(*time);
+            let left = number_text(*left);
+            let right = number_text(*right);
+            write_no(
+                out,
+                check_rule_text(*rule),
+                subject_text(net, *subject),
+                time.text(),
+                left.text(),
+                right.text(),
+            )
+        }
     }
 }

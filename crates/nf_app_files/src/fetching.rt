@@ -1,7 +1,7 @@
 // Fetching the files of a request, and parsing the first as a network.
 ghost use Rattle.std.specs.Prelude.{◌≡◌, ◌≤◌, ℕ, List, [], ◌∷◌, length, IfOk};
 ghost use Rattle.std.specs.Result.{result_map_both};
-ghost use Rattle.nf_app_files.specs.Files.{visit, input_limit, input_file};
+ghost use Rattle.nf_app_files.specs.Files.{visit, input_file};
 ghost use Rattle.nf_app_files.specs.Fetching.{AreFetched, AreRead};
 
 use nf_app_answers::Refusal;
@@ -25,28 +25,6 @@ fn fetch_file<S: Shelf>(
 {
     let text = shelf.fetch(alloc, file, limit)?;
     Ok(text)
-}
-
-// Fetches a network file, and another file of at most `limit` bytes.
-fn fetch_files<S: Shelf>(
-    alloc: Global,
-    shelf: &mut S,
-    file: &str,
-    other: &str,
-    limit: u32,
-) -> Result<(Vec<u8>, Vec<u8>), Refusal>
-    ensures same { (name : List ℕ) → S.told shelf.new name ≡ S.told shelf.old name }
-    ensures never_falls { S.faults shelf.old ≤ S.faults shelf.new }
-    ensures fetched { AreFetched (visit S.Shelf shelf.old shelf.new)
-        (input_file file.now ∷ record { name = other.now; limit = limit } ∷ [])
-        (result_map_both (λ texts. texts.0.items ∷ texts.1.items ∷ [])
-        (λ refusal. refusal) result) }
-    ensures first { IfOk result (λ texts. length texts.0.items ≤ input_limit) }
-    ensures second { IfOk result (λ texts. length texts.1.items ≤ limit) }
-{
-    let text = fetch_file(alloc, shelf, file, LONGEST_FILE)?;
-    let more = fetch_file(alloc, shelf, other, limit)?;
-    Ok((text, more))
 }
 
 /// Fetches a file and parses it as a network.
@@ -82,7 +60,8 @@ pub fn fetch_network_with<S: Shelf>(
         (result_map_both (λ read. (read.0, read.1.items ∷ [])) (λ refusal. refusal) result) }
     ensures within { IfOk result (λ read. length read.1.items ≤ limit) }
 {
-    let (text, more) = fetch_files(alloc, shelf, file, other, limit)?;
-    let net = parse(alloc, &text)?;
+    let first = fetch_file(alloc, shelf, file, LONGEST_FILE)?;
+    let more = fetch_file(alloc, shelf, other, limit)?;
+    let net = parse(alloc, &first)?;
     Ok((net, more))
 }

@@ -17,4 +17,4 @@ pub use grid::{Grid, solve_grid};
 pub use small_tables::solve_small;
 pub use solution::{Eliminated, Solved, solve};
 pub use system::System;
-pub use table::Table;
+pub use table::{MOST_UNKNOWNS, Table};

@@ -3,12 +3,16 @@ ghost use Rattle.std.specs.Prelude.{◌≡◌, ℕ, ◌+◌, ◌<◌, ◌≤◌,
 ghost use Rattle.nf_rational.specs.Operations.{0ℚ};
 ghost use Rattle.nf_linear_def.specs.Table.{row_at};
 ghost use Rattle.nf_linear_laws.specs.Solution.{IsSquare};
+ghost use Rattle.nf_linear.specs.Limits.{most_unknowns};
 
 use crate::row::Row;
 use crate::table_cells::TableCells;
 use nf_frac::Scalar;
 use std::alloc::{AllocError, Global};
 use std::marker::Model;
+
+/// The most unknowns of a table: 64 nodes and 200 links.
+pub const MOST_UNKNOWNS: u32 = 264;
 
 /// A linear system: as many rows as unknowns, each with a number for each unknown and its right side.
 #[derive(Drop)]
@@ -29,10 +33,9 @@ impl<S: Scalar> Model for Table<S> {
 }
 
 impl<S: Scalar> Table<S> {
-    /// Makes the table of `size` unknowns, all numbers 0. `size` must be 1 to 264: 64 nodes and 200 links. Fails only if an
-    /// allocation fails.
+    /// Makes the table of `size` unknowns, all numbers 0. `size` must be 1 to 264. Fails only if an allocation fails.
     pub fn new(alloc: Global, size: u32) -> Result<Table<S>, AllocError>
-        requires { (0 < size) × (size ≤ 264) }
+        requires { (0 < size) × (size ≤ most_unknowns) }
         ensures { IfOk result (λ table. table ≡ replicate size (replicate (size + 1) 0ℚ)) }
     {
         let count = size as usize;

@@ -34,7 +34,7 @@ pub struct Draft {
     pub ended: bool,
 }
 
-// Returns how many names a name adds: none if it is known, and otherwise one.
+// Returns how many names a name adds: none if it is known, else one.
 fn count_new(known: bool) -> usize
     ensures { result ≡ one_unless known }
 {
@@ -109,7 +109,7 @@ fn is_too_early(pieces: &[Piece], start: Q) -> bool
 }
 
 impl Draft {
-    // Returns the parser state before the first line, for a file of this version.
+    // Returns the parser state after the first line, which gives this version.
     pub(crate) fn new(alloc: Global, version: u32) -> Draft
         ensures { seen_draft result ≡ empty_draft version }
     {

@@ -116,9 +116,9 @@ impl<'a> Order<'a> {
     ghost use Rattle.nf_pattern.specs.Successor.{free, raised_at, RaisesAt, later, next_assignment, IsSameBefore, IsQuiet};
     ghost use Rattle.nf_pattern.specs.Ordered.{IsOrdered, MayRaise};
 
-    // Gives `link` its next state to which it may be raised, such that exactly `changes` links from `link` on can differ from the base. Sets the
-    // links after it to the earliest such states, and returns the unchanged suffix. Returns `None`, and changes nothing, if there is no such
-    // state. `more` of the links after `link` may differ from the base.
+    // Gives `link` its next state to which it may be raised, such that exactly `changes` links from `link` on can differ from the base.
+    // Sets the links after it to the earliest such states, and returns the unchanged suffix. Returns `None`, and changes nothing, if there
+    // is no such state. `more` of the links after `link` may differ from the base.
     fn raise_at(
         &self,
         states: &mut [Option<State>],

@@ -204,9 +204,9 @@ impl Question {
         Some(trail.depth() + 1)
     }
 
-    // Sets `states` to a later assignment, such that all listed patterns between the two agree with the first one at the first `same` links.
-    // Returns how many first links keep their states. Returns `None`, and changes nothing, if all later listed patterns agree with this
-    // assignment there. Updates the unchanged suffix `quiet`.
+    // Sets `states` to a later assignment, such that all listed patterns between the two agree with the first one at the first `same`
+    // links. Returns how many first links keep their states. Returns `None`, and changes nothing, if all later listed patterns agree with
+    // this assignment there. Updates the unchanged suffix `quiet`.
     fn advance(&self, states: &mut [Option<State>], same: usize, quiet: &mut Quiet) -> Option<usize>
         requires assigned { IsAssignment self.now.base self.now.unbounded states.old }
         requires same { same ≤ length self.now.base }

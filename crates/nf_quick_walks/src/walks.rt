@@ -1,6 +1,6 @@
 // The decomposition of a static flow into walks. Each walk starts at the source and follows, from each node, the first link with flow left.
 // Its rate is the least flow on its links.
-ghost use Rattle.std.specs.Prelude.{◌≡◌, ℕ, ◌<◌, ◌==◌, length, set, slice_get, Some, None, unwrap_or, IfOk, OnOk};
+ghost use Rattle.std.specs.Prelude.{◌≡◌, ℕ, ◌<◌, length, set, slice_get, Some, None, unwrap_or, IfOk, OnOk};
 ghost use Rattle.std.specs.List.{AllByRecursion};
 ghost use Rattle.nf_frac_def.specs.declared.Part.TheVariants.{Quick};
 ghost use Rattle.nf_frac_def.specs.Passing.{passes_Q};
@@ -155,12 +155,6 @@ fn walk_off(flows: &mut Vec<Q>, links: Vec<LinkId>) -> Result<Rated, PassedAt<Q>
     Ok(Rated { rate, links })
 }
 
-fn is_none(way: &[LinkId]) -> bool
-    ensures { result ≡ (length way.now == 0) }
-{
-    way.is_empty()
-}
-
 /// Removes walks from these flows until none is left, and returns them. Each walk removes the whole flow of at least one link, so there are
 /// at most as many walks as links. A node never examines a spent link again. Refuses with Passed, of the part Quick, at the first
 /// subtraction that exceeds its bound. Fails with `Memory` if an allocation fails.
@@ -174,7 +168,7 @@ pub fn walks_off(alloc: Global, net: &Network, flows: Vec<Q>) -> Result<Vec<Rate
     let mut walks = Vec::new(alloc);
     for _ in 0..net.link_count() {
         let links = way_out(alloc, net, &flows, &mut spent)?;
-        if is_none(&links) {
+        if links.is_empty() {
             return Ok(walks);
         }
         let rated = walk_off(&mut flows, links)?;

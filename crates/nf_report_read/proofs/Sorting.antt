@@ -5,6 +5,7 @@ use Rattle.std.proofs.lemmas.Option.{slice_get_within}
 use Rattle.std.proofs.lemmas.List.{map-append}
 use Rattle.nf_rational_laws.proofs.Entries.{entry}
 use Rattle.nf_curve.specs.Flows.{trace_of}
+use Rattle.nf_curve.specs.declared.flow.Flow.{Flow}
 use Rattle.nf_curve.specs.declared.flow.Trace.{Trace}
 use Rattle.nf_net_def.specs.Named.{Named}
 use Rattle.nf_net_def.specs.WellNamed.{IsNamed}
@@ -15,7 +16,6 @@ use Rattle.nf_report_def.specs.ReportFile.{curves_of}
 use Rattle.nf_report_lines.specs.Keys.{key_at, key_of_number, seen_key, seen_kind}
 use Rattle.nf_report_lines.specs.declared.keys.Key.{Key}
 use Rattle.nf_report_lines.specs.Drafts.{seen_curve, seen_done}
-use Rattle.nf_report_read.specs.declared.report.Sorted.{Sorted}
 use Rattle.nf_report_read.specs.Sorted.{AreSorted}
 use Rattle.nf_report_lines.proofs.KeyNumbers.{length_curve_keys}
 use Rattle.nf_report_lines.proofs.DraftSteps.{pushed}
@@ -44,10 +44,10 @@ key_there n index inside none = by_entry (entry (curve_keys n) index inside)
         other : (key : CurveKey) → None ≡ Some key → ⊥
         other key e = cc
 
-pub one_more_sorted : (n : Named) (curves : List (Option Trace)) (curve : Option Trace) (index : ℕ) (sorted : Sorted) → index ≡ length curves
-    → AreSorted (seen_done n 0 curves ++ seen_curve (key_at n index) curve ∷ []) sorted → AreSorted (seen_done n 0 (curves ++ curve ∷ [])) sorted
-one_more_sorted n curves curve index sorted at h =
-    subst (λ (l : List ReadCurve). AreSorted l sorted)
+pub one_more_sorted : (n : Named) (curves : List (Option Trace)) (curve : Option Trace) (index : ℕ) (flow : Flow) → index ≡ length curves
+    → AreSorted (seen_done n 0 curves ++ seen_curve (key_at n index) curve ∷ []) flow → AreSorted (seen_done n 0 (curves ++ curve ∷ [])) flow
+one_more_sorted n curves curve index flow at h =
+    subst (λ (l : List ReadCurve). AreSorted l flow)
     (ap (λ (k : ℕ). seen_done n 0 curves ++ seen_curve (key_at n k) curve ∷ []) at ∙ sym (pushed n curves curve)) h
 
 -- ---- a curve behind those of its kind
@@ -71,7 +71,7 @@ module _ {A : Type 0} (f : ReadCurve → A) (kind : lines.Kind) (curves : List R
   without_it : is_kind kind curve ≡ false → items ≡ map f (curves_of kind (curves ++ curve ∷ []))
   without_it e = so_far ∙ sym (ap (map f) (curves_of-push kind curves curve false e ∙ append-nil (curves_of kind curves)))
 
-module _ (curves : List ReadCurve) (key : CurveKey) (trace : Trace) (old now : Sorted) (are : AreSorted curves old) where
+module _ (curves : List ReadCurve) (key : CurveKey) (trace : Trace) (old now : Flow) (are : AreSorted curves old) where
   abbrev here : ReadCurve
   here = seen_curve key (Some trace)
 
@@ -80,7 +80,7 @@ module _ (curves : List ReadCurve) (key : CurveKey) (trace : Trace) (old now : S
   tells kind other b k e = ap (λ (kind : lines.Kind). bytes_eq (key_word kind) (key_word other)) k ∙ e
 
   pub label_put : key.kind ≡ lines.OfLabel → now.labels.items ≡ old.labels.items ++ trace.curve ∷ []
-      → AreSorted (curves ++ here ∷ []) (record { labels = now.labels; inflows = old.inflows; outflows = old.outflows; queues = old.queues })
+      → AreSorted (curves ++ here ∷ []) (record { reached = old.reached; labels = now.labels; inflows = old.inflows; outflows = old.outflows; queues = old.queues })
   label_put k e = record {
     all_labels = ap (map (λ c. c.points)) e ∙ map-append (λ c. c.points) old.labels.items (trace.curve ∷ [])
         ∙ with_it (λ (c : ReadCurve). c.points) lines.OfLabel curves here _ are.all_labels (tells lines.OfLabel lines.OfLabel true k refl);
@@ -92,7 +92,7 @@ module _ (curves : List ReadCurve) (key : CurveKey) (trace : Trace) (old now : S
   }
 
   pub inflow_put : key.kind ≡ lines.OfInflow → now.inflows.items ≡ old.inflows.items ++ trace ∷ []
-      → AreSorted (curves ++ here ∷ []) (record { labels = old.labels; inflows = now.inflows; outflows = old.outflows; queues = old.queues })
+      → AreSorted (curves ++ here ∷ []) (record { reached = old.reached; labels = old.labels; inflows = now.inflows; outflows = old.outflows; queues = old.queues })
   inflow_put k e = record {
     all_labels = without_it (λ (c : ReadCurve). c.points) lines.OfLabel curves here _ are.all_labels (tells lines.OfInflow lines.OfLabel false k refl);
     all_inflows = ap (map trace_of) e ∙ map-append trace_of old.inflows.items (trace ∷ [])
@@ -103,7 +103,7 @@ module _ (curves : List ReadCurve) (key : CurveKey) (trace : Trace) (old now : S
   }
 
   pub outflow_put : key.kind ≡ lines.OfOutflow → now.outflows.items ≡ old.outflows.items ++ trace ∷ []
-      → AreSorted (curves ++ here ∷ []) (record { labels = old.labels; inflows = old.inflows; outflows = now.outflows; queues = old.queues })
+      → AreSorted (curves ++ here ∷ []) (record { reached = old.reached; labels = old.labels; inflows = old.inflows; outflows = now.outflows; queues = old.queues })
   outflow_put k e = record {
     all_labels = without_it (λ (c : ReadCurve). c.points) lines.OfLabel curves here _ are.all_labels (tells lines.OfOutflow lines.OfLabel false k refl);
     all_inflows = without_it (λ (c : ReadCurve). record { points = c.points; rates = c.rates }) lines.OfInflow curves here _ are.all_inflows
@@ -114,7 +114,7 @@ module _ (curves : List ReadCurve) (key : CurveKey) (trace : Trace) (old now : S
   }
 
   pub queue_put : key.kind ≡ lines.OfQueue → now.queues.items ≡ old.queues.items ++ trace.curve ∷ []
-      → AreSorted (curves ++ here ∷ []) (record { labels = old.labels; inflows = old.inflows; outflows = old.outflows; queues = now.queues })
+      → AreSorted (curves ++ here ∷ []) (record { reached = old.reached; labels = old.labels; inflows = old.inflows; outflows = old.outflows; queues = now.queues })
   queue_put k e = record {
     all_labels = without_it (λ (c : ReadCurve). c.points) lines.OfLabel curves here _ are.all_labels (tells lines.OfQueue lines.OfLabel false k refl);
     all_inflows = without_it (λ (c : ReadCurve). record { points = c.points; rates = c.rates }) lines.OfInflow curves here _ are.all_inflows

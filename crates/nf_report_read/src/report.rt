@@ -8,7 +8,7 @@ ghost use Rattle.nf_report_read.specs.Files.{IfBroken, seen_report};
 ghost use Rattle.nf_report_read.specs.Sorted.{AreSorted};
 
 use crate::fault::ReportFault;
-use nf_curve::{Curve, Flow, Stop, Trace};
+use nf_curve::{Flow, Stop, Trace};
 use nf_frac::Q;
 use nf_net::Network;
 use nf_pattern::Pattern;
@@ -25,71 +25,62 @@ pub struct Report {
     pub last: Pattern,
 }
 
-// The curves of a report, by kind.
-#[derive(Drop)]
-struct Sorted {
-    labels: Vec<Curve>,
-    inflows: Vec<Trace>,
-    outflows: Vec<Trace>,
-    queues: Vec<Curve>,
+// Appends a curve to those of its kind in a flow. Every kind except `Never` must have a curve.
+fn put(flow: &mut Flow, kind: Kind, curve: Option<Trace>) -> Result<(), AllocError>
+    requires { curve ≡ None → seen_kind kind ≡ OfNever }
+    ensures reached { OnOk result (flow.new.reached ≡ flow.old.reached) }
+    ensures sorted { OnOk result ((curves : List ReadCurve) → (key : CurveKey)
+        → key.kind ≡ seen_kind kind → AreSorted curves flow.old
+        → AreSorted (curves ++ seen_curve key curve ∷ []) flow.new) }
+{
+    match (kind, curve) {
+        (Kind::Never, _) => {}
+        (Kind::Label, Some(trace)) => {
+            let Trace { curve, rates: _ } = trace;
+            flow.labels.push(curve)?;
+        }
+        (Kind::Inflow, Some(trace)) => flow.inflows.push(trace)?,
+        (Kind::Outflow, Some(trace)) => flow.outflows.push(trace)?,
+        (Kind::Queue, Some(trace)) => {
+            let Trace { curve, rates: _ } = trace;
+            flow.queues.push(curve)?;
+        }
+        (_, None) => unreachable!(),
+    }
+    Ok(())
 }
 
-impl Sorted {
-    fn new(alloc: Global) -> Sorted
-        ensures { AreSorted [] result }
-    {
-        Sorted {
-            labels: Vec::new(alloc),
-            inflows: Vec::new(alloc),
-            outflows: Vec::new(alloc),
-            queues: Vec::new(alloc),
-        }
-    }
-
-    // Appends a curve to those of its kind. Every kind except `Never` must have a curve.
-    fn put(&mut self, kind: Kind, curve: Option<Trace>) -> Result<(), AllocError>
-        requires { curve ≡ None → seen_kind kind ≡ OfNever }
-        ensures { OnOk result ((curves : List ReadCurve) → (key : CurveKey)
-            → key.kind ≡ seen_kind kind → AreSorted curves self.old
-            → AreSorted (curves ++ seen_curve key curve ∷ []) self.new) }
-    {
-        match (kind, curve) {
-            (Kind::Never, _) => {}
-            (Kind::Label, Some(trace)) => {
-                let Trace { curve, rates: _ } = trace;
-                self.labels.push(curve)?;
-            }
-            (Kind::Inflow, Some(trace)) => self.inflows.push(trace)?,
-            (Kind::Outflow, Some(trace)) => self.outflows.push(trace)?,
-            (Kind::Queue, Some(trace)) => {
-                let Trace { curve, rates: _ } = trace;
-                self.queues.push(curve)?;
-            }
-            (_, None) => unreachable!(),
-        }
-        Ok(())
-    }
-}
-
-// Divides the curves of a report by kind.
-fn by_kind(alloc: Global, net: &Network, curves: Vec<Option<Trace>>) -> Result<Sorted, AllocError>
+// Divides the curves of a report by kind, into a flow up to `reached`.
+fn by_kind(
+    alloc: Global,
+    net: &Network,
+    reached: Q,
+    curves: Vec<Option<Trace>>,
+) -> Result<Flow, AllocError>
     requires count { length curves.items ≤ length (curve_keys net.now) }
     requires idle { LacksIdleOnly net.now curves.items }
-    ensures { IfOk result (λ sorted. AreSorted (seen_done net.now 0 curves.items) sorted) }
+    ensures reached { IfOk result (λ flow. flow.reached ≡ reached) }
+    ensures sorted { IfOk result (λ flow. AreSorted (seen_done net.now 0 curves.items) flow) }
 {
     // Proof: a network has few nodes and links.
     net.recall();
-    let mut sorted = Sorted::new(alloc);
+    let mut flow = Flow {
+        reached,
+        labels: Vec::new(alloc),
+        inflows: Vec::new(alloc),
+        outflows: Vec::new(alloc),
+        queues: Vec::new(alloc),
+    };
     let mut index = 0;
     for curve in curves {
         let kind = match key_at(net, index) {
             Some(key) => key.kind,
             None => unreachable!(),
         };
-        sorted.put(kind, curve)?;
+        put(&mut flow, kind, curve)?;
         index += 1;
     }
-    Ok(sorted)
+    Ok(flow)
 }
 
 /// Returns the report of the parser state at the end of the text. Fails with P14 if no `end` line was read, or if an allocation fails.
@@ -109,16 +100,10 @@ pub(crate) fn report_at_end(
             line: 0,
         });
     }
-    let sorted = by_kind(alloc, net, draft.done)?;
+    let flow = by_kind(alloc, net, draft.reached, draft.done)?;
     Ok(Report {
         horizon: draft.horizon,
-        flow: Flow {
-            reached: draft.reached,
-            labels: sorted.labels,
-            inflows: sorted.inflows,
-            outflows: sorted.outflows,
-            queues: sorted.queues,
-        },
+        flow,
         stopped: draft.stop,
         last: draft.states,
     })

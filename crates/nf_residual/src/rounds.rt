@@ -226,15 +226,6 @@ fn round(
     }
 }
 
-// Returns a copy of the indices.
-fn copied(alloc: Global, places: &[Option<usize>]) -> Result<Vec<Option<usize>>, AllocError>
-    ensures { IfOk result (λ same. same.items ≡ places.now) }
-{
-    let mut same = Vec::with_capacity(alloc, places.len())?;
-    same.extend_from_slice(places)?;
-    Ok(same)
-}
-
 // Returns the initial indices: path 0 for the node `from`, and None for each other node.
 fn first_places(
     alloc: Global,
@@ -268,7 +259,7 @@ fn reaches_by(
     let arcs = Arcs::of(alloc, net.node_count(), legs)?;
     let mut ways = Ways::start(alloc, net.link_count() as usize)?;
     let mut places = first_places(alloc, net, from)?;
-    let mut next = copied(alloc, &places)?;
+    let mut next = places.as_slice().to_vec(alloc)?;
     let mut fresh = 0;
     for _ in 1..net.node_count() {
         let count = ways.count();

@@ -1,21 +1,19 @@
 // The slopes that solve a pattern's table, from one equation for each Tight component. All nodes of a component have the same slope, and
 // its outflow less its inflow is known. No contract depends on these slopes, since a guess is judged like any other pattern.
 ghost use Rattle.std.specs.Prelude.{◌≡◌, ◌<◌, ◌≤◌, length, IfOk, IfSome};
+ghost use Rattle.nf_linear.specs.Limits.{most_unknowns};
 ghost use Rattle.nf_thin_equation_laws.specs.Equations.{IsPatternIn};
 
 use crate::node_parts::{Parts, state_in, tight_forest};
 use crate::numbers::{add_at, number_or_zero, take_off_at};
 use nf_frac::{Halt, Part, Q, at};
 use nf_graph::{LinkId, LinkSets, NodeId};
-use nf_linear::Table;
+use nf_linear::{MOST_UNKNOWNS, Table};
 use nf_model::State;
 use nf_net::Network;
 use nf_pattern::Pattern;
 use nf_thin_one::solved;
 use std::alloc::{AllocError, Global};
-
-// The most unknowns that `Table::new` accepts.
-const MOST_TABLE_UNKNOWNS: u32 = 264;
 
 // A Full or resetting link between two components.
 #[derive(Clone, Copy)]
@@ -201,7 +199,7 @@ fn slope_table(
     rate: Q,
 ) -> Result<Table<Q>, Halt<Q>>
     requires some { 0 < size }
-    requires few { size ≤ 264 }
+    requires few { size ≤ most_unknowns }
 {
     let sums = summed(alloc, size + 1, links)?;
     let mut table = Table::new(alloc, size)?;
@@ -225,7 +223,7 @@ fn slopes_of_parts(
     if size == 0 {
         return Ok(Some(Vec::new(alloc)));
     }
-    if size > MOST_TABLE_UNKNOWNS {
+    if size > MOST_UNKNOWNS {
         return Ok(None);
     }
     let table = slope_table(alloc, size, links, sink_part, rate)?;

@@ -5,6 +5,7 @@ use Rattle.nf_model.specs.Walk.{Hop}
 use Rattle.nf_model.specs.ThinFlow.{Sets}
 use Rattle.nf_net_def.specs.Named.{Named}
 use Rattle.nf_net_def.specs.WellNamed.{IsNamed}
+use Rattle.nf_linear.specs.Limits.{most_unknowns}
 use Rattle.nf_thin_def.specs.Equations.{unknowns}
 use Rattle.nf_thin_equation_laws.proofs.Equations.{unknowns-length}
 use Rattle.nf_graph.proofs.NetworkHops.{hops_length}
@@ -12,7 +13,7 @@ use Rattle.nf_net.proofs.Limits.{few_nodes, few_links}
 use Rattle.nf_thin_one.proofs.ActivePlaces.{active_before, few_before, all_before}
 
 module _ (n : Named) (named : IsNamed n) (flags : List Bool) where
-  pub few_columns : (e column : ℕ) → e ≤ length n.net.links → column ≡ n.net.nodes + active_before flags e → column ≤ 264
+  pub few_columns : (e column : ℕ) → e ≤ length n.net.links → column ≡ n.net.nodes + active_before flags e → column ≤ most_unknowns
   few_columns e column inside is =
       let a = few_nodes n named in let b = few_links n named in let c = few_before flags e in let d = named.numbered.nodes in omega arith
 

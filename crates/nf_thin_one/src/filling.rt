@@ -5,6 +5,7 @@ ghost use Rattle.nf_rational.specs.Operations.{0ℚ, neg_ℚ};
 ghost use Rattle.nf_model.specs.Pattern.{Pattern as SeenPattern};
 ghost use Rattle.nf_net_def.specs.WellNamed.{IsNamed};
 ghost use Rattle.nf_linear_def.specs.Table.{row_at};
+ghost use Rattle.nf_linear.specs.Limits.{most_unknowns};
 ghost use Rattle.nf_thin_def.specs.Equations.{unknowns, equations};
 ghost use Rattle.nf_thin_one.specs.Filling.{all_zero, ChangesRow, IsFilledTo, IsRowOf, SetsAt, AddsFlow, with_entries, tight_entries, full_entries, link_entries, HoldsCapacity, HoldsCapacities, HoldsNumbers};
 
@@ -21,7 +22,7 @@ pub fn unknown_count(net: &Network, sets: &LinkSets) -> u32
     requires { length sets.now.active ≡ length net.now.net.links }
     ensures count { result ≡ length (unknowns net.now.net sets.now) }
     ensures some { 0 < result }
-    ensures few { result ≤ 264 }
+    ensures few { result ≤ most_unknowns }
     ensures named { IsNamed net.now }
 {
     let links = net.hops();

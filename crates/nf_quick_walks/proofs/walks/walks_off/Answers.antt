@@ -17,12 +17,12 @@ walk_off-requires c =
     within_as (length c.args.net.now.net.links) (length c.loop.flows.items) c.in_ok-links.links.items c.in_ok-links.links.items
     (sym c.loop.invariant.takes.count) refl c.in_ok-links.ensures.within
 
-pub returns-then-is_none : goal.returns-then-is_none
-returns-then-is_none c =
+pub returns-then-is_empty : goal.returns-then-is_empty
+returns-then-is_empty c =
     let inside : c.loop.counter < length c.args.net.now.net.links = subst (λ (n : ℕ). c.loop.counter < n) c.link_count-end.ensures c.loop-test.true in
     none_left passes_Q c.args.net.now.net c.args.flows.items c.loop.walks.items c.loop.flows.items c.loop.counter c.loop.invariant.takes inside c.in_ok-links.links.items
     (c.in_ok-links.ensures.way ∙ ap (λ (l : List ℚ). way_out c.args.net.now.net l) c.deref.ensures.value)
-    (none_there c.in_ok-links.links.items (ap (λ (l : List ℕ). length l == 0) (sym c.deref-in-loop.ensures.value) ∙ sym c.is_none.ensures ∙ c.if-is_none.true))
+    (none_there c.in_ok-links.links.items (ap (λ (n : ℕ). n == 0) (sym c.in_ok-links.links.ok.0) ∙ sym c.is_empty.ensures ∙ c.if-is_empty.true))
 
 pub returns-in_err-rated : goal.returns-in_err-rated
 returns-in_err-rated c =
@@ -30,7 +30,7 @@ returns-in_err-rated c =
     let p = err_from_is_err_and c.from_residual-in_err-rated.result c.from_residual-in_err-rated.ensures.1 in
     rw (p.1, p.2) (take_passes passes_Q c.args.net.now.net c.args.flows.items c.loop.walks.items c.loop.flows.items c.loop.counter c.loop.invariant.takes inside c.in_ok-links.links.items
     (c.in_ok-links.ensures.way ∙ ap (λ (l : List ℚ). way_out c.args.net.now.net l) c.deref.ensures.value)
-    (some_there c.in_ok-links.links.items (ap (λ (l : List ℕ). length l == 0) (sym c.deref-in-loop.ensures.value) ∙ sym c.is_none.ensures ∙ c.if-is_none.false))
+    (some_there c.in_ok-links.links.items (ap (λ (n : ℕ). n == 0) (sym c.in_ok-links.links.ok.0) ∙ sym c.is_empty.ensures ∙ c.if-is_empty.false))
     c.in_err-rated.field-0.0 c.in_err-rated.ensures.list)
 
 pub loop-preserved : goal.loop-preserved
@@ -40,7 +40,7 @@ loop-preserved c =
     record {
       takes = takes_more passes_Q c.args.net.now.net c.args.flows.items c.loop.walks.items c.loop.flows.items c.loop.counter c.loop.invariant.takes inside c.in_ok-links.links.items
           (c.in_ok-links.ensures.way ∙ ap (λ (l : List ℚ). way_out c.args.net.now.net l) lent)
-          (some_there c.in_ok-links.links.items (ap (λ (l : List ℕ). length l == 0) (sym c.deref-in-loop.ensures.value) ∙ sym c.is_none.ensures ∙ c.if-is_none.false))
+          (some_there c.in_ok-links.links.items (ap (λ (n : ℕ). n == 0) (sym c.in_ok-links.links.ok.0) ∙ sym c.is_empty.ensures ∙ c.if-is_empty.false))
           c.walk_off.new.flows.items c.in_ok-rated.rated c.push.new.self.items c.in_ok-rated.ensures.list c.in_ok-rated.ensures.count
           c.in_ok-rated.ensures.walk c.in_ok-push.ensures.items;
       spent = spent_still passes_Q _ c.args.net.now.net.links c.loop.flows.items c.walk_off.new.flows.items c.in_ok-links.links.items c.way_out.new.spent.items

@@ -12,9 +12,10 @@ pub loop-curve-preserved : goal.loop-curve-preserved
 loop-curve-preserved c =
     let more = length-append c.loop-curve.yielded (c.in-Some.curve ∷ []) in (
       omega (arith, more, c.loop-curve.invariant.0),
-      one_more_sorted c.args.net.now c.loop-curve.yielded c.in-Some.curve c.loop-curve.index c.put.new.self c.loop-curve.invariant.0
-          (c.in_ok-put.ensures (seen_done c.args.net.now 0 c.loop-curve.yielded) (key_at c.args.net.now c.loop-curve.index)
-          (kind_here c.args.net.now c.loop-curve.index c.in-Some-key_at.key c.in-Some-key_at.ensures) c.loop-curve.invariant.1),
+      c.in_ok-put.ensures.reached ∙ c.loop-curve.invariant.1,
+      one_more_sorted c.args.net.now c.loop-curve.yielded c.in-Some.curve c.loop-curve.index c.put.new.flow c.loop-curve.invariant.0
+          (c.in_ok-put.ensures.sorted (seen_done c.args.net.now 0 c.loop-curve.yielded) (key_at c.args.net.now c.loop-curve.index)
+          (kind_here c.args.net.now c.loop-curve.index c.in-Some-key_at.key c.in-Some-key_at.ensures) c.loop-curve.invariant.2),
     )
 
 pub overflow_add-index : goal.overflow_add-index

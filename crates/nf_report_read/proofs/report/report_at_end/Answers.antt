@@ -16,7 +16,7 @@ returns-then-not-matches c = elim c.match-matches.branch [
 
 pub returns : goal.returns
 returns c =
-    let sorted = c.in_ok-sorted.ensures in
+    let sorted = c.in_ok-flow.ensures.sorted in
     let ended : c.args.draft.stage ≡ stages.End = elim c.match-matches.branch [
       | in-End w ↦ w.in-End.is
       | in_default w ↦ absurd (false≢true (sym w.matches-is ∙ c.if-not-matches.false))
@@ -25,7 +25,7 @@ returns c =
     ∙ (λ i. Ok (record {
       horizon = c.args.draft.horizon;
       flow = record {
-        reached = c.args.draft.reached;
+        reached = sym c.in_ok-flow.ensures.reached i;
         labels = sym sorted.all_labels i;
         inflows = sym sorted.all_inflows i;
         outflows = sym sorted.all_outflows i;

@@ -13,25 +13,25 @@ pub loop-init : goal.loop-init
 loop-init c = (
   search_first passes_Q c.args.net.now.net c.args.flows.now c.args.from c.in_ok-arcs.arcs.legs.items c.in_ok-ways.ways c.in_ok-places.places.items
       c.in_ok-ways.ensures c.in_ok-places.ensures,
-  ap (λ (p : Places). length p) (c.in_ok-next.ensures ∙ c.deref.ensures.value),
+  sym c.in_ok-next.next.ok.0 ∙ c.in_ok-next.ensures.len ∙ ap (λ (p : Places). length p) c.as_slice.ensures.value,
 )
 
 pub copy_from_slice-requires : goal.copy_from_slice-requires
 copy_from_slice-requires c =
-    let lent : length c.deref-in-loop.result.now ≡ length c.loop.places.items = ap (λ (p : Places). length p) c.deref-in-loop.ensures.value in
+    let lent : length c.deref.result.now ≡ length c.loop.places.items = ap (λ (p : Places). length p) c.deref.ensures.value in
     let same : length c.loop.next.items ≡ length c.loop.places.items = c.loop.invariant.1 in
     omega (arith, c.loop.next.ok.0)
 
 pub round-requires-clause-legs : goal.round-requires-clause-legs
 round-requires-clause-legs c =
-    let nodes : length c.deref-in-loop-2.result.now ≡ c.args.net.now.net.nodes = ap (λ (p : Places). length p) c.deref-in-loop-2.ensures.value
+    let nodes : length c.deref-in-loop.result.now ≡ c.args.net.now.net.nodes = ap (λ (p : Places). length p) c.deref-in-loop.ensures.value
     ∙ places_are passes_Q c.args.net.now.net c.args.flows.now c.args.from c.in_ok-arcs.arcs.legs.items c.loop.fresh c.loop.ways c.loop.places.items c.loop.counter c.loop.invariant.0 in
     subst (λ (n : ℕ). AreLegs n c.in_ok-arcs.arcs.legs.items) (sym nodes)
     (subst (λ (l : List Leg). AreLegs c.args.net.now.net.nodes l) (sym c.in_ok-arcs.ensures.legs) c.in_ok-legs.ensures.within)
 
 pub round-requires-clause-chains : goal.round-requires-clause-chains
 round-requires-clause-chains c =
-    let nodes : length c.deref-in-loop-2.result.now ≡ c.node_count.result = ap (λ (p : Places). length p) c.deref-in-loop-2.ensures.value
+    let nodes : length c.deref-in-loop.result.now ≡ c.node_count.result = ap (λ (p : Places). length p) c.deref-in-loop.ensures.value
     ∙ places_are passes_Q c.args.net.now.net c.args.flows.now c.args.from c.in_ok-arcs.arcs.legs.items c.loop.fresh c.loop.ways c.loop.places.items
     c.loop.counter c.loop.invariant.0 ∙ sym c.node_count.ensures in
     subst (λ (n : ℕ). AreChains n c.in_ok-arcs.arcs.legs.items c.in_ok-arcs.arcs.first.items c.in_ok-arcs.arcs.next.items) (sym nodes) c.in_ok-arcs.ensures.chains
@@ -40,14 +40,14 @@ pub round-requires-clause-tree : goal.round-requires-clause-tree
 round-requires-clause-tree c = c.loop.invariant.0.good
 
 pub round-requires-clause-same : goal.round-requires-clause-same
-round-requires-clause-same c = c.copy_from_slice.ensures.items ∙ c.deref-in-loop.ensures.value ∙ sym c.deref-in-loop-2.ensures.value
+round-requires-clause-same c = c.copy_from_slice.ensures.items ∙ c.deref.ensures.value ∙ sym c.deref-in-loop.ensures.value
 
 pub round-requires-clause-within : goal.round-requires-clause-within
-round-requires-clause-within c = subst (λ (p : Places). ArePathsBelow (length c.loop.ways) p) (sym c.deref-in-loop-2.ensures.value) c.loop.invariant.0.within
+round-requires-clause-within c = subst (λ (p : Places). ArePathsBelow (length c.loop.ways) p) (sym c.deref-in-loop.ensures.value) c.loop.invariant.0.within
 
 pub round-requires-clause-settled : goal.round-requires-clause-settled
 round-requires-clause-settled c =
-    subst (λ (p : Places). AreSettled passes_Q c.in_ok-arcs.arcs.legs.items c.loop.fresh c.loop.ways p) (sym c.deref-in-loop-2.ensures.value) c.loop.invariant.0.settled
+    subst (λ (p : Places). AreSettled passes_Q c.in_ok-arcs.arcs.legs.items c.loop.fresh c.loop.ways p) (sym c.deref-in-loop.ensures.value) c.loop.invariant.0.settled
 
 pub returns-in_err-round-clause-list : goal.returns-in_err-round-clause-list
 returns-in_err-round-clause-list c =
@@ -55,7 +55,7 @@ returns-in_err-round-clause-list c =
     let inside : c.loop.counter < c.args.net.now.net.nodes = omega arith in
     rw (p.1, p.2) (stops_by c.args.in_order c.in_err-round.field-0.0 _ _ (search_stops passes_Q c.args.net.now.net c.args.flows.now c.args.from
     c.in_ok-arcs.arcs.legs.items c.loop.fresh c.loop.ways c.loop.places.items c.loop.counter c.loop.invariant.0 inside
-    (c.in_ok-arcs.ensures.legs ∙ c.in_ok-legs.ensures.legs) c.in_ok-arcs.arcs.legs.items refl c.deref-in-loop-2.result.now c.deref-in-loop-2.ensures.value c.in_err-round.field-0.0)
+    (c.in_ok-arcs.ensures.legs ∙ c.in_ok-legs.ensures.legs) c.in_ok-arcs.arcs.legs.items refl c.deref-in-loop.result.now c.deref-in-loop.ensures.value c.in_err-round.field-0.0)
     c.in_err-round.ensures.list)
 
 pub of-requires-then-count : goal.of-requires-then-count
@@ -63,7 +63,7 @@ of-requires-then-count c =
     let inside : c.loop.counter < c.args.net.now.net.nodes = omega arith in
     within_still passes_Q c.args.net.now.net c.args.flows.now c.args.from c.in_ok-arcs.arcs.legs.items c.loop.fresh c.loop.ways c.loop.places.items
     c.loop.counter c.loop.invariant.0 inside
-    (c.in_ok-arcs.ensures.legs ∙ c.in_ok-legs.ensures.legs) c.in_ok-arcs.arcs.legs.items refl c.deref-in-loop-2.result.now c.deref-in-loop-2.ensures.value
+    (c.in_ok-arcs.ensures.legs ∙ c.in_ok-legs.ensures.legs) c.in_ok-arcs.arcs.legs.items refl c.deref-in-loop.result.now c.deref-in-loop.ensures.value
     c.round.new.ways c.round.new.places.items c.in_ok-round.ensures.list c.in_ok-round.ensures.grows
 
 pub returns-then-count-clause-count : goal.returns-then-count-clause-count
@@ -71,7 +71,7 @@ returns-then-count-clause-count c =
     let inside : c.loop.counter < c.args.net.now.net.nodes = omega arith in
     count_still passes_Q c.args.net.now.net c.args.flows.now c.args.from c.in_ok-arcs.arcs.legs.items c.loop.fresh c.loop.ways c.loop.places.items
     c.loop.counter c.loop.invariant.0 inside
-    (c.in_ok-arcs.ensures.legs ∙ c.in_ok-legs.ensures.legs) c.in_ok-arcs.arcs.legs.items refl c.deref-in-loop-2.result.now c.deref-in-loop-2.ensures.value
+    (c.in_ok-arcs.ensures.legs ∙ c.in_ok-legs.ensures.legs) c.in_ok-arcs.arcs.legs.items refl c.deref-in-loop.result.now c.deref-in-loop.ensures.value
     c.round.new.ways c.round.new.places.items c.in_ok-round.ensures.list c.in_ok-round.ensures.grows c.of-then-count.result c.of-then-count.ensures
 
 pub returns-then-count-clause-list : goal.returns-then-count-clause-list
@@ -80,7 +80,7 @@ returns-then-count-clause-list c =
     let same : length c.round.new.ways ≡ length c.loop.ways = sym c.count.ensures.count ∙ c.if-count.true ∙ c.count-count.ensures.count in
     search_still passes_Q c.args.net.now.net c.args.flows.now c.args.from c.in_ok-arcs.arcs.legs.items c.loop.fresh c.loop.ways c.loop.places.items
     c.loop.counter c.loop.invariant.0 inside
-    (c.in_ok-arcs.ensures.legs ∙ c.in_ok-legs.ensures.legs) c.in_ok-arcs.arcs.legs.items refl c.deref-in-loop-2.result.now c.deref-in-loop-2.ensures.value
+    (c.in_ok-arcs.ensures.legs ∙ c.in_ok-legs.ensures.legs) c.in_ok-arcs.arcs.legs.items refl c.deref-in-loop.result.now c.deref-in-loop.ensures.value
     c.round.new.ways c.round.new.places.items c.in_ok-round.ensures.list c.in_ok-round.ensures.grows same c.of-then-count.result c.of-then-count.ensures
 
 pub loop-preserved : goal.loop-preserved
@@ -90,10 +90,10 @@ loop-preserved c =
     c.round.new.places.items (c.loop.counter + 1) =
     search_more passes_Q c.args.net.now.net c.args.flows.now c.args.from c.in_ok-arcs.arcs.legs.items c.loop.fresh c.loop.ways c.loop.places.items
     c.loop.counter c.loop.invariant.0 inside
-    (c.in_ok-arcs.ensures.legs ∙ c.in_ok-legs.ensures.legs) c.in_ok-arcs.arcs.legs.items refl c.deref-in-loop-2.result.now c.deref-in-loop-2.ensures.value
+    (c.in_ok-arcs.ensures.legs ∙ c.in_ok-legs.ensures.legs) c.in_ok-arcs.arcs.legs.items refl c.deref-in-loop.result.now c.deref-in-loop.ensures.value
     c.round.new.ways c.round.new.places.items c.in_ok-round.ensures.list c.in_ok-round.ensures.grows c.count.ensures.tree c.in_ok-round.ensures.settled
     c.count-count.result c.count-count.ensures.count in
-    let long : length c.round.new.places.items ≡ length c.loop.places.items = c.in_ok-round.ensures.grows.count ∙ ap (λ (p : Places). length p) c.deref-in-loop-2.ensures.value in (
+    let long : length c.round.new.places.items ≡ length c.loop.places.items = c.in_ok-round.ensures.grows.count ∙ ap (λ (p : Places). length p) c.deref-in-loop.ensures.value in (
       subst (λ (v : Vec (Option ℕ) Global). SearchOn passes_Q c.args.net.now.net c.args.flows.now c.args.from c.in_ok-arcs.arcs.legs.items
           c.count-count.result c.round.new.ways v.items (c.loop.counter + 1))
           (sym c.swap.ensures.x_after) more,

@@ -1,4 +1,5 @@
 use Rattle.std.proofs.Common.{◌≤◌, arith}
+use Rattle.nf_linear.specs.Limits.{most_unknowns}
 use Rattle.nf_thin_one.proofs.LinkRows.{links_first, next_inside, end_inside, link_more, idle_skipped, links_done}
 use Rattle.nf_thin_one.proofs.Sizes.{few_columns}
 use Rattle.nf_thin_one.proofs.filling.fill_links.Goals as goal
@@ -26,7 +27,7 @@ fill_link-requires-clause-head g c =
 
 pub overflow_add-row : goal.overflow_add-row
 overflow_add-row g c =
-    let few : c.loop-e.row ≤ 264 = few_columns c.args.net.now c.link.ensures.named c.args.sets.now.active c.loop-e.e c.loop-e.row (omega arith) c.loop-e.invariant.place in omega arith
+    let few : c.loop-e.row ≤ most_unknowns = few_columns c.args.net.now c.link.ensures.named c.args.sets.now.active c.loop-e.e c.loop-e.row (omega arith) c.loop-e.invariant.place in omega arith
 
 pub loop-e-preserved : goal.loop-e-preserved
 loop-e-preserved g c = elim c.if-active.branch [

@@ -1,4 +1,5 @@
 use Rattle.std.proofs.Common.{◌≤◌, ℕ, sym, subst, arith}
+use Rattle.nf_linear.specs.Limits.{most_unknowns}
 use Rattle.nf_thin_one.specs.Filling.{IsRowOf, AddsFlow}
 use Rattle.nf_thin_one.proofs.NodeRows.{node_inside, flows_first, end_inside, column_inside, flow_more, flow_same, nodes_done, size_kept}
 use Rattle.nf_thin_one.proofs.Sizes.{few_columns}
@@ -39,7 +40,7 @@ set_flow-requires-clause-column g c =
 
 pub overflow_add-column : goal.overflow_add-column
 overflow_add-column g c =
-    let few : c.loop-e.column ≤ 264 =
+    let few : c.loop-e.column ≤ most_unknowns =
     few_columns c.args.net.now c.link.ensures.named c.args.sets.now.active c.loop-e.e c.loop-e.column (omega arith) c.loop-e.invariant.next in
     omega arith
 

@@ -1,5 +1,6 @@
 use Rattle.std.proofs.Common.{◌≡◌, ◌<◌, ◌≤◌, length, arith}
 use Rattle.nf_net.proofs.Limits.{few_links}
+use Rattle.nf_linear.specs.Limits.{most_unknowns}
 use Rattle.nf_thin_one.proofs.ActivePlaces.{none_before, one_more_before, none_more_before}
 use Rattle.nf_thin_one.proofs.Sizes.{few_columns, as_many_hops, counted}
 use Rattle.nf_thin_one.proofs.filling.unknown_count.Goals as goal
@@ -17,7 +18,7 @@ overflow_cast-e c =
 pub overflow_add-count : goal.overflow_add-count
 overflow_add-count c =
     let m : length c.hops-links.result.now ≡ length c.args.net.now.net.links = as_many_hops c.args.net.now c.hops-links.result.now c.hops-links.ensures.value in
-    let few : c.loop-e.count ≤ 264 = few_columns c.args.net.now c.hops-links.ensures.named c.args.sets.now.active c.loop-e.e c.loop-e.count (omega arith) c.loop-e.invariant in
+    let few : c.loop-e.count ≤ most_unknowns = few_columns c.args.net.now c.hops-links.ensures.named c.args.sets.now.active c.loop-e.e c.loop-e.count (omega arith) c.loop-e.invariant in
     omega arith
 
 pub loop-e-preserved : goal.loop-e-preserved
