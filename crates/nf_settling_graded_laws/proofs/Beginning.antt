@@ -10,6 +10,8 @@ use Rattle.nf_settling_graded_laws.proofs.Common.{same_node, spare, pushed, push
 use Rattle.nf_model.specs.Walk.{IsWalk}
 use Rattle.nf_model_laws.proofs.Affine.{nn-quotient, quotient-times}
 use Rattle.nf_model_laws.proofs.Networks.{IsWalk-starts, StartsWith}
+use Rattle.nf_complete_laws.proofs.NoExcess.{demand-else, demand-sink}
+use Rattle.nf_complete_laws.proofs.Pushing.{pushed-link}
 use Rattle.nf_settling_laws.specs.Excess.{link_sum}
 use Rattle.nf_settling_laws.proofs.Terms.{link_sum-one, link_sum-not_negative}
 use Rattle.nf_settling_graded_laws.proofs.Supplies.{IsOpen, open_or_not, IsSupply}
@@ -30,10 +32,9 @@ module _ (net : Network) (good : IsNetwork net) (rate : ℚ) (nn : 0ℚ ≤ℚ r
 
   demand-is : (w : ℕ) → demand net rate w ≡ only_at net.sink rate w
   demand-is w = ⊎_elim
-      (λ (s : (eqb w net.sink ≡ true) × (w ≡ net.sink)). ap (λ (b : Bool). if b then rate else 0ℚ) s.0
-      ∙ sym (subst (λ (k : ℕ). only_at net.sink rate k ≡ rate) (sym s.1) (only_at-here net.sink rate)))
-      (λ (s : (eqb w net.sink ≡ false) × (w ≢ net.sink)). ap (λ (b : Bool). if b then rate else 0ℚ) s.0 ∙ sym (only_at-else net.sink rate w (λ k. s.1 (sym k))))
-      (eqb_tells w net.sink)
+      (λ (k : w ≡ net.sink). subst (λ (j : ℕ). demand net rate j ≡ only_at net.sink rate j) (sym k) (demand-sink net rate ∙ sym (only_at-here net.sink rate)))
+      (λ (k : w ≢ net.sink). demand-else net rate w k ∙ sym (only_at-else net.sink rate w (λ e. k (sym e))))
+      (same_node w net.sink)
 
   at_sink : IsRoute net rate net.sink (λ e. 0ℚ)
   at_sink = record {
@@ -73,11 +74,7 @@ module _ (net : Network) (good : IsNetwork net) (rate : ℚ) (nn : 0ℚ ≤ℚ r
           (λ (w : (k ≡ e) × (new k ≡ flows e +ℚ rate)). subst (λ (z : ℚ). 0ℚ ≤ℚ z) (sym w.1) (nn_plus _ _ (r.not_negative e) nn))
           (λ (w : (k ≢ e) × (new k ≡ flows k)). subst (λ (z : ℚ). 0ℚ ≤ℚ z) (sym w.1) (r.not_negative k))
           (pushed-cases net rate flows e link p rate k);
-      shut = λ k other q n. ⊎_elim
-          (λ (w : (k ≡ e) × (new k ≡ flows e +ℚ rate)).
-          absurd (n (subst (IsOpen net) (same_Some link other (sym p ∙ subst (λ (j : ℕ). IsLink net j other) w.0 q)) is_open)))
-          (λ (w : (k ≢ e) × (new k ≡ flows k)). w.1 ∙ r.shut k other q n)
-          (pushed-cases net rate flows e link p rate k);
+      shut = pushed-link net rate flows e link p rate (λ k other x. (IsOpen net other → ⊥) → x ≡ 0ℚ) (λ n. absurd (n is_open)) r.shut;
       enough = λ w other. ⊎_elim
           (λ (k : w ≡ link.head). subst (λ (j : ℕ). 0ℚ ≤ℚ spare net rate new j +ℚ only_at link.tail rate j) (sym k)
           (at_head _ _ _ _ (spare-head net rate flows e link p rate is_open.0) (only_at-here link.head rate)
@@ -247,7 +244,7 @@ module _ (net : Network) (good : IsNetwork net) (rate : ℚ) (nn : 0ℚ ≤ℚ r
     IsSupply-started = record {
       starts = level_source;
       keeps_up = keeps_up;
-      shut = started-shut;
+      idle = started-shut;
       fits = started-fits;
       enough = λ v h other. enough_by (sum_in net.links flows v) (sum_out net.links flows v) (demand net rate v) _ _ _
           (sum_out-same net.links started flows v (λ e link p at. started-else e link p (λ k. other (sym at ∙ k))))

@@ -2,7 +2,9 @@
 pub use Rattle.nf_complete_laws.proofs.Bare.{same_node}
 pub use Rattle.nf_complete_laws.proofs.Deciding.{Decided, NoLink, both, same_or_not}
 pub use Rattle.nf_complete_laws.proofs.ExistsDeciding.{SomeLink, less_or_not, not_so, some_below, some_link}
+pub use Rattle.nf_complete_laws.proofs.Serving.{Serves}
 pub use Rattle.nf_complete_laws.proofs.Fitting.{
+  IsAtMost-none,
   Fits-capped,
   HasRoom,
   IsAtMost,
