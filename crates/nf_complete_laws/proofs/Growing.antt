@@ -1,60 +1,17 @@
 -- Pushes of excess along links whose ends have equal levels: they end with flows whose nodes with excess are closed.
-use Rattle.std.proofs.Common.{◌≡◌, ◌≢◌, ℕ, zero, suc, ◌<◌, ◌≤◌, [], ◌∷◌, ◌⊎◌, inl, inr, ⊎_elim, Option, Some, None, sym, ap, subst, refl, ◌∙◌, arith}
-use Rattle.nf_complete_laws.proofs.Common.{none-some, same_Some, ℚ, 0ℚ, 1ℚ, ◌+ℚ◌, ◌-ℚ◌, ◌*ℚ◌, ◌/ℚ◌, ◌≤ℚ◌, ◌<ℚ◌, min_ℚ, reading_of, ≤ℚ_of_lt, le, lt, eq}
-use Rattle.nf_complete_laws.proofs.Common.{linear_le, linear_lt, linear_eq, min_left, min_right, min_keeps, nn_less_part, less_some_le, Link, Network, IsLink, IsNetwork}
-use Rattle.nf_rational_laws.proofs.Quotient.{/ℚ-times, ps_apart}
+use Rattle.std.proofs.Common.{◌≡◌, ◌≢◌, ℕ, zero, suc, ◌<◌, ◌≤◌, [], ◌∷◌, ◌⊎◌, inl, inr, ⊎_elim, Option, sym, ap, subst, refl, ◌∙◌, arith}
+use Rattle.nf_complete_laws.proofs.Common.{ℚ, 0ℚ, ◌+ℚ◌, ◌-ℚ◌, ◌≤ℚ◌, ◌<ℚ◌, reading_of, ≤ℚ_of_lt, le, lt, eq, linear_le, linear_lt, linear_eq, nn_less_part, less_some_le}
+use Rattle.nf_complete_laws.proofs.Common.{Link, Network, IsLink, IsNetwork}
 use Rattle.nf_complete_laws.proofs.Deciding.{Decided, both, same_or_not, NoLink}
 use Rattle.nf_complete_laws.proofs.Bare.{same_node}
 use Rattle.nf_complete_laws.proofs.ExistsDeciding.{not_so, less_or_not, SomeLink, some_link}
 use Rattle.nf_complete_laws.proofs.Fitting.{IsAtMost, HasRoom, room_or_not}
+use Rattle.nf_complete_laws.proofs.Small.{Small, Small-bound, Small-both, Small-at_most, Small-below, Small-room}
 use Rattle.nf_complete_laws.proofs.Spare.{spare, HasSpare, spare_or_not, spare_of_enough}
 use Rattle.nf_complete_laws.proofs.Serving.{Serves, IsClosed}
 use Rattle.nf_complete_laws.proofs.Pushing.{pushed, spare-else, spare-head, spare-tail, Serves-pushed}
 use Rattle.nf_complete_laws.proofs.Counting.{lack, lack-le, lack-lt, count_to, count_to-lt}
 
--- ---- a positive number, less than one number and at most another
-record IsPart (b x a : ℚ) : Type 0 where
-  above : 0ℚ <ℚ a
-  less : a <ℚ b
-  most : a ≤ℚ x
-
-half_of : (b q : ℚ) → 0ℚ <ℚ b → q *ℚ (1ℚ +ℚ 1ℚ) ≡ b → (0ℚ <ℚ q) × (q <ℚ b)
-half_of b q h e = (linear_lt (b ∷ q ∷ []) (lt h ∷ eq e ∷ []) (search reading_of) tt, linear_lt (b ∷ q ∷ []) (lt h ∷ eq e ∷ []) (search reading_of) tt)
-
-half : (b : ℚ) → 0ℚ <ℚ b → (q : ℚ) × (0ℚ <ℚ q) × (q <ℚ b)
-half b h =
-    let two : 0ℚ <ℚ 1ℚ +ℚ 1ℚ = linear_lt [] [] (search reading_of) tt in
-    let w : (0ℚ <ℚ b /ℚ (1ℚ +ℚ 1ℚ)) × (b /ℚ (1ℚ +ℚ 1ℚ) <ℚ b) = half_of b (b /ℚ (1ℚ +ℚ 1ℚ)) h (/ℚ-times b (1ℚ +ℚ 1ℚ) (ps_apart _ two)) in
-    (b /ℚ (1ℚ +ℚ 1ℚ), w.0, w.1)
-
-part_of : (b x : ℚ) → 0ℚ <ℚ b → 0ℚ <ℚ x → (a : ℚ) × IsPart b x a
-part_of b x h k =
-    let w : (q : ℚ) × (0ℚ <ℚ q) × (q <ℚ b) = half b h in (
-      min_ℚ w.0 x,
-      record {
-        above = min_keeps (λ (z : ℚ). 0ℚ <ℚ z) w.0 x w.1 k;
-        less = below (min_ℚ w.0 x) w.0 (min_left w.0 x) w.2;
-        most = min_right w.0 x;
-      },
-    )
-  where
-    below : (y q : ℚ) → y ≤ℚ q → q <ℚ b → y <ℚ b
-    below y q l m = linear_lt (y ∷ q ∷ b ∷ []) (le l ∷ lt m ∷ []) (search reading_of) tt
-
--- The same for the room on a link.
-part_of_room : (capacity : Option ℚ) (x t b : ℚ) → 0ℚ <ℚ b → HasRoom capacity x t → (a : ℚ) × (0ℚ <ℚ a) × (a <ℚ b) × IsAtMost capacity (x +ℚ a) t
-part_of_room None x t b h r = let w : (q : ℚ) × (0ℚ <ℚ q) × (q <ℚ b) = half b h in (w.0, w.1, w.2, λ c e. absurd (none-some c e))
-part_of_room (Some c) x t b h r =
-    let w : (a : ℚ) × IsPart b (c *ℚ t -ℚ x) a = part_of b (c *ℚ t -ℚ x) h (gap (r c refl)) in
-    (w.0, w.1.above, w.1.less, λ d e. subst (λ (k : ℚ). x +ℚ w.0 ≤ℚ k *ℚ t) (same_Some c d e) (within w.0 w.1.most))
-  where
-    gap : x <ℚ c *ℚ t → 0ℚ <ℚ c *ℚ t -ℚ x
-    gap l = linear_lt (x ∷ c ∷ t ∷ []) (lt l ∷ []) (search reading_of) tt
-
-    within : (a : ℚ) → a ≤ℚ c *ℚ t -ℚ x → x +ℚ a ≤ℚ c *ℚ t
-    within a l = linear_le (x ∷ c ∷ t ∷ a ∷ []) (le l ∷ []) (search reading_of) tt
-
--- ---- numbers
 left_over : (s t a : ℚ) → t ≡ s -ℚ a → a <ℚ s → 0ℚ <ℚ t
 left_over s t a e h = linear_lt (s ∷ t ∷ a ∷ []) (eq e ∷ lt h ∷ []) (search reading_of) tt
 
@@ -117,32 +74,39 @@ module _ (net : Network) (cap : Link → Option ℚ) (rate floor : ℚ) (Idle Fr
 
     forth : HasRoom (cap link) (flows e) (levels link.head) → HasSpare net rate flows link.tail → (a : ℚ) × Moves a link.tail link.head a
     forth room s =
-        let part : (a : ℚ) × (0ℚ <ℚ a) × (a <ℚ spare net rate flows link.tail) × IsAtMost (cap link) (flows e +ℚ a) (levels link.head)
-        = part_of_room (cap link) (flows e) (levels link.head) (spare net rate flows link.tail) s.1 room in (
-          part.0,
+        let small : Small (λ h. (h <ℚ spare net rate flows link.tail) × IsAtMost (cap link) (flows e +ℚ h) (levels link.head))
+        = Small-both (λ h. h <ℚ spare net rate flows link.tail) (λ h. IsAtMost (cap link) (flows e +ℚ h) (levels link.head))
+        (Small-below (spare net rate flows link.tail) s.1) (Small-room (cap link) (flows e) (levels link.head) room) in
+        let a : ℚ = small.bound in
+        let at_most : (a <ℚ spare net rate flows link.tail) × IsAtMost (cap link) (flows e +ℚ a) (levels link.head) = Small-bound _ small in (
+          a,
           record {
-            above = part.1;
-            less = part.2;
-            no_negative = more_flow (flows e) part.0 (serves.fits e link p free).no_negative part.1;
-            most = part.3;
-            gives = spare-tail net rate flows e link p part.0 apart;
-            gains = spare-head net rate flows e link p part.0 apart;
-            others = λ v t h. spare-else net rate flows e link p part.0 v h t;
+            above = small.positive;
+            less = at_most.0;
+            no_negative = more_flow (flows e) a (serves.fits e link p free).no_negative small.positive;
+            most = at_most.1;
+            gives = spare-tail net rate flows e link p a apart;
+            gains = spare-head net rate flows e link p a apart;
+            others = λ v t h. spare-else net rate flows e link p a v h t;
           },
         )
 
     back : 0ℚ <ℚ flows e → HasSpare net rate flows link.head → (a : ℚ) × Moves (0ℚ -ℚ a) link.head link.tail a
     back some s =
-        let part : (a : ℚ) × IsPart (spare net rate flows link.head) (flows e) a = part_of (spare net rate flows link.head) (flows e) s.1 some in (
-          part.0,
+        let small : Small (λ h. (h <ℚ spare net rate flows link.head) × (h ≤ℚ flows e))
+        = Small-both (λ h. h <ℚ spare net rate flows link.head) (λ h. h ≤ℚ flows e)
+        (Small-below (spare net rate flows link.head) s.1) (Small-at_most (flows e) some) in
+        let a : ℚ = small.bound in
+        let at_most : (a <ℚ spare net rate flows link.head) × (a ≤ℚ flows e) = Small-bound _ small in (
+          a,
           record {
-            above = part.1.above;
-            less = part.1.less;
-            no_negative = nn_less_part (flows e) part.0 part.1.most;
-            most = λ c k. less_some_le (flows e) part.0 _ part.1.above ((serves.fits e link p free).most c k);
-            gives = plus_less _ _ part.0 (spare-head net rate flows e link p (0ℚ -ℚ part.0) apart);
-            gains = less_less _ _ part.0 (spare-tail net rate flows e link p (0ℚ -ℚ part.0) apart);
-            others = λ v h t. spare-else net rate flows e link p (0ℚ -ℚ part.0) v h t;
+            above = small.positive;
+            less = at_most.0;
+            no_negative = nn_less_part (flows e) a at_most.1;
+            most = λ c k. less_some_le (flows e) a _ small.positive ((serves.fits e link p free).most c k);
+            gives = plus_less _ _ a (spare-head net rate flows e link p (0ℚ -ℚ a) apart);
+            gains = less_less _ _ a (spare-tail net rate flows e link p (0ℚ -ℚ a) apart);
+            others = λ v h t. spare-else net rate flows e link p (0ℚ -ℚ a) v h t;
           },
         )
 

@@ -4,7 +4,7 @@ use Rattle.nf_complete_laws.proofs.Common.{ℚ, 0ℚ, ◌+ℚ◌, ◌-ℚ◌, �
 use Rattle.nf_complete_laws.proofs.Common.{linear_le, linear_lt, Link, Network, IsLink, IsNetwork, sum_in, sum_out, IsPositive, sum_in-same, sum_in-line, sum_in-order}
 use Rattle.nf_complete_laws.proofs.Common.{sum_out-order, sum_to, before_or_at, sum_le, sum_lt_le, sum_le_lt, Fits, demand}
 use Rattle.nf_complete_laws.proofs.Deciding.{Decided}
-use Rattle.nf_complete_laws.proofs.Small.{Small, Small-map, Small-both, Small-when, Small-at_most, Small-apart, Small-times, Small-to, Small-links}
+use Rattle.nf_complete_laws.proofs.Small.{Small, Small-bound, Small-map, Small-both, Small-when, Small-at_most, Small-apart, Small-times, Small-to}
 use Rattle.nf_complete_laws.proofs.LinkSums.{sum_in-not_negative}
 use Rattle.nf_complete_laws.proofs.Fitting.{IsAtMost, IsFilled, HasRoom, filled_or_room, capped, capped-le, capped-same, capped-none, capped-near, Fits-capped, fits_used, ordered-low}
 use Rattle.nf_complete_laws.proofs.Spare.{spare, HasSpare, spare_or_not}
@@ -86,11 +86,8 @@ module _ (net : Network) (cap : Link → Option ℚ) (rate floor : ℚ) (Idle Fr
   capacity_at-not_negative e link p = subst (λ (o : Option Link). 0ℚ ≤ℚ capacity_by o) (sym p) (unwrapped-not_negative (cap link) (positive e link p))
 
   -- ---- all sufficiently small numbers satisfy the conditions
-  abbrev Rising : ℚ → Type 0
-  Rising h = (e : ℕ) (link : Link) → IsLink net e link → levels link.tail <ℚ levels link.head → h ≤ℚ levels link.head -ℚ levels link.tail
-
-  abbrev Falling : ℚ → Type 0
-  Falling h = (e : ℕ) (link : Link) → IsLink net e link → levels link.head <ℚ levels link.tail → h ≤ℚ levels link.tail -ℚ levels link.head
+  abbrev Apart : ℚ → Type 0
+  Apart h = (u : ℕ) → u < net.nodes → (v : ℕ) → v < net.nodes → levels u <ℚ levels v → h ≤ℚ levels v -ℚ levels u
 
   abbrev Above : ℚ → Type 0
   Above h = (v : ℕ) → v < net.nodes → Spares v → h ≤ℚ levels v -ℚ floor
@@ -99,20 +96,13 @@ module _ (net : Network) (cap : Link → Option ℚ) (rate floor : ℚ) (Idle Fr
   Paid h = (v : ℕ) → v < net.nodes → Spares v → sum_in net.links capacity_at v *ℚ h ≤ℚ spare net rate flows v
 
   record IsSmall (h : ℚ) : Type 0 where
-    rising : Rising h
-    falling : Falling h
+    apart : Apart h
     above : Above h
     paid : Paid h
 
-  rising : Small Rising
-  rising =
-      Small-links net.links (λ e link h. levels link.tail <ℚ levels link.head → h ≤ℚ levels link.head -ℚ levels link.tail)
-      (λ e link. Small-apart (levels link.tail) (levels link.head))
-
-  falling : Small Falling
-  falling =
-      Small-links net.links (λ e link h. levels link.head <ℚ levels link.tail → h ≤ℚ levels link.tail -ℚ levels link.head)
-      (λ e link. Small-apart (levels link.head) (levels link.tail))
+  apart : Small Apart
+  apart = Small-to net.nodes (λ u h. (v : ℕ) → v < net.nodes → levels u <ℚ levels v → h ≤ℚ levels v -ℚ levels u) (λ u _.
+      Small-to net.nodes (λ v h. levels u <ℚ levels v → h ≤ℚ levels v -ℚ levels u) (λ v _. Small-apart (levels u) (levels v)))
 
   above : Small Above
   above = Small-to net.nodes (λ v h. Spares v → h ≤ℚ levels v -ℚ floor)
@@ -124,9 +114,8 @@ module _ (net : Network) (cap : Link → Option ℚ) (rate floor : ℚ) (Idle Fr
       (λ s. Small-times (spare net rate flows v) (sum_in net.links capacity_at v) s.1 (sum_in-not_negative net.links capacity_at v capacity_at-not_negative)))
 
   small : Small IsSmall
-  small = Small-map (λ h. (Rising h × Falling h) × (Above h × Paid h)) IsSmall
-      (λ h w. record { rising = w.0.0; falling = w.0.1; above = w.1.0; paid = w.1.1 })
-      (Small-both (λ h. Rising h × Falling h) (λ h. Above h × Paid h) (Small-both Rising Falling rising falling) (Small-both Above Paid above paid))
+  small = Small-map (λ h. Apart h × (Above h × Paid h)) IsSmall (λ h w. record { apart = w.0; above = w.1.0; paid = w.1.1 })
+      (Small-both Apart (λ h. Above h × Paid h) apart (Small-both Above Paid above paid))
 
   -- ---- levels lowered by h
   module _ (h : ℚ) (n : 0ℚ ≤ℚ h) (is_small : IsSmall h) where
@@ -145,9 +134,6 @@ module _ (net : Network) (cap : Link → Option ℚ) (rate floor : ℚ) (Idle Fr
 
     lowered-le : (v : ℕ) → lowered v ≤ℚ levels v
     lowered-le v = low_by-le (spare_or_not net rate flows v) h (levels v) n
-
-    lowered-near : (v : ℕ) → levels v -ℚ h ≤ℚ lowered v
-    lowered-near v = low_by-near (spare_or_not net rate flows v) h (levels v) n
 
     lowered-is : (v : ℕ) → Spares v → lowered v ≡ levels v -ℚ h
     lowered-is v s = low_by-is (spare_or_not net rate flows v) h (levels v) s
@@ -171,28 +157,21 @@ module _ (net : Network) (cap : Link → Option ℚ) (rate floor : ℚ) (Idle Fr
     lowered-not_negative v l = ≤ℚ_trans _ _ _ floor_nn (lowered-keeps_up v l)
 
     -- Levels keep their order along a link with flow, and against a link with room.
+    keeps_order : (u v : ℕ) → u < net.nodes → v < net.nodes → levels u ≤ℚ levels v → (levels u ≡ levels v → Spares v → Spares u) → lowered u ≤ℚ lowered v
+    keeps_order u v l m low both = ordered-low (levels u) (levels v) (lowered u) (lowered v) h low (lowered-le u) (⊎_elim
+        (λ (w : Spares v × (lowered v ≡ levels v -ℚ h)). inr (w.1, (is_small.apart u l v m, λ same. lowered-is u (both same w.0))))
+        (λ (w : (Spares v → ⊥) × (lowered v ≡ levels v)). inl w.1)
+        (lowered-cases v))
+
     rises : (e : ℕ) (link : Link) → IsLink net e link → Free e link → 0ℚ <ℚ flows e → lowered link.tail ≤ℚ lowered link.head
-    rises e link p m some = ordered-low (levels link.tail) (levels link.head) (lowered link.tail) (lowered link.head) h
-        (fits_used (cap link) _ _ _ (serves.fits e link p m) some) (lowered-le link.tail)
-        (⊎_elim
-        (λ (w : Spares link.head × (lowered link.head ≡ levels link.head -ℚ h)).
-        inr (w.1, (is_small.rising e link p, λ same. lowered-is link.tail (closed.back e link p m (sym same) some w.0))))
-        (λ (w : (Spares link.head → ⊥) × (lowered link.head ≡ levels link.head)). inl w.1)
-        (lowered-cases link.head))
+    rises e link p m some = keeps_order link.tail link.head (good.tails e link p) (good.heads e link p)
+        (fits_used (cap link) _ _ _ (serves.fits e link p m) some) (λ same s. closed.back e link p m (sym same) some s)
 
     falls : (e : ℕ) (link : Link) → IsLink net e link → Free e link → HasRoom (cap link) (flows e) (levels link.head) → lowered link.head ≤ℚ lowered link.tail
-    falls e link p m room = ordered-low (levels link.head) (levels link.tail) (lowered link.head) (lowered link.tail) h low (lowered-le link.head)
-        (⊎_elim
-        (λ (w : Spares link.tail × (lowered link.tail ≡ levels link.tail -ℚ h)).
-        inr (w.1, (is_small.falling e link p, λ same. lowered-is link.head (closed.forth e link p m same room w.0))))
-        (λ (w : (Spares link.tail → ⊥) × (lowered link.tail ≡ levels link.tail)). inl w.1)
-        (lowered-cases link.tail))
-      where
-        low : levels link.head ≤ℚ levels link.tail
-        low = ⊎_elim
-            (λ (k : levels link.head ≤ℚ levels link.tail). k)
-            (λ (f : IsFilled (cap link) (flows e) (levels link.head)). absurd (not_both_ℚ _ _ (room f.0 f.1) f.2))
-            (serves.fits e link p m).upper
+    falls e link p m room = keeps_order link.head link.tail (good.heads e link p) (good.tails e link p) (⊎_elim
+        (λ (k : levels link.head ≤ℚ levels link.tail). k)
+        (λ (f : IsFilled (cap link) (flows e) (levels link.head)). absurd (not_both_ℚ _ _ (room f.0 f.1) f.2))
+        (serves.fits e link p m).upper) (λ same s. closed.forth e link p m same room s)
 
     others : (e : ℕ) (link : Link) → IsLink net e link → Free e link → Fits (cap link) (new e) (lowered link.tail) (lowered link.head)
     others e link p m = subst (λ (x : ℚ). Fits (cap link) x (lowered link.tail) (lowered link.head)) (sym (new-is e link p))
@@ -220,7 +199,7 @@ module _ (net : Network) (cap : Link → Option ℚ) (rate floor : ℚ) (Idle Fr
     new-near : (e : ℕ) (link : Link) → IsLink net e link → flows e ≤ℚ new e +ℚ capacity_at e *ℚ h
     new-near e link p = subst (λ (o : Option Link). flows e ≤ℚ lowered_by o (flows e) +ℚ capacity_by o *ℚ h) (sym p)
         (capped-near (cap link) (flows e) (levels link.head) (lowered link.head) h (positive e link p) n
-        (at_most e link p) (lowered-near link.head))
+        (at_most e link p) (low_by-near (spare_or_not net rate flows link.head) h (levels link.head) n))
 
     less_out : (v : ℕ) → sum_out net.links new v ≤ℚ sum_out net.links flows v
     less_out v = sum_out-order net.links new flows v (λ e link p _. new-le e link p)
@@ -256,7 +235,7 @@ module _ (net : Network) (cap : Link → Option ℚ) (rate floor : ℚ) (Idle Fr
   lowered_some =
       let h : ℚ = small.bound in
       let n : 0ℚ ≤ℚ h = ≤ℚ_of_lt _ _ small.positive in
-      let is_small : IsSmall h = small.holds h n (≤ℚ_refl h) in
+      let is_small : IsSmall h = Small-bound IsSmall small in
       record {
         new_flows = new h n is_small;
         new_levels = lowered h n is_small;

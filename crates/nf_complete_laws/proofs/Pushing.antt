@@ -3,7 +3,8 @@ use Rattle.std.proofs.Common.{◌≡◌, ◌≢◌, ℕ, ◌<◌, [], ◌∷◌,
 use Rattle.nf_complete_laws.proofs.Common.{ℚ, 0ℚ, 1ℚ, ◌+ℚ◌, ◌-ℚ◌, ◌*ℚ◌, ◌≤ℚ◌, reading_of, ≤ℚ_of_same, eq, eq_times, linear_eq, moved_by_zero, same_differences}
 use Rattle.nf_complete_laws.proofs.Common.{Link, Network, IsLink, sum_in, sum_out, IsLink-unique, sum_in-line, sum_out-line}
 use Rattle.nf_complete_laws.proofs.Common.{only_at, only_at-here, only_at-else, Fits, demand}
-use Rattle.nf_complete_laws.proofs.LinkSums.{at_place, at_place-cases, sum_in-place, sum_out-place}
+use Rattle.nf_complete_laws.proofs.Trails.{sum_in-only, sum_out-only}
+use Rattle.nf_complete_laws.proofs.Bare.{same_node}
 use Rattle.nf_complete_laws.proofs.Fitting.{IsAtMost}
 use Rattle.nf_complete_laws.proofs.Spare.{spare, enough_of_spare}
 use Rattle.nf_complete_laws.proofs.Serving.{Serves}
@@ -26,19 +27,23 @@ none_less_none = linear_eq [] [] (search reading_of) tt tt
 
 module _ (net : Network) (rate : ℚ) (flows : ℕ → ℚ) (e : ℕ) (link : Link) (p : IsLink net e link) (d : ℚ) where
   abbrev pub pushed : ℕ → ℚ
-  pushed k = flows k +ℚ at_place e 1ℚ k *ℚ d
+  pushed k = flows k +ℚ only_at e 1ℚ k *ℚ d
 
   pub pushed-cases : (k : ℕ) → ((k ≡ e) × (pushed k ≡ flows e +ℚ d)) ⊎ ((k ≢ e) × (pushed k ≡ flows k))
   pushed-cases k = ⊎_elim
-      (λ (w : (k ≡ e) × (at_place e 1ℚ k ≡ 1ℚ)). inl (w.0, more_by (flows k) _ (at_place e 1ℚ k) d w.1 refl ∙ ap (λ (j : ℕ). flows j +ℚ d) w.0))
-      (λ (w : (k ≢ e) × (at_place e 1ℚ k ≡ 0ℚ)). inr (w.0, moved_by_zero (flows k) _ (at_place e 1ℚ k) d w.1 refl))
-      (at_place-cases e 1ℚ k)
+      (λ (h : k ≡ e). inl (
+        h,
+        more_by (flows k) _ (only_at e 1ℚ k) d (subst (λ (j : ℕ). only_at e 1ℚ j ≡ 1ℚ) (sym h) (only_at-here e 1ℚ)) refl
+            ∙ ap (λ (j : ℕ). flows j +ℚ d) h,
+      ))
+      (λ (n : k ≢ e). inr (n, moved_by_zero (flows k) _ (only_at e 1ℚ k) d (only_at-else e 1ℚ k (λ h. n (sym h))) refl))
+      (same_node k e)
 
   pub in-pushed : (v : ℕ) → sum_in net.links pushed v ≡ sum_in net.links flows v +ℚ only_at link.head 1ℚ v *ℚ d
-  in-pushed v = sum_in-line net.links flows (at_place e 1ℚ) d v ∙ ap (λ (z : ℚ). sum_in net.links flows v +ℚ z *ℚ d) (sum_in-place net.links e link 1ℚ v p)
+  in-pushed v = sum_in-line net.links flows (only_at e 1ℚ) d v ∙ ap (λ (z : ℚ). sum_in net.links flows v +ℚ z *ℚ d) (sum_in-only net.links e link 1ℚ v p)
 
-  pub out-pushed : (v : ℕ) → sum_out net.links pushed v ≡ sum_out net.links flows v +ℚ only_at link.tail 1ℚ v *ℚ d
-  out-pushed v = sum_out-line net.links flows (at_place e 1ℚ) d v ∙ ap (λ (z : ℚ). sum_out net.links flows v +ℚ z *ℚ d) (sum_out-place net.links e link 1ℚ v p)
+  out-pushed : (v : ℕ) → sum_out net.links pushed v ≡ sum_out net.links flows v +ℚ only_at link.tail 1ℚ v *ℚ d
+  out-pushed v = sum_out-line net.links flows (only_at e 1ℚ) d v ∙ ap (λ (z : ℚ). sum_out net.links flows v +ℚ z *ℚ d) (sum_out-only net.links e link 1ℚ v p)
 
   pub out-here : (v : ℕ) → link.tail ≡ v → sum_out net.links pushed v ≡ sum_out net.links flows v +ℚ d
   out-here v h = more_by _ _ (only_at link.tail 1ℚ v) d (subst (λ (k : ℕ). only_at link.tail 1ℚ k ≡ 1ℚ) h (only_at-here link.tail 1ℚ)) (out-pushed v)

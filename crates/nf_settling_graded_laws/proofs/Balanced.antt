@@ -1,8 +1,8 @@
 -- A least supply whose nodes with excess are closed has no excess. So it is a graded flow, for bounded capacities.
 use Rattle.std.proofs.Common.{◌≡◌, ◌≢◌, ℕ, ◌<◌, [], ◌∷◌, inl, ⊎_elim, Option, sym, ap, subst, ◌∙◌}
 use Rattle.nf_settling_graded_laws.proofs.Common.{ℚ, 0ℚ, 1ℚ, ◌+ℚ◌, ◌-ℚ◌, ◌*ℚ◌, ◌≤ℚ◌, ◌<ℚ◌, reading_of, ≤ℚ_of_same, ≤ℚ_of_lt, ≤ℚ_antisymm, lt_or_le_ℚ}
-use Rattle.nf_settling_graded_laws.proofs.Common.{not_both_ℚ, ≤ℚ_refl, ≤ℚ_trans, lt, eq, eq_times, linear_le, linear_lt, nn_of_one, Link, Network, IsLink}
-use Rattle.nf_settling_graded_laws.proofs.Common.{IsNetwork, sum_in, IsPositive, HasIn, sum_to, sum_to-nn, only_at, only_at-here, only_at-else, out_less_in, Fits}
+use Rattle.nf_settling_graded_laws.proofs.Common.{not_both_ℚ, ≤ℚ_refl, ≤ℚ_trans, lt, eq, eq_times, le_times, linear_le, linear_lt, nn_of_one, Link, Network, IsLink}
+use Rattle.nf_settling_graded_laws.proofs.Common.{IsNetwork, sum_in, IsPositive, HasIn, sum_to, sum_to-nn, only_at-here, out_less_in, Fits}
 use Rattle.nf_settling_graded_laws.proofs.Common.{same_node, not_so, fits_used, IsAtMost-none, HasSpare, sum_in-not_negative, pushed, in-pushed}
 use Rattle.nf_complete_laws.proofs.Affine.{Affine-sum_to, Affine-sum_in}
 use Rattle.nf_complete_laws.proofs.Assigned.{flows_of, flow, serves_described, IsLeast, least_over}
@@ -11,7 +11,7 @@ use Rattle.nf_complete_laws.proofs.Lowering.{sum_to-lt, Lowered, lowered_some}
 use Rattle.nf_complete_laws.proofs.NoExcess.{inner-kept, source-kept}
 use Rattle.nf_complete_laws.proofs.Serving.{IsClosed}
 use Rattle.nf_complete_laws.proofs.Spare.{spare-brings}
-use Rattle.nf_settling_graded_laws.proofs.Supplies.{IsOpen, open_or_not, Open, Shut, IsSupply, flow_nn, flow_most, flow_open}
+use Rattle.nf_settling_graded_laws.proofs.Supplies.{only_at-nn, IsOpen, open_or_not, Open, Shut, IsSupply, flow_nn, flow_most, flow_open}
 
 -- A static flow that fits the levels, for these capacities.
 pub record IsGradedBy (net : Network) (cap : Link → Option ℚ) (rate : ℚ) (flows levels : ℕ → ℚ) : Type 0 where
@@ -28,6 +28,9 @@ idle_fits capacity x s t positive e n h = record {
   used = inl (≤ℚ_of_same _ _ e);
   upper = inl h;
 }
+
+one_nn : 0ℚ ≤ℚ 1ℚ
+one_nn = linear_le [] [] (search reading_of) tt
 
 module _ (net : Network) (cap : Link → Option ℚ) (rate : ℚ) (good : IsNetwork net)
     (positive : (e : ℕ) (link : Link) → IsLink net e link → IsPositive (cap link)) where
@@ -85,22 +88,16 @@ module _ (net : Network) (cap : Link → Option ℚ) (rate : ℚ) (good : IsNetw
         abbrev new : ℕ → ℚ
         new = pushed net rate flows e link p (0ℚ -ℚ a)
 
-        less_inflow : sum_to net.nodes (sum_in net.links new) <ℚ sum_to net.nodes (sum_in net.links flows)
-        less_inflow = sum_to-lt net.nodes (sum_in net.links new) (sum_in net.links flows) (λ v _. no_more v) link.head (good.heads e link p)
-            (falls (sum_in net.links flows link.head) _ _ a (only_at-here link.head 1ℚ) (in-pushed net rate flows e link p (0ℚ -ℚ a) link.head) less.1)
+        less_inflow : inflow new <ℚ inflow flows
+        less_inflow = sum_to-lt net.nodes (sum_in net.links new) (sum_in net.links flows)
+            (λ v _. no_more _ _ _ a (only_at-nn link.head 1ℚ one_nn v) (in-pushed net rate flows e link p (0ℚ -ℚ a) v) (≤ℚ_of_lt _ _ less.1))
+            link.head (good.heads e link p) (falls _ _ _ a (only_at-here link.head 1ℚ) (in-pushed net rate flows e link p (0ℚ -ℚ a) link.head) less.1)
           where
             falls : (x y b a : ℚ) → b ≡ 1ℚ → y ≡ x +ℚ b *ℚ (0ℚ -ℚ a) → 0ℚ <ℚ a → y <ℚ x
             falls x y b a e f h = linear_lt (x ∷ y ∷ b ∷ a ∷ []) (eq_times a e ∷ eq f ∷ lt h ∷ []) (search reading_of) tt
 
-            same : (x y b a : ℚ) → b ≡ 0ℚ → y ≡ x +ℚ b *ℚ (0ℚ -ℚ a) → y ≤ℚ x
-            same x y b a e f = linear_le (x ∷ y ∷ b ∷ a ∷ []) (eq_times a e ∷ eq f ∷ []) (search reading_of) tt
-
-            no_more : (v : ℕ) → sum_in net.links new v ≤ℚ sum_in net.links flows v
-            no_more v = ⊎_elim
-                (λ (k : link.head ≡ v). ≤ℚ_of_lt _ _ (falls (sum_in net.links flows v) _ _ a
-                (subst (λ (j : ℕ). only_at link.head 1ℚ j ≡ 1ℚ) k (only_at-here link.head 1ℚ)) (in-pushed net rate flows e link p (0ℚ -ℚ a) v) less.1))
-                (λ (k : link.head ≢ v). same (sum_in net.links flows v) _ _ a (only_at-else link.head 1ℚ v k) (in-pushed net rate flows e link p (0ℚ -ℚ a) v))
-                (same_node link.head v)
+            no_more : (x y b a : ℚ) → 0ℚ ≤ℚ b → y ≡ x +ℚ b *ℚ (0ℚ -ℚ a) → 0ℚ ≤ℚ a → y ≤ℚ x
+            no_more x y b a n f h = linear_le (x ∷ y ∷ b ∷ a ∷ []) (le_times n h ∷ eq f ∷ []) (search reading_of) tt
 
         too_low : ⊥
         too_low = not_both_ℚ _ _ less_inflow (least.flows_least new levels less.2 (≤ℚ_refl _))
@@ -134,7 +131,7 @@ module _ (net : Network) (cap : Link → Option ℚ) (rate : ℚ) (good : IsNetw
         → (v : ℕ) → v < net.nodes → HasSpare net rate flows v → ⊥
     no_spare flows levels least_flows least f closed v l s =
         let low : Lowered net cap rate 1ℚ (Shut net) (Open net) flows levels
-        = lowered_some net cap rate 1ℚ (Shut net) (Open net) flows levels good positive (linear_le [] [] (search reading_of) tt) f.0
+        = lowered_some net cap rate 1ℚ (Shut net) (Open net) flows levels good positive one_nn f.0
         (flow_most net cap rate flows levels good positive f.0) closed (λ v _ s. f.1 v s) in
         not_both_ℚ _ _ (low.less v l s) (least.slopes_least low.new_flows low.new_levels low.serves)
 

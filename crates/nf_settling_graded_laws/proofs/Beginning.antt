@@ -14,7 +14,7 @@ use Rattle.nf_complete_laws.proofs.NoExcess.{demand-else, demand-sink}
 use Rattle.nf_complete_laws.proofs.Pushing.{pushed-link}
 use Rattle.nf_settling_laws.specs.Excess.{link_sum}
 use Rattle.nf_settling_laws.proofs.Terms.{link_sum-one, link_sum-not_negative}
-use Rattle.nf_settling_graded_laws.proofs.Supplies.{IsOpen, open_or_not, IsSupply}
+use Rattle.nf_settling_graded_laws.proofs.Supplies.{only_at-nn, IsOpen, open_or_not, IsSupply}
 
 -- ---- the rate, carried from a node to the sink along a walk
 -- With the rate added at the node v, no node but the source lacks anything.
@@ -24,12 +24,6 @@ pub record IsRoute (net : Network) (rate : ℚ) (v : ℕ) (flows : ℕ → ℚ) 
   pub enough : (w : ℕ) → w ≢ net.source → 0ℚ ≤ℚ spare net rate flows w +ℚ only_at v rate w
 
 module _ (net : Network) (good : IsNetwork net) (rate : ℚ) (nn : 0ℚ ≤ℚ rate) where
-  only-nn : (v w : ℕ) → 0ℚ ≤ℚ only_at v rate w
-  only-nn v w = ⊎_elim
-      (λ (e : v ≡ w). subst (λ (k : ℕ). 0ℚ ≤ℚ only_at v rate k) e (subst (λ (z : ℚ). 0ℚ ≤ℚ z) (sym (only_at-here v rate)) nn))
-      (λ (n : v ≢ w). ≤ℚ_of_same _ _ (sym (only_at-else v rate w n)))
-      (same_node v w)
-
   demand-is : (w : ℕ) → demand net rate w ≡ only_at net.sink rate w
   demand-is w = ⊎_elim
       (λ (k : w ≡ net.sink). subst (λ (j : ℕ). demand net rate j ≡ only_at net.sink rate j) (sym k) (demand-sink net rate ∙ sym (only_at-here net.sink rate)))
@@ -56,7 +50,7 @@ module _ (net : Network) (good : IsNetwork net) (rate : ℚ) (nn : 0ℚ ≤ℚ r
       enough = λ w other. ⊎_elim
           (λ (k : link.head ≡ link.tail). subst (λ (j : ℕ). 0ℚ ≤ℚ spare net rate flows w +ℚ only_at j rate w) k (r.enough w other))
           (λ (k : link.head ≢ link.tail). ⊎_elim
-          (λ (m : link.head ≡ net.source). from_source _ _ _ (only_at-else link.head rate w (λ j. other (sym j ∙ m))) (r.enough w other) (only-nn link.tail w))
+          (λ (m : link.head ≡ net.source). from_source _ _ _ (only_at-else link.head rate w (λ j. other (sym j ∙ m))) (r.enough w other) (only_at-nn link.tail rate nn w))
           (λ (m : link.head ≢ net.source). absurd (n (k, m)))
           (same_node link.head net.source))
           (same_node link.head link.tail);
@@ -78,13 +72,13 @@ module _ (net : Network) (good : IsNetwork net) (rate : ℚ) (nn : 0ℚ ≤ℚ r
       enough = λ w other. ⊎_elim
           (λ (k : w ≡ link.head). subst (λ (j : ℕ). 0ℚ ≤ℚ spare net rate new j +ℚ only_at link.tail rate j) (sym k)
           (at_head _ _ _ _ (spare-head net rate flows e link p rate is_open.0) (only_at-here link.head rate)
-          (r.enough link.head (λ m. other (k ∙ m))) (only-nn link.tail link.head)))
+          (r.enough link.head (λ m. other (k ∙ m))) (only_at-nn link.tail rate nn link.head)))
           (λ (k : w ≢ link.head). ⊎_elim
           (λ (m : w ≡ link.tail). subst (λ (j : ℕ). 0ℚ ≤ℚ spare net rate new j +ℚ only_at link.tail rate j) (sym m)
           (at_tail _ _ _ _ (spare-tail net rate flows e link p rate is_open.0) (only_at-else link.head rate link.tail is_open.0)
           (only_at-here link.tail rate) (r.enough link.tail (λ j. other (m ∙ j)))))
           (λ (m : w ≢ link.tail). elsewhere _ _ _ _ (spare-else net rate flows e link p rate w k m) (only_at-else link.head rate w (λ j. k (sym j)))
-          (r.enough w other) (only-nn link.tail w))
+          (r.enough w other) (only_at-nn link.tail rate nn w))
           (same_node w link.tail))
           (same_node w link.head);
     }
