@@ -1,17 +1,12 @@
 -- An oversupply without excess at any node is a thin flow.
-use Rattle.std.proofs.Common.{◌≡◌, ◌≢◌, ℕ, ◌<◌, ◌≤◌, if◌then◌else◌, List, [], ◌∷◌, length, ◌⊎◌, inl, inr, ⊎_elim, Bool, true, false, eqb, Option, Some, None, slice_get, sym, ap, subst, refl, ◌∙◌}
-use Rattle.nf_complete_laws.proofs.Common.{eqb_tells, cases_lt, slice_get_within, ℚ, 0ℚ, ◌+ℚ◌, ◌-ℚ◌, ◌≤ℚ◌, ◌<ℚ◌, reading_of, ≤ℚ_of_same, lt_or_le_ℚ, le, eq}
-use Rattle.nf_complete_laws.proofs.Common.{linear_eq, number_at, Has, Link, Network, IsLink, IsNetwork, sum_in, sum_out, Sets, surplus, exit_slope}
-use Rattle.nf_complete_laws.proofs.Common.{exit_slope_at, Enters, IsThinFlow, IsPositive-link, sum_in-same, sum_out-same, out_less_in, AreSets, entry_beyond}
-use Rattle.nf_complete_laws.proofs.Common.{flag, flag-cases, exit_resetting, Fits, demand, IsOversupply}
-use Rattle.nf_thin_laws.proofs.Cuts.{EndsBelow-net}
-use Rattle.nf_model_laws.proofs.Totals.{all_zero, two_cancel}
+use Rattle.std.proofs.Common.{◌≡◌, ◌≢◌, ℕ, ◌<◌, ◌≤◌, List, [], ◌∷◌, length, ◌⊎◌, inl, inr, ⊎_elim, Bool, true, false, Option, Some, None, slice_get, sym, ap, subst, refl, ◌∙◌}
+use Rattle.nf_complete_laws.proofs.Common.{cases_lt, slice_get_within, ℚ, 0ℚ, ◌-ℚ◌, ◌≤ℚ◌, ◌<ℚ◌, reading_of, ≤ℚ_of_same, eq, linear_eq, number_at, Has, Link, Network, IsLink}
+use Rattle.nf_complete_laws.proofs.Common.{IsNetwork, Sets, surplus, exit_slope, exit_slope_at, Enters, IsThinFlow, IsPositive-link, sum_in-same, sum_out-same}
+use Rattle.nf_complete_laws.proofs.Common.{out_less_in, AreSets, entry_beyond, flag, flag-cases, exit_resetting, Fits, IsOversupply}
 use Rattle.nf_complete_laws.proofs.Fitting.{fits_exit, fits_least, fits_used}
 use Rattle.nf_complete_laws.proofs.Numbers.{numbers, length-numbers, number_at-numbers, number_at-past}
-use Rattle.nf_complete_laws.proofs.Spare.{spare, HasSpare, spare_of_enough, not_negative}
-
-pub no_spare : (i o d : ℚ) → 0ℚ ≤ℚ i -ℚ (o +ℚ d) → i -ℚ (o +ℚ d) ≤ℚ 0ℚ → o -ℚ i ≡ 0ℚ -ℚ d
-no_spare i o d h k = linear_eq (i ∷ o ∷ d ∷ []) (le h ∷ le k ∷ []) (search reading_of) tt tt
+use Rattle.nf_complete_laws.proofs.Spare.{HasSpare, not_negative}
+use Rattle.nf_complete_laws.proofs.NoExcess.{inner-kept, source-kept}
 
 module _ (net : Network) (sets : Sets) (rate : ℚ) (flows slopes : ℕ → ℚ) (good : IsNetwork net) (are : AreSets net sets) (over : IsOversupply net sets rate flows slopes)
     (level : (v : ℕ) → v < net.nodes → HasSpare net rate flows v → ⊥) where
@@ -35,39 +30,6 @@ module _ (net : Network) (sets : Sets) (rate : ℚ) (flows slopes : ℕ → ℚ)
     where
       same : {a b c d : ℚ} → a ≡ b → c ≡ d → a -ℚ c ≡ b -ℚ d
       same {a = a} {b = b} {c = c} {d = d} e f = linear_eq (a ∷ b ∷ c ∷ d ∷ []) (eq e ∷ eq f ∷ []) (search reading_of) tt tt
-
-  balance : (v : ℕ) → v < net.nodes → v ≢ net.source → out_less_in net.links flows v ≡ 0ℚ -ℚ demand net rate v
-  balance v h other = no_spare (sum_in net.links flows v) (sum_out net.links flows v) (demand net rate v) (spare_of_enough _ _ _ (over.enough v h other)) (⊎_elim
-      (λ (k : 0ℚ <ℚ spare net rate flows v). absurd (level v h (other, k)))
-      (λ (k : spare net rate flows v ≤ℚ 0ℚ). k)
-      (lt_or_le_ℚ 0ℚ (spare net rate flows v)))
-
-  demand_else : (v : ℕ) → v ≢ net.sink → demand net rate v ≡ 0ℚ
-  demand_else v other = ⊎_elim
-      (λ (w : (eqb v net.sink ≡ true) × (v ≡ net.sink)). absurd (other w.1))
-      (λ (w : (eqb v net.sink ≡ false) × (v ≢ net.sink)). ap (λ (b : Bool). if b then rate else 0ℚ) w.0)
-      (eqb_tells v net.sink)
-
-  demand_sink : demand net rate net.sink ≡ rate
-  demand_sink = ⊎_elim
-      (λ (w : (eqb net.sink net.sink ≡ true) × (net.sink ≡ net.sink)). ap (λ (b : Bool). if b then rate else 0ℚ) w.0)
-      (λ (w : (eqb net.sink net.sink ≡ false) × (net.sink ≢ net.sink)). absurd (w.1 refl))
-      (eqb_tells net.sink net.sink)
-
-  inner : (v : ℕ) → v < net.nodes → v ≢ net.source → v ≢ net.sink → out_less_in net.links flows v ≡ 0ℚ
-  inner v h s t = none _ _ (balance v h s) (demand_else v t)
-    where
-      none : (y d : ℚ) → y ≡ 0ℚ -ℚ d → d ≡ 0ℚ → y ≡ 0ℚ
-      none y d e f = linear_eq (y ∷ d ∷ []) (eq e ∷ eq f ∷ []) (search reading_of) tt tt
-
-  source : out_less_in net.links flows net.source ≡ rate
-  source =
-      gives _ _ _ (two_cancel net.nodes net.source net.sink (out_less_in net.links flows) good.source good.sink good.apart inner
-      (all_zero net.nodes net.links flows (EndsBelow-net net good)))
-      (balance net.sink good.sink (λ e. good.apart (sym e))) demand_sink
-    where
-      gives : (y z d : ℚ) → y +ℚ z ≡ 0ℚ → z ≡ 0ℚ -ℚ d → d ≡ rate → y ≡ rate
-      gives y z d e f g = linear_eq (y ∷ z ∷ d ∷ rate ∷ []) (eq e ∷ eq f ∷ eq g ∷ []) (search reading_of) tt tt
 
   -- ---- exit slopes
   abbrev exit_of : ℕ → Link → ℚ
@@ -138,8 +100,8 @@ module _ (net : Network) (sets : Sets) (rate : ℚ) (flows slopes : ℕ → ℚ)
     no_negative_flow = no_negative_flow;
     no_negative_slope = no_negative_slope;
     active_only = active_only;
-    source = surplus_is net.source ∙ source;
-    inner = λ v h s t. surplus_is v ∙ inner v h s t;
+    source = surplus_is net.source ∙ source-kept net rate flows good over.enough level;
+    inner = λ v h s t. surplus_is v ∙ inner-kept net rate flows good over.enough level v h s t;
     starts = slope_at net.source good.source ∙ over.starts;
     taken = taken;
     least = λ v e link h other n. subst (λ (z : ℚ). z ≤ℚ exit_of e link) (sym (at_head v e link h n)) (exits e link n.is_link n.active).0;

@@ -60,7 +60,6 @@ pub use Rattle.nf_rational_laws.proofs.Facts.{
   less_itself,
   less_some_le,
   moved_by_zero,
-  nn_after_less,
   nn_less_part,
   nn_of_one,
   same_differences,
@@ -79,7 +78,7 @@ pub use Rattle.nf_rational_laws.proofs.Quotient.{ps_apart}
 pub use Rattle.nf_thin_laws.proofs.ActiveLinks.{AreSets-sets_at, HoldNoCycle-sets_at, NoneEntersSource-acyclic, Way, no_way_round, none_first, way_more}
 pub use Rattle.nf_thin_laws.proofs.ExitSlopes.{exit_full, exit_resetting, exit_tight, exit_zero}
 pub use Rattle.nf_thin_laws.proofs.Flags.{entry_beyond, flag, flag-cases, number_at-beyond}
-pub use Rattle.nf_thin_laws.specs.ActiveLinks.{AreSets, EachIsEntered, HoldNoCycle, IsActiveWalk, NoneEntersSource}
+pub use Rattle.nf_thin_laws.specs.ActiveLinks.{AreSets, EachIsEntered, HoldNoCycle, IsActiveWalk}
 pub use Rattle.std.proofs.lemmas.Bool.{cases_lt, eqb-true}
 pub use Rattle.std.proofs.lemmas.Bool.Decides.{eqb_tells}
 pub use Rattle.std.proofs.lemmas.Option.{none-some, same_Some, slice_get-get_or, slice_get-map, slice_get_within}

@@ -1,17 +1,20 @@
 -- Properties of all sufficiently small numbers that are not negative.
-use Rattle.std.proofs.Common.{◌≡◌, ℕ, zero, suc, ◌<◌, List, [], ◌∷◌, ⊎_elim, Some, slice_get, sym, subst, arith}
-use Rattle.nf_complete_laws.proofs.Common.{none-some, ℚ, 0ℚ, 1ℚ, ◌+ℚ◌, ◌-ℚ◌, ◌*ℚ◌, ◌/ℚ◌, ◌≤ℚ◌, ◌<ℚ◌, min_ℚ, reading_of, ps_times, ≤ℚ_trans, le, lt, eq}
-use Rattle.nf_complete_laws.proofs.Common.{le_times, linear_le, linear_lt, min_left, min_right, min_keeps, Link, before_or_at}
+use Rattle.std.proofs.Common.{◌≡◌, ℕ, zero, suc, ◌<◌, [], ◌∷◌, ⊎_elim, Option, Some, None, sym, subst, refl, arith}
+use Rattle.nf_complete_laws.proofs.Common.{none-some, same_Some, ℚ, 0ℚ, 1ℚ, ◌+ℚ◌, ◌-ℚ◌, ◌*ℚ◌, ◌/ℚ◌, ◌≤ℚ◌, ◌<ℚ◌, min_ℚ, reading_of, less_ps, ps_times, ≤ℚ_trans, ≤ℚ_refl, ≤ℚ_of_lt}
+use Rattle.nf_complete_laws.proofs.Common.{le, lt, eq, le_times, linear_le, linear_lt, min_left, min_right, min_keeps, before_or_at}
 use Rattle.nf_rational_laws.proofs.Quotient.{/ℚ_is, /ℚ-times, ps_apart, ps_inv}
-use Rattle.nf_complete_laws.proofs.LeastLinks.{each_of}
 use Rattle.nf_complete_laws.proofs.Deciding.{Decided}
 use Rattle.nf_complete_laws.proofs.ExistsDeciding.{less_or_not}
+use Rattle.nf_complete_laws.proofs.Fitting.{HasRoom, IsAtMost}
 
 -- ---- sufficiently small numbers
 pub record Small (P : ℚ → Type 0) : Type 0 where
   pub bound : ℚ
   pub positive : 0ℚ <ℚ bound
   pub holds : (h : ℚ) → 0ℚ ≤ℚ h → h ≤ℚ bound → P h
+
+pub Small-bound : (P : ℚ → Type 0) (p : Small P) → P p.bound
+Small-bound P p = p.holds p.bound (≤ℚ_of_lt _ _ p.positive) (≤ℚ_refl p.bound)
 
 pub Small-always : (P : ℚ → Type 0) → ((h : ℚ) → P h) → Small P
 Small-always P f = record { bound = 1ℚ; positive = linear_lt [] [] (search reading_of) tt; holds = λ h n k. f h }
@@ -63,10 +66,14 @@ Small-to (suc n) P s = Small-map (λ h. ((k : ℕ) → k < n → P k h) × P n h
     (λ h w k l. ⊎_elim (λ (b : k < n). w.0 k b) (λ (e : k ≡ n). subst (λ (j : ℕ). P j h) (sym e) w.1) (before_or_at k n (omega arith)))
     (Small-both (λ h. (k : ℕ) → k < n → P k h) (P n) (Small-to n P (λ k l. s k (omega arith))) (s n (omega arith)))
 
-pub Small-links : (links : List Link) (P : ℕ → Link → ℚ → Type 0) → ((e : ℕ) (link : Link) → Small (P e link))
-    → Small (λ h. (e : ℕ) (link : Link) → slice_get links e ≡ Some link → P e link h)
-Small-links [] P s = Small-always (λ h. (e : ℕ) (link : Link) → slice_get [] e ≡ Some link → P e link h) (λ h e link p. absurd (none-some link p))
-Small-links (l ∷ links) P s = Small-map (λ h. P 0 l h × ((e : ℕ) (link : Link) → slice_get links e ≡ Some link → P (suc e) link h))
-    (λ h. (e : ℕ) (link : Link) → slice_get (l ∷ links) e ≡ Some link → P e link h)
-    (λ h w. each_of (λ e link. P e link h) l links w.0 w.1)
-    (Small-both (P 0 l) (λ h. (e : ℕ) (link : Link) → slice_get links e ≡ Some link → P (suc e) link h) (s 0 l) (Small-links links (λ e link. P (suc e) link) (λ e link. s (suc e) link)))
+-- Less than a number.
+pub Small-below : (b : ℚ) → 0ℚ <ℚ b → Small (λ h. h <ℚ b)
+Small-below b p = Small-map (λ h. (1ℚ +ℚ 1ℚ) *ℚ h ≤ℚ b) (λ h. h <ℚ b) (λ h k. linear_lt (b ∷ h ∷ []) (le k ∷ lt p ∷ []) (search reading_of) tt)
+    (Small-times b (1ℚ +ℚ 1ℚ) p (linear_le [] [] (search reading_of) tt))
+
+-- At most the room on a link.
+pub Small-room : (capacity : Option ℚ) (x t : ℚ) → HasRoom capacity x t → Small (λ h. IsAtMost capacity (x +ℚ h) t)
+Small-room None x t r = Small-always (λ h. IsAtMost None (x +ℚ h) t) (λ h c e. absurd (none-some c e))
+Small-room (Some c) x t r = Small-map (λ h. h ≤ℚ c *ℚ t -ℚ x) (λ h. IsAtMost (Some c) (x +ℚ h) t)
+    (λ h k d e. subst (λ (z : ℚ). x +ℚ h ≤ℚ z *ℚ t) (same_Some c d e) (linear_le (x ∷ c ∷ t ∷ h ∷ []) (le k ∷ []) (search reading_of) tt))
+    (Small-at_most (c *ℚ t -ℚ x) (less_ps x (c *ℚ t) (r c refl)))

@@ -32,6 +32,15 @@ demand-not_negative net rate v n = by_sink (v == net.sink)
     by_sink true = n
     by_sink false = ≤ℚ_refl 0ℚ
 
+-- A node with excess has an inflow.
+pub spare-brings : (net : Network) (rate : ℚ) (flows : ℕ → ℚ) → ((e : ℕ) (link : Link) → IsLink net e link → 0ℚ ≤ℚ flows e) → 0ℚ ≤ℚ rate
+    → (v : ℕ) → 0ℚ <ℚ spare net rate flows v → HasIn net.links flows v
+spare-brings net rate flows nn n v h =
+    sum_in-some net.links flows v (some _ _ _ (sum_out-not_negative net.links flows v nn) (demand-not_negative net rate v n) h)
+  where
+    some : (i o d : ℚ) → 0ℚ ≤ℚ o → 0ℚ ≤ℚ d → 0ℚ <ℚ i -ℚ (o +ℚ d) → 0ℚ <ℚ i
+    some i o d p q r = linear_lt (i ∷ o ∷ d ∷ []) (le p ∷ le q ∷ lt r ∷ []) (search reading_of) tt
+
 -- A link is resetting, needs a state, or is not active.
 pub kind_of : (sets : Sets) (e : ℕ) → Has sets.resetting e ⊎ (NeedsState sets e ⊎ (Has sets.active e → ⊥))
 kind_of sets e = ⊎_elim
@@ -62,10 +71,3 @@ module _ (net : Network) (sets : Sets) (rate : ℚ) (flows slopes : ℕ → ℚ)
       (over.no_negative_slope link.head (good.heads e link p)))
       o)
       (kind_of sets e)
-
-  -- A node with excess has an inflow.
-  pub spare-brings : 0ℚ ≤ℚ rate → (v : ℕ) → 0ℚ <ℚ spare net rate flows v → HasIn net.links flows v
-  spare-brings n v h = sum_in-some net.links flows v (some _ _ _ (sum_out-not_negative net.links flows v not_negative) (demand-not_negative net rate v n) h)
-    where
-      some : (i o d : ℚ) → 0ℚ ≤ℚ o → 0ℚ ≤ℚ d → 0ℚ <ℚ i -ℚ (o +ℚ d) → 0ℚ <ℚ i
-      some i o d p q r = linear_lt (i ∷ o ∷ d ∷ []) (le p ∷ le q ∷ lt r ∷ []) (search reading_of) tt

@@ -1,20 +1,17 @@
--- A least supply has no excess at any node. So it is a graded flow, for bounded capacities.
-use Rattle.std.proofs.Common.{◌≡◌, ◌≢◌, ℕ, ◌<◌, if◌then◌else◌, [], ◌∷◌, inl, ⊎_elim, Bool, true, false, eqb, Option, sym, ap, subst, refl, ◌∙◌}
-use Rattle.std.proofs.lemmas.Bool.Decides.{eqb_tells}
-use Rattle.nf_settling_graded_laws.proofs.Common.{ℚ, 0ℚ, 1ℚ, ◌+ℚ◌, ◌-ℚ◌, ◌*ℚ◌, ◌≤ℚ◌, ◌<ℚ◌, reading_of, ≤ℚ_of_same, ≤ℚ_of_lt, ≤ℚ_antisymm, lt_or_le_ℚ, cases_eq}
-use Rattle.nf_settling_graded_laws.proofs.Common.{not_both_ℚ, nn_times, ≤ℚ_refl, ≤ℚ_trans, le, lt, eq, eq_times, linear_le, linear_lt, linear_eq, nn_after_less}
-use Rattle.nf_settling_graded_laws.proofs.Common.{nn_less_part, less_some_le, nn_of_one, Link, Network, IsLink, IsNetwork, sum_in, sum_out, IsPositive, HasIn}
-use Rattle.nf_settling_graded_laws.proofs.Common.{sum_to, only_at, only_at-here, only_at-else, out_less_in, Fits, demand, some_below, fits_used}
-use Rattle.nf_settling_graded_laws.proofs.Common.{spare, HasSpare, spare_or_not, spare_of_enough, pushed, in-pushed, spare-else, spare-head, spare-tail}
-use Rattle.nf_model_laws.proofs.Totals.{all_zero, two_cancel}
-use Rattle.nf_thin_laws.proofs.Cuts.{EndsBelow-net}
-use Rattle.nf_complete_laws.proofs.Growing.{IsPart, part_of}
-use Rattle.nf_complete_laws.proofs.Lowering.{sum_to-lt}
-use Rattle.nf_complete_laws.proofs.Balanced.{no_spare}
-use Rattle.nf_settling_graded_laws.proofs.Supplies.{IsOpen, open_or_not, IsSupply, flow_open, spare_comes, IsSupply-pushed}
-use Rattle.nf_settling_graded_laws.proofs.Lifting.{Grown, grow}
-use Rattle.nf_settling_graded_laws.proofs.Lowers.{lower}
-use Rattle.nf_settling_graded_laws.proofs.Leasts.{IsLeast, least_supply}
+-- A least supply whose nodes with excess are closed has no excess. So it is a graded flow, for bounded capacities.
+use Rattle.std.proofs.Common.{◌≡◌, ◌≢◌, ℕ, ◌<◌, [], ◌∷◌, inl, ⊎_elim, Option, sym, ap, subst, ◌∙◌}
+use Rattle.nf_settling_graded_laws.proofs.Common.{ℚ, 0ℚ, 1ℚ, ◌+ℚ◌, ◌-ℚ◌, ◌*ℚ◌, ◌≤ℚ◌, ◌<ℚ◌, reading_of, ≤ℚ_of_same, ≤ℚ_of_lt, ≤ℚ_antisymm, lt_or_le_ℚ}
+use Rattle.nf_settling_graded_laws.proofs.Common.{not_both_ℚ, ≤ℚ_refl, ≤ℚ_trans, lt, eq, eq_times, le_times, linear_le, linear_lt, nn_of_one, Link, Network, IsLink}
+use Rattle.nf_settling_graded_laws.proofs.Common.{IsNetwork, sum_in, IsPositive, HasIn, sum_to, sum_to-nn, only_at-here, out_less_in, Fits}
+use Rattle.nf_settling_graded_laws.proofs.Common.{same_node, not_so, fits_used, IsAtMost-none, HasSpare, sum_in-not_negative, pushed, in-pushed}
+use Rattle.nf_complete_laws.proofs.Affine.{Affine-sum_to, Affine-sum_in}
+use Rattle.nf_complete_laws.proofs.Assigned.{flows_of, flow, serves_described, IsLeast, least_over}
+use Rattle.nf_complete_laws.proofs.Growing.{Serve-less, grow}
+use Rattle.nf_complete_laws.proofs.Lowering.{sum_to-lt, Lowered, lowered_some}
+use Rattle.nf_complete_laws.proofs.NoExcess.{inner-kept, source-kept}
+use Rattle.nf_complete_laws.proofs.Serving.{IsClosed}
+use Rattle.nf_complete_laws.proofs.Spare.{spare-brings}
+use Rattle.nf_settling_graded_laws.proofs.Supplies.{only_at-nn, IsOpen, open_or_not, Open, Shut, IsSupply, flow_nn, flow_most, flow_open}
 
 -- A static flow that fits the levels, for these capacities.
 pub record IsGradedBy (net : Network) (cap : Link → Option ℚ) (rate : ℚ) (flows levels : ℕ → ℚ) : Type 0 where
@@ -27,48 +24,18 @@ pub record IsGradedBy (net : Network) (cap : Link → Option ℚ) (rate : ℚ) (
 idle_fits : (capacity : Option ℚ) (x s t : ℚ) → IsPositive capacity → x ≡ 0ℚ → 0ℚ ≤ℚ t → t ≤ℚ s → Fits capacity x s t
 idle_fits capacity x s t positive e n h = record {
   no_negative = ≤ℚ_of_same _ _ (sym e);
-  most = λ c k. ≤ℚ_trans _ _ _ (≤ℚ_of_same _ _ e) (nn_times c t (≤ℚ_of_lt _ _ (positive c k)) n);
+  most = IsAtMost-none capacity x t positive e n;
   used = inl (≤ℚ_of_same _ _ e);
   upper = inl h;
 }
+
+one_nn : 0ℚ ≤ℚ 1ℚ
+one_nn = linear_le [] [] (search reading_of) tt
 
 module _ (net : Network) (cap : Link → Option ℚ) (rate : ℚ) (good : IsNetwork net)
     (positive : (e : ℕ) (link : Link) → IsLink net e link → IsPositive (cap link)) where
   -- ---- without excess
   module _ (flows levels : ℕ → ℚ) (over : IsSupply net cap rate flows levels) (none : (v : ℕ) → v < net.nodes → HasSpare net rate flows v → ⊥) where
-    balance : (v : ℕ) → v < net.nodes → v ≢ net.source → out_less_in net.links flows v ≡ 0ℚ -ℚ demand net rate v
-    balance v h other = no_spare (sum_in net.links flows v) (sum_out net.links flows v) (demand net rate v)
-        (spare_of_enough _ _ _ (over.enough v h other)) (⊎_elim
-        (λ (k : 0ℚ <ℚ spare net rate flows v). absurd (none v h (other, k)))
-        (λ (k : spare net rate flows v ≤ℚ 0ℚ). k)
-        (lt_or_le_ℚ 0ℚ (spare net rate flows v)))
-
-    demand_else : (v : ℕ) → v ≢ net.sink → demand net rate v ≡ 0ℚ
-    demand_else v other = ⊎_elim
-        (λ (w : (eqb v net.sink ≡ true) × (v ≡ net.sink)). absurd (other w.1))
-        (λ (w : (eqb v net.sink ≡ false) × (v ≢ net.sink)). ap (λ (b : Bool). if b then rate else 0ℚ) w.0)
-        (eqb_tells v net.sink)
-
-    demand_sink : demand net rate net.sink ≡ rate
-    demand_sink = ⊎_elim
-        (λ (w : (eqb net.sink net.sink ≡ true) × (net.sink ≡ net.sink)). ap (λ (b : Bool). if b then rate else 0ℚ) w.0)
-        (λ (w : (eqb net.sink net.sink ≡ false) × (net.sink ≢ net.sink)). absurd (w.1 refl))
-        (eqb_tells net.sink net.sink)
-
-    inner : (v : ℕ) → v < net.nodes → v ≢ net.source → v ≢ net.sink → out_less_in net.links flows v ≡ 0ℚ
-    inner v h s t = nothing _ _ (balance v h s) (demand_else v t)
-      where
-        nothing : (y d : ℚ) → y ≡ 0ℚ -ℚ d → d ≡ 0ℚ → y ≡ 0ℚ
-        nothing y d e f = linear_eq (y ∷ d ∷ []) (eq e ∷ eq f ∷ []) (search reading_of) tt tt
-
-    source : out_less_in net.links flows net.source ≡ rate
-    source = gives _ _ _ (two_cancel net.nodes net.source net.sink (out_less_in net.links flows) good.source good.sink good.apart inner
-        (all_zero net.nodes net.links flows (EndsBelow-net net good)))
-        (balance net.sink good.sink (λ e. good.apart (sym e))) demand_sink
-      where
-        gives : (y z d : ℚ) → y +ℚ z ≡ 0ℚ → z ≡ 0ℚ -ℚ d → d ≡ rate → y ≡ rate
-        gives y z d e f g = linear_eq (y ∷ z ∷ d ∷ rate ∷ []) (eq e ∷ eq f ∷ eq g ∷ []) (search reading_of) tt tt
-
     -- A shut link leads to no higher level.
     shut_down : (e : ℕ) (link : Link) → IsLink net e link → (IsOpen net link → ⊥) → levels link.head ≤ℚ levels link.tail
     shut_down e link p n = ⊎_elim
@@ -77,8 +44,8 @@ module _ (net : Network) (cap : Link → Option ℚ) (rate : ℚ) (good : IsNetw
         (λ (m : link.head ≡ net.source). subst (λ (z : ℚ). z ≤ℚ levels link.tail)
         (sym (ap levels m ∙ over.starts)) (over.keeps_up link.tail (good.tails e link p)))
         (λ (m : link.head ≢ net.source). absurd (n (k, m)))
-        (cases_eq link.head net.source))
-        (cases_eq link.head link.tail)
+        (same_node link.head net.source))
+        (same_node link.head link.tail)
 
     pub IsGradedBy-balanced : IsGradedBy net cap rate flows levels
     IsGradedBy-balanced = record {
@@ -86,16 +53,23 @@ module _ (net : Network) (cap : Link → Option ℚ) (rate : ℚ) (good : IsNetw
       keeps_up = over.keeps_up;
       fits = λ e link p. ⊎_elim
           (λ (o : IsOpen net link). over.fits e link p o)
-          (λ (n : IsOpen net link → ⊥). idle_fits (cap link) (flows e) (levels link.tail) (levels link.head) (positive e link p) (over.shut e link p n)
+          (λ (n : IsOpen net link → ⊥). idle_fits (cap link) (flows e) (levels link.tail) (levels link.head) (positive e link p) (over.idle e link p n)
           (nn_of_one _ (over.keeps_up link.head (good.heads e link p))) (shut_down e link p n))
           (open_or_not net link);
-      source = source;
-      inner = inner;
+      source = source-kept net rate flows good over.enough none;
+      inner = inner-kept net rate flows good over.enough none;
     }
+
+  abbrev inflow : (ℕ → ℚ) → ℚ
+  inflow flows = sum_to net.nodes (sum_in net.links flows)
+
+  -- A supply with the least sum of levels, and among those with the least sum of inflows.
+  abbrev IsLeastSupply : (ℕ → ℚ) → (ℕ → ℚ) → Type 0
+  IsLeastSupply = IsLeast net.nodes inflow (IsSupply net cap rate)
 
   module _ (rate_nn : 0ℚ ≤ℚ rate) where
     -- ---- a least supply has excess only at levels above 1: otherwise less flow into the node suffices
-    module _ (flows levels : ℕ → ℚ) (least : IsLeast net cap rate flows levels) where
+    module _ (flows levels : ℕ → ℚ) (least : IsLeastSupply flows levels) where
       module _ (e : ℕ) (link : Link) (p : IsLink net e link) (some : 0ℚ <ℚ flows e) (s : HasSpare net rate flows link.head) (low : levels link.head ≤ℚ 1ℚ) where
         is_open : IsOpen net link
         is_open = flow_open net cap rate flows levels good positive least.over e link p some
@@ -104,83 +78,66 @@ module _ (net : Network) (cap : Link → Option ℚ) (rate : ℚ) (good : IsNetw
         level = ≤ℚ_antisymm _ _ (≤ℚ_trans _ _ _ low (least.over.keeps_up link.tail (good.tails e link p)))
             (fits_used (cap link) (flows e) (levels link.tail) (levels link.head) (least.over.fits e link p is_open) some)
 
-        part : (a : ℚ) × IsPart (spare net rate flows link.head) (flows e) a
-        part = part_of (spare net rate flows link.head) (flows e) s.1 some
+        less : (a : ℚ) × (0ℚ <ℚ a) × IsSupply net cap rate (pushed net rate flows e link p (0ℚ -ℚ a)) levels
+        less = Serve-less net cap rate 1ℚ (Shut net) (Open net) levels good (λ e link. open_or_not net link) (λ e link o n. n o) (λ e link p o. o)
+            flows least.over e link p is_open level some s
 
         abbrev a : ℚ
-        a = part.0
-
-        abbrev d : ℚ
-        d = 0ℚ -ℚ a
+        a = less.0
 
         abbrev new : ℕ → ℚ
-        new = pushed net rate flows e link p d
+        new = pushed net rate flows e link p (0ℚ -ℚ a)
 
-        left : (v : ℕ) → v < net.nodes → v ≢ net.source → 0ℚ ≤ℚ spare net rate new v
-        left v l other = ⊎_elim
-            (λ (k : v ≡ link.head). subst (λ (j : ℕ). 0ℚ ≤ℚ spare net rate new j) (sym k)
-            (nn_after_less (spare net rate flows link.head) _ a (spare-head net rate flows e link p d is_open.0) (≤ℚ_of_lt _ _ part.1.less)))
-            (λ (k : v ≢ link.head). ⊎_elim
-            (λ (m : v ≡ link.tail). subst (λ (j : ℕ). 0ℚ ≤ℚ spare net rate new j) (sym m)
-            (given (spare net rate flows link.tail) _ a (spare-tail net rate flows e link p d is_open.0)
-            (spare_nn link.tail (good.tails e link p) (λ t. other (m ∙ t))) part.1.above))
-            (λ (m : v ≢ link.tail). subst (λ (z : ℚ). 0ℚ ≤ℚ z) (sym (spare-else net rate flows e link p d v k m)) (spare_nn v l other))
-            (cases_eq v link.tail))
-            (cases_eq v link.head)
+        less_inflow : inflow new <ℚ inflow flows
+        less_inflow = sum_to-lt net.nodes (sum_in net.links new) (sum_in net.links flows)
+            (λ v _. no_more _ _ _ a (only_at-nn link.head 1ℚ one_nn v) (in-pushed net rate flows e link p (0ℚ -ℚ a) v) (≤ℚ_of_lt _ _ less.1))
+            link.head (good.heads e link p) (falls _ _ _ a (only_at-here link.head 1ℚ) (in-pushed net rate flows e link p (0ℚ -ℚ a) link.head) less.1)
           where
-            spare_nn : (v : ℕ) → v < net.nodes → v ≢ net.source → 0ℚ ≤ℚ spare net rate flows v
-            spare_nn v l other = spare_of_enough _ _ _ (least.over.enough v l other)
+            falls : (x y b a : ℚ) → b ≡ 1ℚ → y ≡ x +ℚ b *ℚ (0ℚ -ℚ a) → 0ℚ <ℚ a → y <ℚ x
+            falls x y b a e f h = linear_lt (x ∷ y ∷ b ∷ a ∷ []) (eq_times a e ∷ eq f ∷ lt h ∷ []) (search reading_of) tt
 
-            given : (s t a : ℚ) → t ≡ s -ℚ (0ℚ -ℚ a) → 0ℚ ≤ℚ s → 0ℚ <ℚ a → 0ℚ ≤ℚ t
-            given s t a e h k = linear_le (s ∷ t ∷ a ∷ []) (eq e ∷ le h ∷ lt k ∷ []) (search reading_of) tt
-
-        new_supply : IsSupply net cap rate new levels
-        new_supply = IsSupply-pushed net cap rate flows levels good positive least.over e link p d is_open level (nn_less_part (flows e) a part.1.most)
-            (λ c k. less_some_le (flows e) a _ part.1.above ((least.over.fits e link p is_open).most c k)) left
-
-        less_inflow : sum_to net.nodes (sum_in net.links new) <ℚ sum_to net.nodes (sum_in net.links flows)
-        less_inflow = sum_to-lt net.nodes (sum_in net.links new) (sum_in net.links flows) (λ v _. no_more v) link.head (good.heads e link p)
-            (less (sum_in net.links flows link.head) _ _ a (only_at-here link.head 1ℚ) (in-pushed net rate flows e link p d link.head) part.1.above)
-          where
-            less : (x y b a : ℚ) → b ≡ 1ℚ → y ≡ x +ℚ b *ℚ (0ℚ -ℚ a) → 0ℚ <ℚ a → y <ℚ x
-            less x y b a e f h = linear_lt (x ∷ y ∷ b ∷ a ∷ []) (eq_times a e ∷ eq f ∷ lt h ∷ []) (search reading_of) tt
-
-            same : (x y b a : ℚ) → b ≡ 0ℚ → y ≡ x +ℚ b *ℚ (0ℚ -ℚ a) → y ≤ℚ x
-            same x y b a e f = linear_le (x ∷ y ∷ b ∷ a ∷ []) (eq_times a e ∷ eq f ∷ []) (search reading_of) tt
-
-            no_more : (v : ℕ) → sum_in net.links new v ≤ℚ sum_in net.links flows v
-            no_more v = ⊎_elim
-                (λ (k : link.head ≡ v). ≤ℚ_of_lt _ _ (less (sum_in net.links flows v) _ _ a
-                (subst (λ (j : ℕ). only_at link.head 1ℚ j ≡ 1ℚ) k (only_at-here link.head 1ℚ)) (in-pushed net rate flows e link p d v) part.1.above))
-                (λ (k : link.head ≢ v). same (sum_in net.links flows v) _ _ a (only_at-else link.head 1ℚ v k) (in-pushed net rate flows e link p d v))
-                (cases_eq link.head v)
+            no_more : (x y b a : ℚ) → 0ℚ ≤ℚ b → y ≡ x +ℚ b *ℚ (0ℚ -ℚ a) → 0ℚ ≤ℚ a → y ≤ℚ x
+            no_more x y b a n f h = linear_le (x ∷ y ∷ b ∷ a ∷ []) (le_times n h ∷ eq f ∷ []) (search reading_of) tt
 
         too_low : ⊥
-        too_low = not_both_ℚ _ _ less_inflow (least.flows_least new levels new_supply (≤ℚ_refl _))
+        too_low = not_both_ℚ _ _ less_inflow (least.flows_least new levels less.2 (≤ℚ_refl _))
 
       least_lifted : (v : ℕ) → HasSpare net rate flows v → 1ℚ <ℚ levels v
       least_lifted v s = ⊎_elim
           (λ (k : 1ℚ <ℚ levels v). k)
           (λ (k : levels v ≤ℚ 1ℚ).
-          let b : HasIn net.links flows v = spare_comes net cap rate flows levels good positive least.over rate_nn v s.1 in
+          let b : HasIn net.links flows v = spare-brings net rate flows (flow_nn net cap rate flows levels good positive least.over) rate_nn v s.1 in
           absurd (too_low b.0 b.1 b.2 b.4 (subst (HasSpare net rate flows) (sym b.3) s) (subst (λ (j : ℕ). levels j ≤ℚ 1ℚ) (sym b.3) k)))
           (lt_or_le_ℚ 1ℚ (levels v))
 
-    abbrev SomeGraded : Type 0
-    SomeGraded = (flows : ℕ → ℚ) × (levels : ℕ → ℚ) × IsGradedBy net cap rate flows levels
+    least_supply : (flows levels : ℕ → ℚ) → IsSupply net cap rate flows levels → (flows : ℕ → ℚ) × (levels : ℕ → ℚ) × IsLeastSupply flows levels
+    least_supply = least_over net.nodes inflow (IsSupply net cap rate)
+        (serves_described net cap rate 1ℚ (Shut net) (Open net) (λ e link. not_so (open_or_not net link)) (λ e link. open_or_not net link))
+        (Affine-sum_to net.nodes (λ v x. sum_in net.links (flows_of x) v) (λ v. Affine-sum_in net.links (λ e x. flows_of x e) v flow))
+        (λ f s o v l. nn_of_one _ (o.keeps_up v l))
+        (λ f s o. sum_to-nn net.nodes (sum_in net.links f) (λ v _. sum_in-not_negative net.links f v (flow_nn net cap rate f s good positive o)))
 
-    graded_at_least : (flows levels : ℕ → ℚ) → IsLeast net cap rate flows levels → Grown net cap rate levels good positive → SomeGraded
-    graded_at_least flows levels least g = ⊎_elim
-        (λ (w : (v : ℕ) × (v < net.nodes) × HasSpare net rate g.0 v).
-        let l : (new_flows : ℕ → ℚ) × (new_levels : ℕ → ℚ) × IsSupply net cap rate new_flows new_levels ×
-        (sum_to net.nodes new_levels <ℚ sum_to net.nodes levels)
-        = lower net cap rate g.0 levels good positive g.1.over g.1.lifted g.2 w.0 w.1 w.2 in
-        absurd (not_both_ℚ _ _ l.3 (least.levels_least l.0 l.1 l.2)))
-        (λ (none : (v : ℕ) → v < net.nodes → HasSpare net rate g.0 v → ⊥). (g.0, levels, IsGradedBy-balanced g.0 levels g.1.over none))
-        (some_below net.nodes (HasSpare net rate g.0) (spare_or_not net rate g.0))
+    -- ---- pushes keep levels above 1 at nodes with excess
+    abbrev IsLifted : (ℕ → ℚ) → (ℕ → ℚ) → Type 0
+    IsLifted levels flows = IsSupply net cap rate flows levels × ((v : ℕ) → HasSpare net rate flows v → 1ℚ <ℚ levels v)
+
+    grow_lifted : (levels flows : ℕ → ℚ) → IsLifted levels flows → (flows : ℕ → ℚ) × IsLifted levels flows × IsClosed net cap rate (Open net) flows levels
+    grow_lifted levels = grow net cap rate 1ℚ (Shut net) (Open net) levels good (λ e link. open_or_not net link) (λ e link o n. n o) (λ e link p o. o)
+        (IsLifted levels) (λ flows f. f.0)
+        (λ flows f e link p o level some s at. not_both_ℚ _ _ (f.1 link.head s) (≤ℚ_of_same _ _ (level ∙ ap levels at ∙ f.0.starts)))
+        (λ flows f e link p d o apart serves from. (serves, λ v s. let w = from v s in subst (λ (z : ℚ). 1ℚ <ℚ z) (sym w.2) (f.1 w.0 w.1)))
+
+    no_spare : (flows levels least_flows : ℕ → ℚ) → IsLeastSupply least_flows levels → IsLifted levels flows → IsClosed net cap rate (Open net) flows levels
+        → (v : ℕ) → v < net.nodes → HasSpare net rate flows v → ⊥
+    no_spare flows levels least_flows least f closed v l s =
+        let low : Lowered net cap rate 1ℚ (Shut net) (Open net) flows levels
+        = lowered_some net cap rate 1ℚ (Shut net) (Open net) flows levels good positive one_nn f.0
+        (flow_most net cap rate flows levels good positive f.0) closed (λ v _ s. f.1 v s) in
+        not_both_ℚ _ _ (low.less v l s) (least.slopes_least low.new_flows low.new_levels low.serves)
 
     -- So a supply leads to a graded flow.
     pub graded_from : (flows levels : ℕ → ℚ) → IsSupply net cap rate flows levels → (flows : ℕ → ℚ) × (levels : ℕ → ℚ) × IsGradedBy net cap rate flows levels
     graded_from flows levels over =
-        let m : (flows : ℕ → ℚ) × (levels : ℕ → ℚ) × IsLeast net cap rate flows levels = least_supply net cap rate good positive flows levels over in
-        graded_at_least m.0 m.1 m.2 (grow net cap rate m.1 good positive m.0 (record { over = m.2.over; lifted = least_lifted m.0 m.1 m.2 }))
+        let m = least_supply flows levels over in
+        let g = grow_lifted m.1 m.0 (m.2.over, least_lifted m.0 m.1 m.2) in
+        (g.0, m.1, IsGradedBy-balanced g.0 m.1 g.1.0 (no_spare g.0 m.1 m.0 m.2 g.1 g.2))

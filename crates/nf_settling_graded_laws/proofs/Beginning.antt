@@ -3,16 +3,18 @@
 use Rattle.std.proofs.Common.{◌≡◌, ◌≢◌, ℕ, ◌<◌, if◌then◌else◌, List, [], ◌∷◌, inl, inr, ⊎_elim, Bool, true, false, eqb, Option, Some, None, slice_get, sym, ap, subst, refl, ◌∙◌}
 use Rattle.std.proofs.lemmas.Bool.Decides.{eqb_tells}
 use Rattle.std.proofs.lemmas.Option.{same_Some}
-use Rattle.nf_settling_graded_laws.proofs.Common.{ℚ, 0ℚ, 1ℚ, ◌+ℚ◌, ◌-ℚ◌, ◌*ℚ◌, ◌/ℚ◌, ◌≤ℚ◌, ◌<ℚ◌, reading_of, ≤ℚ_of_same, ≤ℚ_of_lt, nn_times, nn_plus, ≤ℚ_refl, cases_eq}
+use Rattle.nf_settling_graded_laws.proofs.Common.{ℚ, 0ℚ, 1ℚ, ◌+ℚ◌, ◌-ℚ◌, ◌*ℚ◌, ◌/ℚ◌, ◌≤ℚ◌, ◌<ℚ◌, reading_of, ≤ℚ_of_same, ≤ℚ_of_lt, nn_times, nn_plus, ≤ℚ_refl}
 use Rattle.nf_settling_graded_laws.proofs.Common.{≤ℚ_trans, le, eq, le_times, linear_le, Link, Network, IsLink, IsNetwork, hops, sum_in, sum_out, only_at}
 use Rattle.nf_settling_graded_laws.proofs.Common.{only_at-here, only_at-else, sum_in-none, sum_out-none, sum_in-order, sum_out-same, Fits, demand, Decided}
-use Rattle.nf_settling_graded_laws.proofs.Common.{spare, pushed, pushed-cases, spare-else, spare-head, spare-tail}
+use Rattle.nf_settling_graded_laws.proofs.Common.{same_node, spare, pushed, pushed-cases, spare-else, spare-head, spare-tail}
 use Rattle.nf_model.specs.Walk.{IsWalk}
 use Rattle.nf_model_laws.proofs.Affine.{nn-quotient, quotient-times}
 use Rattle.nf_model_laws.proofs.Networks.{IsWalk-starts, StartsWith}
+use Rattle.nf_complete_laws.proofs.NoExcess.{demand-else, demand-sink}
+use Rattle.nf_complete_laws.proofs.Pushing.{pushed-link}
 use Rattle.nf_settling_laws.specs.Excess.{link_sum}
 use Rattle.nf_settling_laws.proofs.Terms.{link_sum-one, link_sum-not_negative}
-use Rattle.nf_settling_graded_laws.proofs.Supplies.{IsOpen, open_or_not, IsSupply}
+use Rattle.nf_settling_graded_laws.proofs.Supplies.{only_at-nn, IsOpen, open_or_not, IsSupply}
 
 -- ---- the rate, carried from a node to the sink along a walk
 -- With the rate added at the node v, no node but the source lacks anything.
@@ -22,18 +24,11 @@ pub record IsRoute (net : Network) (rate : ℚ) (v : ℕ) (flows : ℕ → ℚ) 
   pub enough : (w : ℕ) → w ≢ net.source → 0ℚ ≤ℚ spare net rate flows w +ℚ only_at v rate w
 
 module _ (net : Network) (good : IsNetwork net) (rate : ℚ) (nn : 0ℚ ≤ℚ rate) where
-  only-nn : (v w : ℕ) → 0ℚ ≤ℚ only_at v rate w
-  only-nn v w = ⊎_elim
-      (λ (e : v ≡ w). subst (λ (k : ℕ). 0ℚ ≤ℚ only_at v rate k) e (subst (λ (z : ℚ). 0ℚ ≤ℚ z) (sym (only_at-here v rate)) nn))
-      (λ (n : v ≢ w). ≤ℚ_of_same _ _ (sym (only_at-else v rate w n)))
-      (cases_eq v w)
-
   demand-is : (w : ℕ) → demand net rate w ≡ only_at net.sink rate w
   demand-is w = ⊎_elim
-      (λ (s : (eqb w net.sink ≡ true) × (w ≡ net.sink)). ap (λ (b : Bool). if b then rate else 0ℚ) s.0
-      ∙ sym (subst (λ (k : ℕ). only_at net.sink rate k ≡ rate) (sym s.1) (only_at-here net.sink rate)))
-      (λ (s : (eqb w net.sink ≡ false) × (w ≢ net.sink)). ap (λ (b : Bool). if b then rate else 0ℚ) s.0 ∙ sym (only_at-else net.sink rate w (λ k. s.1 (sym k))))
-      (eqb_tells w net.sink)
+      (λ (k : w ≡ net.sink). subst (λ (j : ℕ). demand net rate j ≡ only_at net.sink rate j) (sym k) (demand-sink net rate ∙ sym (only_at-here net.sink rate)))
+      (λ (k : w ≢ net.sink). demand-else net rate w k ∙ sym (only_at-else net.sink rate w (λ e. k (sym e))))
+      (same_node w net.sink)
 
   at_sink : IsRoute net rate net.sink (λ e. 0ℚ)
   at_sink = record {
@@ -55,10 +50,10 @@ module _ (net : Network) (good : IsNetwork net) (rate : ℚ) (nn : 0ℚ ≤ℚ r
       enough = λ w other. ⊎_elim
           (λ (k : link.head ≡ link.tail). subst (λ (j : ℕ). 0ℚ ≤ℚ spare net rate flows w +ℚ only_at j rate w) k (r.enough w other))
           (λ (k : link.head ≢ link.tail). ⊎_elim
-          (λ (m : link.head ≡ net.source). from_source _ _ _ (only_at-else link.head rate w (λ j. other (sym j ∙ m))) (r.enough w other) (only-nn link.tail w))
+          (λ (m : link.head ≡ net.source). from_source _ _ _ (only_at-else link.head rate w (λ j. other (sym j ∙ m))) (r.enough w other) (only_at-nn link.tail rate nn w))
           (λ (m : link.head ≢ net.source). absurd (n (k, m)))
-          (cases_eq link.head net.source))
-          (cases_eq link.head link.tail);
+          (same_node link.head net.source))
+          (same_node link.head link.tail);
     }
       where
         from_source : (s a b : ℚ) → a ≡ 0ℚ → 0ℚ ≤ℚ s +ℚ a → 0ℚ ≤ℚ b → 0ℚ ≤ℚ s +ℚ b
@@ -73,23 +68,19 @@ module _ (net : Network) (good : IsNetwork net) (rate : ℚ) (nn : 0ℚ ≤ℚ r
           (λ (w : (k ≡ e) × (new k ≡ flows e +ℚ rate)). subst (λ (z : ℚ). 0ℚ ≤ℚ z) (sym w.1) (nn_plus _ _ (r.not_negative e) nn))
           (λ (w : (k ≢ e) × (new k ≡ flows k)). subst (λ (z : ℚ). 0ℚ ≤ℚ z) (sym w.1) (r.not_negative k))
           (pushed-cases net rate flows e link p rate k);
-      shut = λ k other q n. ⊎_elim
-          (λ (w : (k ≡ e) × (new k ≡ flows e +ℚ rate)).
-          absurd (n (subst (IsOpen net) (same_Some link other (sym p ∙ subst (λ (j : ℕ). IsLink net j other) w.0 q)) is_open)))
-          (λ (w : (k ≢ e) × (new k ≡ flows k)). w.1 ∙ r.shut k other q n)
-          (pushed-cases net rate flows e link p rate k);
+      shut = pushed-link net rate flows e link p rate (λ k other x. (IsOpen net other → ⊥) → x ≡ 0ℚ) (λ n. absurd (n is_open)) r.shut;
       enough = λ w other. ⊎_elim
           (λ (k : w ≡ link.head). subst (λ (j : ℕ). 0ℚ ≤ℚ spare net rate new j +ℚ only_at link.tail rate j) (sym k)
           (at_head _ _ _ _ (spare-head net rate flows e link p rate is_open.0) (only_at-here link.head rate)
-          (r.enough link.head (λ m. other (k ∙ m))) (only-nn link.tail link.head)))
+          (r.enough link.head (λ m. other (k ∙ m))) (only_at-nn link.tail rate nn link.head)))
           (λ (k : w ≢ link.head). ⊎_elim
           (λ (m : w ≡ link.tail). subst (λ (j : ℕ). 0ℚ ≤ℚ spare net rate new j +ℚ only_at link.tail rate j) (sym m)
           (at_tail _ _ _ _ (spare-tail net rate flows e link p rate is_open.0) (only_at-else link.head rate link.tail is_open.0)
           (only_at-here link.tail rate) (r.enough link.tail (λ j. other (m ∙ j)))))
           (λ (m : w ≢ link.tail). elsewhere _ _ _ _ (spare-else net rate flows e link p rate w k m) (only_at-else link.head rate w (λ j. k (sym j)))
-          (r.enough w other) (only-nn link.tail w))
-          (cases_eq w link.tail))
-          (cases_eq w link.head);
+          (r.enough w other) (only_at-nn link.tail rate nn w))
+          (same_node w link.tail))
+          (same_node w link.head);
     }
       where
         at_head : (s t a b : ℚ) → t ≡ s +ℚ rate → a ≡ rate → 0ℚ ≤ℚ s +ℚ a → 0ℚ ≤ℚ b → 0ℚ ≤ℚ t +ℚ b
@@ -162,7 +153,7 @@ module _ (net : Network) (good : IsNetwork net) (rate : ℚ) (nn : 0ℚ ≤ℚ r
     keeps_up v h = ⊎_elim
         (λ (k : v ≡ net.source). ≤ℚ_of_same _ _ (sym (ap levels k ∙ level_source)))
         (λ (k : v ≢ net.source). subst (λ (z : ℚ). 1ℚ ≤ℚ z) (sym (level_else v k)) height_one)
-        (cases_eq v net.source)
+        (same_node v net.source)
 
     -- An open link out of the source is full.
     abbrev filled_by : {A : Type 0} → Decided A → Bool → ℚ → ℚ → ℚ
@@ -241,13 +232,13 @@ module _ (net : Network) (good : IsNetwork net) (rate : ℚ) (nn : 0ℚ ≤ℚ r
       started-fits o = subst (λ (z : ℚ). Fits (Some (size link)) (started e) (levels link.tail) z) (sym (level_else link.head o.1)) (⊎_elim
           (λ (k : link.tail ≡ net.source). full_fits (started e) (levels link.tail) (started-full k o) (ap levels k ∙ level_source))
           (λ (k : link.tail ≢ net.source). level_fits (started e) (levels link.tail) (started-else k) (level_else link.tail k))
-          (cases_eq link.tail net.source))
+          (same_node link.tail net.source))
 
     IsSupply-started : IsSupply net (λ link. Some (size link)) rate started levels
     IsSupply-started = record {
       starts = level_source;
       keeps_up = keeps_up;
-      shut = started-shut;
+      idle = started-shut;
       fits = started-fits;
       enough = λ v h other. enough_by (sum_in net.links flows v) (sum_out net.links flows v) (demand net rate v) _ _ _
           (sum_out-same net.links started flows v (λ e link p at. started-else e link p (λ k. other (sym at ∙ k))))
