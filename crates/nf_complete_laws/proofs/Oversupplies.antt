@@ -6,7 +6,7 @@ use Rattle.nf_complete_laws.proofs.Common.{≤ℚ_trans, le, lt, eq, le_times, l
 use Rattle.nf_complete_laws.proofs.Common.{Fills, IsPositive-link, HasIn, sum_to, AreSets, HoldNoCycle, EachIsEntered, NoneEntersSource-acyclic, none_first, IsOversupply}
 use Rattle.nf_complete_laws.proofs.Fitting.{capped-fills, fits_used}
 use Rattle.nf_complete_laws.proofs.Spare.{spare, HasSpare, spare_or_not, by_kind, not_negative, at_most, spare-brings}
-use Rattle.nf_complete_laws.proofs.Serving.{IsClosed, Led, IsInactive, NeedsOne, needs_or_not, capacity_of, Serves-over, ServesBySlopes, IsOversupply-serves}
+use Rattle.nf_complete_laws.proofs.Serving.{IsClosed, Led, IsInactive, NeedsStateAt, needs_or_not, capacity_of, Serves-over, ServesBySlopes, IsOversupply-serves}
 use Rattle.nf_complete_laws.proofs.Pushing.{pushed, pushed-link, out-here, out-else}
 use Rattle.nf_complete_laws.proofs.Lowering.{Lowered, lowered_some}
 use Rattle.nf_complete_laws.proofs.Growing.{Serve-less, grow}
@@ -24,13 +24,13 @@ pub record IsLeastFlow (net : Network) (sets : Sets) (rate : ℚ) (slopes flows 
 
 module _ (net : Network) (sets : Sets) (rate : ℚ) (slopes : ℕ → ℚ) (good : IsNetwork net) (acyclic : HoldNoCycle net sets) where
   module _ (entered : EachIsEntered net sets) where
-    leads : (e : ℕ) (link : Link) → IsLink net e link → NeedsOne sets e link → (link.head ≢ link.tail) × (link.head ≢ net.source)
+    leads : (e : ℕ) (link : Link) → IsLink net e link → NeedsStateAt sets e link → (link.head ≢ link.tail) × (link.head ≢ net.source)
     leads e link p n = (
       (λ h. acyclic e [] link.tail (link, p, n.0, refl, h)),
       (λ h. NoneEntersSource-acyclic net sets good acyclic entered e link (record { is_link = p; active = n.0; head = h })),
     )
 
-    busy : (e : ℕ) (link : Link) → NeedsOne sets e link → IsInactive sets e link → ⊥
+    busy : (e : ℕ) (link : Link) → NeedsStateAt sets e link → IsInactive sets e link → ⊥
     busy e link n i = i n.0
 
     IsOversupply-pushed : (flows : ℕ → ℚ) (e : ℕ) (link : Link) (p : IsLink net e link) (d : ℚ) → IsOversupply net sets rate flows slopes → NeedsState sets e
@@ -39,16 +39,16 @@ module _ (net : Network) (sets : Sets) (rate : ℚ) (slopes : ℕ → ℚ) (good
         (pushed-link net rate flows e link p d (λ k other x. Has sets.resetting k → Fills other.capacity x (slopes other.head))
         (λ r. absurd (n.1 r)) over.resetting) over.led
 
-    not_source : (flows : ℕ → ℚ) → IsLeastFlow net sets rate slopes flows → (e : ℕ) (link : Link) → IsLink net e link → NeedsOne sets e link
+    not_source : (flows : ℕ → ℚ) → IsLeastFlow net sets rate slopes flows → (e : ℕ) (link : Link) → IsLink net e link → NeedsStateAt sets e link
         → slopes link.head ≡ slopes link.tail → 0ℚ <ℚ flows e → HasSpare net rate flows link.head → link.tail ≢ net.source
     not_source flows f e link p n level some s at =
         let w : (a : ℚ) × (0ℚ <ℚ a) × ServesBySlopes net sets rate (pushed net rate flows e link p (0ℚ -ℚ a)) slopes
-        = Serve-less net capacity_of rate 0ℚ (IsInactive sets) (NeedsOne sets) slopes good (λ e link. needs_or_not sets e) busy leads flows
+        = Serve-less net capacity_of rate 0ℚ (IsInactive sets) (NeedsStateAt sets) slopes good (λ e link. needs_or_not sets e) busy leads flows
         (Serves-over net sets rate flows slopes f.over) e link p n level some s in
         no_less_than (sum_out net.links flows net.source) _ w.0 (out-here net rate flows e link p (0ℚ -ℚ w.0) net.source at)
         (f.least _ (IsOversupply-pushed flows e link p (0ℚ -ℚ w.0) f.over n w.2)) w.1
 
-    kept : (flows : ℕ → ℚ) → IsLeastFlow net sets rate slopes flows → (e : ℕ) (link : Link) (p : IsLink net e link) (d : ℚ) → NeedsOne sets e link
+    kept : (flows : ℕ → ℚ) → IsLeastFlow net sets rate slopes flows → (e : ℕ) (link : Link) (p : IsLink net e link) (d : ℚ) → NeedsStateAt sets e link
         → link.tail ≢ net.source
         → ServesBySlopes net sets rate (pushed net rate flows e link p d) slopes → IsLeastFlow net sets rate slopes (pushed net rate flows e link p d)
     kept flows f e link p d n apart serves = record {
@@ -58,13 +58,13 @@ module _ (net : Network) (sets : Sets) (rate : ℚ) (slopes : ℕ → ℚ) (good
     }
 
     pub grow_least : (flows : ℕ → ℚ) → IsLeastFlow net sets rate slopes flows
-        → (flows : ℕ → ℚ) × IsLeastFlow net sets rate slopes flows × IsClosed net capacity_of rate (NeedsOne sets) flows slopes
-    grow_least = grow net capacity_of rate 0ℚ (IsInactive sets) (NeedsOne sets) slopes good
+        → (flows : ℕ → ℚ) × IsLeastFlow net sets rate slopes flows × IsClosed net capacity_of rate (NeedsStateAt sets) flows slopes
+    grow_least = grow net capacity_of rate 0ℚ (IsInactive sets) (NeedsStateAt sets) slopes good
         (λ e link. needs_or_not sets e) busy leads (IsLeastFlow net sets rate slopes)
         (λ flows f. Serves-over net sets rate flows slopes f.over) not_source (λ flows f e link p d n apart serves _. kept flows f e link p d n apart serves)
 
   module _ (are : AreSets net sets) (rate_nn : 0ℚ ≤ℚ rate) (flows : ℕ → ℚ) (over : IsOversupply net sets rate flows slopes)
-      (closed : IsClosed net capacity_of rate (NeedsOne sets) flows slopes) where
+      (closed : IsClosed net capacity_of rate (NeedsStateAt sets) flows slopes) where
     abbrev Spares : ℕ → Type 0
     Spares v = HasSpare net rate flows v
 
@@ -103,8 +103,8 @@ module _ (net : Network) (sets : Sets) (rate : ℚ) (slopes : ℕ → ℚ) (good
         (lt_or_le_ℚ 0ℚ (slopes v))
 
     -- ---- lower slopes
-    low : Lowered net capacity_of rate 0ℚ (IsInactive sets) (NeedsOne sets) flows slopes
-    low = lowered_some net capacity_of rate 0ℚ (IsInactive sets) (NeedsOne sets) flows slopes good (λ e link p. IsPositive-link net e link good p) (≤ℚ_refl 0ℚ)
+    low : Lowered net capacity_of rate 0ℚ (IsInactive sets) (NeedsStateAt sets) flows slopes
+    low = lowered_some net capacity_of rate 0ℚ (IsInactive sets) (NeedsStateAt sets) flows slopes good (λ e link p. IsPositive-link net e link good p) (≤ℚ_refl 0ℚ)
         (Serves-over net sets rate flows slopes over) (at_most net sets rate flows slopes good over) closed positive
 
     led_by : (v : ℕ) → HasIn net.links flows v → Led net sets low.new_levels v
