@@ -9,7 +9,7 @@ use Rattle.nf_complete_laws.proofs.Bare.{flagged, same_node}
 use Rattle.nf_complete_laws.proofs.ExistsDeciding.{not_so, SomeLink}
 use Rattle.nf_complete_laws.proofs.LinkSums.{sum_out-not_negative}
 use Rattle.nf_complete_laws.proofs.Spare.{not_negative}
-use Rattle.nf_complete_laws.proofs.Serving.{Serves, Led, IsLed, IsInactive, NeedsOne, needs_or_not, capacity_of, Serves-over, ServesBySlopes, IsOversupply-serves}
+use Rattle.nf_complete_laws.proofs.Serving.{Serves, Led, IsLed, IsInactive, NeedsStateAt, needs_or_not, capacity_of, Serves-over, ServesBySlopes, IsOversupply-serves}
 use Rattle.nf_complete_laws.proofs.Affine.{Affine, Affine-value, Affine-form, Affine-floor, Affine-constant, Affine-variable, Affine-plus, Affine-times, Affine-sum_to, Affine-sum_in, Affine-sum_out}
 use Rattle.nf_complete_laws.proofs.Described.{Described, Described-as, Described-always, Described-never, Described-both, Described-either, Described-when, Described-decided, Described-le, Described-same, Described-to, Described-links, Described-some, EachLink}
 
@@ -165,7 +165,8 @@ module _ (net : Network) (cap : Link → Option ℚ) (rate floor : ℚ) (Idle Fr
 pub record IsLeast (nodes : ℕ) (cost : (ℕ → ℚ) → ℚ) (Over : (ℕ → ℚ) → (ℕ → ℚ) → Type 0) (flows slopes : ℕ → ℚ) : Type 0 where
   pub over : Over flows slopes
   pub slopes_least : (other_flows other_slopes : ℕ → ℚ) → Over other_flows other_slopes → sum_to nodes slopes ≤ℚ sum_to nodes other_slopes
-  pub flows_least : (other_flows other_slopes : ℕ → ℚ) → Over other_flows other_slopes → sum_to nodes other_slopes ≤ℚ sum_to nodes slopes → cost flows ≤ℚ cost other_flows
+  pub flows_least : (other_flows other_slopes : ℕ → ℚ) → Over other_flows other_slopes → sum_to nodes other_slopes ≤ℚ sum_to nodes slopes
+      → cost flows ≤ℚ cost other_flows
 
 module _ (nodes : ℕ) (cost : (ℕ → ℚ) → ℚ) (Over : (ℕ → ℚ) → (ℕ → ℚ) → Type 0) (described : Described (λ x. Over (flows_of x) (slopes_of x)))
     (costs : Affine (λ x. cost (flows_of x))) (slopes_nn : (flows slopes : ℕ → ℚ) → Over flows slopes → (v : ℕ) → v < nodes → 0ℚ ≤ℚ slopes v)
@@ -238,11 +239,12 @@ module _ (net : Network) (sets : Sets) (rate : ℚ) where
   MoreHolds x = EachLink net.links ResettingAt x × IsLed net sets (slopes_of x)
 
   oversupply_described : Described (λ x. IsOversupply net sets rate (flows_of x) (slopes_of x))
-  oversupply_described = Described-as (λ x. ServesBySlopes net sets rate (flows_of x) (slopes_of x) × MoreHolds x) (λ x. IsOversupply net sets rate (flows_of x) (slopes_of x))
+  oversupply_described = Described-as (λ x. ServesBySlopes net sets rate (flows_of x) (slopes_of x) × MoreHolds x)
+      (λ x. IsOversupply net sets rate (flows_of x) (slopes_of x))
       (λ x h. IsOversupply-serves net sets rate (flows_of x) (slopes_of x) h.0 h.1.0 h.1.1)
       (λ x o. (Serves-over net sets rate (flows_of x) (slopes_of x) o, (o.resetting, o.led)))
       (Described-both (λ x. ServesBySlopes net sets rate (flows_of x) (slopes_of x)) MoreHolds
-      (serves_described net capacity_of rate 0ℚ (IsInactive sets) (NeedsOne sets) (λ e link. not_so (flagged sets.active e)) (λ e link. needs_or_not sets e))
+      (serves_described net capacity_of rate 0ℚ (IsInactive sets) (NeedsStateAt sets) (λ e link. not_so (flagged sets.active e)) (λ e link. needs_or_not sets e))
       (Described-both (EachLink net.links ResettingAt) (λ x. IsLed net sets (slopes_of x)) resetting_described led_described))
 
   pub least_oversupply : IsNetwork net → (flows slopes : ℕ → ℚ) → IsOversupply net sets rate flows slopes

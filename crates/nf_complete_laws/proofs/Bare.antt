@@ -1,12 +1,19 @@
 -- A node without inflow has no outflow. Whether a link enters such a node is decidable.
-use Rattle.std.proofs.Common.{◌≡◌, ◌≢◌, ℕ, ◌<◌, ◌≤◌, List, [], ◌∷◌, ◌⊎◌, inl, inr, ⊎_elim, sym, subst, refl, ◌∙◌, arith}
-use Rattle.std.proofs.lemmas.Bool.{cases_eq}
-use Rattle.nf_thin_laws.proofs.Bases.{has_or_not}
-use Rattle.nf_complete_laws.proofs.Common.{cases_lt, ℚ, 0ℚ, ◌-ℚ◌, ◌≤ℚ◌, reading_of, ≤ℚ_antisymm, le, eq, linear_le, ≤ℚ_trans, number_at, Has, Link}
-use Rattle.nf_complete_laws.proofs.Common.{Network, IsLink, IsNetwork, sum_in, sum_out, Sets, surplus, IsThinFlow, sum_in-same, sum_in-none, sum_out-each}
-use Rattle.nf_complete_laws.proofs.Common.{IsBare, IsFirstLevel, LeadsToBare}
+use Rattle.std.proofs.Common.{◌≡◌, ◌≢◌, ℕ, ◌<◌, ◌≤◌, List, [], ◌∷◌, ◌⊎◌, inl, inr, ⊎_elim, Bool, true, false, eqb, sym, subst, refl, ◌∙◌, arith}
+use Rattle.nf_complete_laws.proofs.Common.{eqb_tells, cases_lt, ℚ, 0ℚ, ◌-ℚ◌, ◌≤ℚ◌, reading_of, ≤ℚ_antisymm, le, eq, linear_le, ≤ℚ_trans, number_at, Has, Link}
+use Rattle.nf_complete_laws.proofs.Common.{Network, IsLink, IsNetwork, sum_in, sum_out, Sets, surplus, IsThinFlow, sum_in-same, sum_in-none, sum_out-each, flag}
+use Rattle.nf_complete_laws.proofs.Common.{flag-cases, IsBare, IsFirstLevel, LeadsToBare}
 use Rattle.nf_model_laws.proofs.Totals.{IsThinFlow-sink}
 use Rattle.nf_complete_laws.proofs.Deciding.{Decided, both, either, same_or_not, First, NoLink, first_or_none}
+
+pub flagged : (flags : List Bool) (e : ℕ) → Decided (Has flags e)
+flagged flags e = ⊎_elim
+    (λ (w : (flag flags e ≡ true) × Has flags e). inl w.1)
+    (λ (w : (flag flags e ≡ false) × (Has flags e → ⊥)). inr w.1)
+    (flag-cases flags e)
+
+pub same_node : (v w : ℕ) → Decided (v ≡ w)
+same_node v w = ⊎_elim (λ (h : (eqb v w ≡ true) × (v ≡ w)). inl h.1) (λ (h : (eqb v w ≡ false) × (v ≢ w)). inr h.1) (eqb_tells v w)
 
 module _ (net : Network) (sets : Sets) (rate : ℚ) (flows slopes : List ℚ) (good : IsNetwork net) (thin : IsThinFlow net sets rate flows slopes) where
   module _ (rate_nn : 0ℚ ≤ℚ rate) (v : ℕ) (h : v < net.nodes) (b : IsBare net sets flows v) where
@@ -14,7 +21,7 @@ module _ (net : Network) (sets : Sets) (rate : ℚ) (flows slopes : List ℚ) (g
     none_in = sum_in-same net.links (number_at flows) (λ _. 0ℚ) v (λ e link p at. ⊎_elim
         (λ (a : Has sets.active e). (b.bare e link (record { is_link = p; active = a; head = at })).1)
         (λ (n : Has sets.active e → ⊥). thin.active_only e n)
-        (has_or_not sets.active e)) ∙ sum_in-none net.links v
+        (flagged sets.active e)) ∙ sum_in-none net.links v
 
     by_sums : (o i r : ℚ) → o -ℚ i ≡ 0ℚ -ℚ r → i ≡ 0ℚ → 0ℚ ≤ℚ r → o ≤ℚ 0ℚ
     by_sums o i r e f k = linear_le (o ∷ i ∷ r ∷ []) (eq e ∷ eq f ∷ le k ∷ []) (search reading_of) tt
@@ -26,7 +33,7 @@ module _ (net : Network) (sets : Sets) (rate : ℚ) (flows slopes : List ℚ) (g
     none_out = ⊎_elim
         (λ (s : v ≡ net.sink). by_sums _ _ rate (subst (λ (k : ℕ). surplus net flows k ≡ 0ℚ -ℚ rate) (sym s) (IsThinFlow-sink net good sets rate flows slopes thin)) none_in rate_nn)
         (λ (s : v ≢ net.sink). balanced _ _ (thin.inner v h b.not_source s) none_in)
-        (cases_eq v net.sink)
+        (same_node v net.sink)
 
     pub bare_out : (e : ℕ) (link : Link) → IsLink net e link → link.tail ≡ v → number_at flows e ≡ 0ℚ
     bare_out e link p at = ≤ℚ_antisymm _ _ (≤ℚ_trans _ _ _ (sum_out-each net.links (number_at flows) v thin.no_negative_flow e link p at) none_out) (thin.no_negative_flow e)
@@ -40,7 +47,7 @@ module _ (net : Network) (sets : Sets) (rate : ℚ) (flows slopes : List ℚ) (g
   carries x = ⊎_elim (λ (e : x ≡ 0ℚ). inr (λ n. n e)) (λ (n : x ≡ 0ℚ → ⊥). inl n) (same_or_not x 0ℚ)
 
   pub brings_or_not : (v e : ℕ) (link : Link) → Decided (Brings v e link)
-  brings_or_not v e link = both (has_or_not sets.active e) (both (cases_eq link.head v) (either (has_or_not sets.resetting e) (carries (number_at flows e))))
+  brings_or_not v e link = both (flagged sets.active e) (both (same_node link.head v) (either (flagged sets.resetting e) (carries (number_at flows e))))
 
   pub IsBare-none : (v : ℕ) → v ≢ net.source → NoLink net.links (Brings v) → IsBare net sets flows v
   IsBare-none v other none = record {
@@ -65,14 +72,14 @@ module _ (net : Network) (sets : Sets) (rate : ℚ) (flows slopes : List ℚ) (g
       (λ (f : First net.links (Brings v)). inr (not_bare v f))
       (λ (n : NoLink net.links (Brings v)). inl (IsBare-none v s n))
       (first_or_none net.links (Brings v) (brings_or_not v)))
-      (cases_eq v net.source)
+      (same_node v net.source)
 
   -- a link into v with equal slopes
   abbrev pub LevelInto : ℕ → ℕ → Link → Type 0
   LevelInto v e link = Has sets.active e × ((link.head ≡ v) × (number_at slopes link.head ≡ number_at slopes link.tail))
 
   pub level_or_not : (v e : ℕ) (link : Link) → Decided (LevelInto v e link)
-  level_or_not v e link = both (has_or_not sets.active e) (both (cases_eq link.head v) (same_or_not (number_at slopes link.head) (number_at slopes link.tail)))
+  level_or_not v e link = both (flagged sets.active e) (both (same_node link.head v) (same_or_not (number_at slopes link.head) (number_at slopes link.tail)))
 
   pub IsFirstLevel-first : (v : ℕ) (f : First net.links (LevelInto v)) → IsFirstLevel net sets slopes f.0 f.1
   IsFirstLevel-first v f = record {

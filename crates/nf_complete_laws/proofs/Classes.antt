@@ -1,7 +1,7 @@
 -- The states of links in the pattern of settled flows. The flows solve the pattern's equations and satisfy its inequalities.
 use Rattle.std.proofs.Common.{◌≡◌, ◌≢◌, ℕ, ◌<◌, List, [], ◌∷◌, ◌⊎◌, inl, inr, ⊎_elim, Bool, true, false, Option, Some, None, slice_get, sym, ap, subst, refl, ◌∙◌}
-use Rattle.nf_complete_laws.proofs.Common.{is_none, same_Some, slice_get-map, none-some, ℚ, 0ℚ, ◌*ℚ◌, ◌≤ℚ◌, ◌<ℚ◌, reading_of, ≤ℚ_of_lt, ≤ℚ_antisymm, lt_or_le_ℚ, ps_apart}
-use Rattle.nf_complete_laws.proofs.Common.{nn_times, le, eq, linear_le, State, Tight, Full, Zero, number_at, Has, Hop, IsHop, Link, Network}
+use Rattle.nf_complete_laws.proofs.Common.{is_none, same_Some, slice_get-map, none-some, ℚ, 0ℚ, ◌*ℚ◌, ◌≤ℚ◌, ◌<ℚ◌, reading_of, ≤ℚ_of_lt, ≤ℚ_antisymm, lt_or_le_ℚ}
+use Rattle.nf_complete_laws.proofs.Common.{nn_times, le, eq, linear_le, above_not_zero, State, Tight, Full, Zero, number_at, Has, Hop, IsHop, Link, Network}
 use Rattle.nf_complete_laws.proofs.Common.{IsLink, hop_of, hops, unbounded, Sets, exit_slope, exit_slope_at, Enters, IsThinFlow, Pattern, HasState, NeedsState}
 use Rattle.nf_complete_laws.proofs.Common.{IsPattern, Fills, Equation, Inequality, Solves, Meets, IsPositive, IsPositive-link, hop_at, flag, flag-cases}
 use Rattle.nf_complete_laws.proofs.Common.{exit_tight, IsInterior, IsBare, LeadsToBare, IsSettledPattern, AreGoodSets}
@@ -10,10 +10,9 @@ use Rattle.nf_rational_laws.proofs.Order.{some_or_none}
 use Rattle.nf_model_laws.proofs.Affine.{le_from_times}
 use Rattle.nf_thin_laws.proofs.LinkLaws.{LinkLaw}
 use Rattle.nf_thin_laws.proofs.Slopes.{link_law}
-use Rattle.nf_thin_laws.proofs.Bases.{has_or_not}
 use Rattle.nf_complete_laws.proofs.Levels.{state_law, interior-level}
 use Rattle.nf_complete_laws.proofs.Deciding.{Decided, same_or_not, First, NoLink, first_or_none}
-use Rattle.nf_complete_laws.proofs.Bare.{Brings, brings_or_not, IsBare-none, LevelInto, level_or_not, IsFirstLevel-first, leads_or_not}
+use Rattle.nf_complete_laws.proofs.Bare.{flagged, Brings, brings_or_not, IsBare-none, LevelInto, level_or_not, IsFirstLevel-first, leads_or_not}
 
 -- ---- plain numbers: x is the flow of a link, s and t the slopes of its tail and its head
 pub fills_or_not : (capacity : Option ℚ) (x t : ℚ) → Decided (Fills capacity x t)
@@ -81,8 +80,8 @@ module _ (net : Network) (sets : Sets) (rate : ℚ) (flows slopes : List ℚ) (p
       (λ (w : LeadsToBare net sets flows slopes e link). led (settled.led e link p n w) w)
       (λ (w : LeadsToBare net sets flows slopes e link → ⊥). ⊎_elim
       (λ (h : 0ℚ <ℚ x e). ⊎_elim
-      (λ (f : Fills link.capacity (x e) (l link.head)). full (settled.full e link p n (ps_apart (x e) h) f) h f)
-      (λ (f : Fills link.capacity (x e) (l link.head) → ⊥). between (settled.tight e link p n (ps_apart (x e) h) f)
+      (λ (f : Fills link.capacity (x e) (l link.head)). full (settled.full e link p n (above_not_zero (x e) h) f) h f)
+      (λ (f : Fills link.capacity (x e) (l link.head) → ⊥). between (settled.tight e link p n (above_not_zero (x e) h) f)
       (record { link = link; is_link = p; needs = n; some = h; not_full = below_full link.capacity _ _ _ (law e link p n) h f }))
       (fills_or_not link.capacity (x e) (l link.head)))
       (λ (z : x e ≡ 0ℚ). empty (settled.zero e link p n z w) z)
@@ -234,7 +233,7 @@ module _ (net : Network) (sets : Sets) (rate : ℚ) (flows slopes : List ℚ) (p
         (λ (z : x f.0 ≡ 0ℚ → ⊥). ⊎_elim
         (λ (r : Has sets.resetting f.0). inl r)
         (λ (r : Has sets.resetting f.0 → ⊥). inr (by_class f.0 f.1 z (class f.0 f.1 f.2 (f.3.0, r))))
-        (has_or_not sets.resetting f.0))
+        (flagged sets.resetting f.0))
         f.3.1.1,
   )
 

@@ -8,7 +8,8 @@ use Rattle.nf_complete_laws.proofs.Numbers.{numbers}
 use Rattle.nf_complete_laws.proofs.Balanced.{IsThinFlow-balanced}
 use Rattle.nf_complete_laws.proofs.Assigned.{least_oversupply}
 
-module _ (net : Network) (sets : Sets) (rate : ℚ) (good : IsNetwork net) (are : AreSets net sets) (acyclic : HoldNoCycle net sets) (entered : EachIsEntered net sets) (rate_nn : 0ℚ ≤ℚ rate) where
+module _ (net : Network) (sets : Sets) (rate : ℚ) (good : IsNetwork net) (are : AreSets net sets) (acyclic : HoldNoCycle net sets)
+    (entered : EachIsEntered net sets) (rate_nn : 0ℚ ≤ℚ rate) where
   abbrev SomeThinFlow : Type 0
   SomeThinFlow = (flows : List ℚ) × (slopes : List ℚ) × IsThinFlow net sets rate flows slopes
 

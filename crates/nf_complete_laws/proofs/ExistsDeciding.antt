@@ -6,6 +6,9 @@ use Rattle.nf_complete_laws.proofs.Deciding.{Decided, First, NoLink, first_or_no
 pub not_so : {A : Type 0} → Decided A → Decided (A → ⊥)
 not_so {A = A} a = ⊎_elim (λ (x : A). inr (λ n. n x)) (λ (n : A → ⊥). inl n) a
 
+pub unless : {A : Type 0} → Decided A → ((A → ⊥) → ⊥) → A
+unless {A = A} a f = ⊎_elim (λ (x : A). x) (λ (n : A → ⊥). absurd (f n)) a
+
 pub less_or_not : (x y : ℚ) → Decided (x <ℚ y)
 less_or_not x y = ⊎_elim (λ (h : x <ℚ y). inl h) (λ (h : y ≤ℚ x). inr (λ k. not_both_ℚ _ _ k h)) (lt_or_le_ℚ x y)
 

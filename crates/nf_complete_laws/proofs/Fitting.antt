@@ -1,7 +1,7 @@
 -- Flows that fit slopes. Here x is the flow of a link, s and t are the slopes at its tail and its head.
 use Rattle.std.proofs.Common.{◌≡◌, [], ◌∷◌, ◌⊎◌, inl, inr, ⊎_elim, false, Option, Some, None, unwrap_or, sym, ap, subst, refl, ◌∙◌}
 use Rattle.nf_complete_laws.proofs.Common.{none-some, same_Some, ℚ, 0ℚ, ◌+ℚ◌, ◌-ℚ◌, ◌*ℚ◌, ◌≤ℚ◌, ◌<ℚ◌, min_ℚ, reading_of, ≤ℚ_of_same, ≤ℚ_of_lt, ≤ℚ_antisymm}
-use Rattle.nf_complete_laws.proofs.Common.{lt_or_le_ℚ, not_both_ℚ, nn_times, ≤ℚ_refl, ≤ℚ_trans, le, eq, le_times, linear_le, min_left, min_right, min_keeps}
+use Rattle.nf_complete_laws.proofs.Common.{lt_or_le_ℚ, not_both_ℚ, nn_times, ≤ℚ_refl, ≤ℚ_trans, le, le_times, linear_le, min_left, min_right, min_keeps}
 use Rattle.nf_complete_laws.proofs.Common.{exit_slope, Fills, IsPositive, exit_full, exit_tight, exit_zero, Fits}
 use Rattle.nf_complete_laws.proofs.Deciding.{Decided}
 
@@ -122,20 +122,3 @@ fits_least capacity x s t positive fits = ⊎_elim
 
 pub fits_used : (capacity : Option ℚ) (x s t : ℚ) → Fits capacity x s t → 0ℚ <ℚ x → s ≤ℚ t
 fits_used capacity x s t fits h = ⊎_elim (λ (k : x ≤ℚ 0ℚ). absurd (not_both_ℚ _ _ h k)) (λ (k : s ≤ℚ t). k) fits.used
-
--- ---- slopes that fall by h, or stay, keep their order for small h
-pub ordered-low : (s t r u h : ℚ) → s ≤ℚ t → r ≤ℚ s → (u ≡ t) ⊎ ((u ≡ t -ℚ h) × ((s <ℚ t → h ≤ℚ t -ℚ s) × (s ≡ t → r ≡ s -ℚ h))) → r ≤ℚ u
-ordered-low s t r u h l k (inl e) = linear_le (s ∷ t ∷ r ∷ u ∷ []) (le l ∷ le k ∷ eq e ∷ []) (search reading_of) tt
-ordered-low s t r u h l k (inr w) = ⊎_elim
-    (λ (m : s <ℚ t). below (w.1.0 m))
-    (λ (m : t ≤ℚ s). same (≤ℚ_antisymm _ _ l m))
-    (lt_or_le_ℚ s t)
-  where
-    e : u ≡ t -ℚ h
-    e = w.0
-
-    below : h ≤ℚ t -ℚ s → r ≤ℚ u
-    below g = linear_le (s ∷ t ∷ r ∷ u ∷ h ∷ []) (le g ∷ le k ∷ eq e ∷ []) (search reading_of) tt
-
-    same : s ≡ t → r ≤ℚ u
-    same f = let g : r ≡ s -ℚ h = w.1.1 f in linear_le (s ∷ t ∷ r ∷ u ∷ h ∷ []) (eq f ∷ eq g ∷ eq e ∷ []) (search reading_of) tt

@@ -4,7 +4,7 @@ use Rattle.nf_complete_laws.proofs.Common.{ℚ, 0ℚ, ◌+ℚ◌, ◌-ℚ◌, �
 use Rattle.nf_complete_laws.proofs.Common.{Link, Network, IsLink, IsNetwork}
 use Rattle.nf_complete_laws.proofs.Deciding.{Decided, both, same_or_not, NoLink}
 use Rattle.nf_complete_laws.proofs.Bare.{same_node}
-use Rattle.nf_complete_laws.proofs.ExistsDeciding.{not_so, less_or_not, SomeLink, some_link}
+use Rattle.nf_complete_laws.proofs.ExistsDeciding.{not_so, unless, less_or_not, SomeLink, some_link}
 use Rattle.nf_complete_laws.proofs.Fitting.{IsAtMost, HasRoom, room_or_not}
 use Rattle.nf_complete_laws.proofs.Small.{Small, Small-bound, Small-both, Small-at_most, Small-below, Small-room}
 use Rattle.nf_complete_laws.proofs.Spare.{spare, HasSpare, spare_or_not, spare_of_enough}
@@ -34,7 +34,8 @@ module _ (net : Network) (cap : Link → Option ℚ) (rate floor : ℚ) (Idle Fr
   Serve flows = Serves net cap rate floor Idle Free flows levels
 
   -- ---- a push on a free link whose ends have equal levels
-  module _ (flows : ℕ → ℚ) (serves : Serve flows) (e : ℕ) (link : Link) (p : IsLink net e link) (free : Free e link) (level : levels link.head ≡ levels link.tail) where
+  module _ (flows : ℕ → ℚ) (serves : Serve flows) (e : ℕ) (link : Link) (p : IsLink net e link) (free : Free e link)
+      (level : levels link.head ≡ levels link.tail) where
     apart : link.head ≢ link.tail
     apart = (leads e link p free).0
 
@@ -60,7 +61,8 @@ module _ (net : Network) (cap : Link → Option ℚ) (rate floor : ℚ) (Idle Fr
 
       by_node : (P : ℚ → Type 0) (v : ℕ) → v < net.nodes → v ≢ net.source → ((z : ℚ) → 0ℚ <ℚ z → P z) → P (spare net rate flows v) → P (spare net rate new v)
       by_node P v l other positive same = ⊎_elim
-          (λ (k : v ≡ giver). subst (λ (j : ℕ). P (spare net rate new j)) (sym k) (positive _ (left_over (spare net rate flows giver) _ a moves.gives moves.less)))
+          (λ (k : v ≡ giver). subst (λ (j : ℕ). P (spare net rate new j)) (sym k)
+          (positive _ (left_over (spare net rate flows giver) _ a moves.gives moves.less)))
           (λ (k : v ≢ giver). ⊎_elim
           (λ (m : v ≡ gainer). subst (λ (j : ℕ). P (spare net rate new j)) (sym m)
           (positive _ (at_gainer (subst (λ (j : ℕ). j < net.nodes) m l) (λ s. other (m ∙ s)))))
@@ -140,7 +142,8 @@ module _ (net : Network) (cap : Link → Option ℚ) (rate floor : ℚ) (Idle Fr
     module _ (flows : ℕ → ℚ) (f : Kept flows) where
       module _ (e : ℕ) (link : Link) (p : IsLink net e link) (free : Free e link) (level : levels link.head ≡ levels link.tail) where
         grown : (d : ℚ) (giver gainer : ℕ) (a : ℚ) → Moves flows (serves flows f) e link p free level d giver gainer a → HasSpare net rate flows giver
-            → gainer < net.nodes → gainer ≢ net.source → (HasSpare net rate flows gainer → ⊥) → levels gainer ≡ levels giver → link.tail ≢ net.source → Grows flows
+            → gainer < net.nodes → gainer ≢ net.source → (HasSpare net rate flows gainer → ⊥)
+            → levels gainer ≡ levels giver → link.tail ≢ net.source → Grows flows
         grown d giver gainer a moves has is_node other had_none one_level from_source = record {
           new = pushed net rate flows e link p d;
           kept_flow = kept flows f e link p d free from_source (Serve-moved flows (serves flows f) e link p free level d giver gainer a moves) (λ v s. ⊎_elim
@@ -159,12 +162,14 @@ module _ (net : Network) (cap : Link → Option ℚ) (rate floor : ℚ) (Idle Fr
 
         push_forth : HasRoom (cap link) (flows e) (levels link.head) → HasSpare net rate flows link.tail → (HasSpare net rate flows link.head → ⊥) → Grows flows
         push_forth room s none =
-            let m : (a : ℚ) × Moves flows (serves flows f) e link p free level a link.tail link.head a = forth flows (serves flows f) e link p free level room s in
+            let m : (a : ℚ) × Moves flows (serves flows f) e link p free level a link.tail link.head a
+            = forth flows (serves flows f) e link p free level room s in
             grown m.0 link.tail link.head m.0 m.1 s (good.heads e link p) (leads e link p free).1 none level s.0
 
         push_back : 0ℚ <ℚ flows e → HasSpare net rate flows link.head → (HasSpare net rate flows link.tail → ⊥) → Grows flows
         push_back some s none =
-            let m : (a : ℚ) × Moves flows (serves flows f) e link p free level (0ℚ -ℚ a) link.head link.tail a = back flows (serves flows f) e link p free level some s in
+            let m : (a : ℚ) × Moves flows (serves flows f) e link p free level (0ℚ -ℚ a) link.head link.tail a
+            = back flows (serves flows f) e link p free level some s in
             let n : link.tail ≢ net.source = not_source flows f e link p free level some s in
             grown (0ℚ -ℚ m.0) link.head link.tail m.0 m.1 s (good.tails e link p) n none (sym level) n
 
@@ -173,7 +178,8 @@ module _ (net : Network) (cap : Link → Option ℚ) (rate floor : ℚ) (Idle Fr
       Level e link = Free e link × (levels link.head ≡ levels link.tail)
 
       abbrev Forth : ℕ → Link → Type 0
-      Forth e link = Level e link × (HasRoom (cap link) (flows e) (levels link.head) × (HasSpare net rate flows link.tail × (HasSpare net rate flows link.head → ⊥)))
+      Forth e link = Level e link
+          × (HasRoom (cap link) (flows e) (levels link.head) × (HasSpare net rate flows link.tail × (HasSpare net rate flows link.head → ⊥)))
 
       abbrev Back : ℕ → Link → Type 0
       Back e link = Level e link × ((0ℚ <ℚ flows e) × (HasSpare net rate flows link.head × (HasSpare net rate flows link.tail → ⊥)))
@@ -190,14 +196,8 @@ module _ (net : Network) (cap : Link → Option ℚ) (rate floor : ℚ) (Idle Fr
 
       closed_by : NoLink net.links Forth → NoLink net.links Back → IsClosed net cap rate Free flows levels
       closed_by no_forth no_back = record {
-        forth = λ e link p n l room s. ⊎_elim
-            (λ (k : HasSpare net rate flows link.head). k)
-            (λ (k : HasSpare net rate flows link.head → ⊥). absurd (no_forth e link p ((n, l), (room, (s, k)))))
-            (spare_or_not net rate flows link.head);
-        back = λ e link p n l some s. ⊎_elim
-            (λ (k : HasSpare net rate flows link.tail). k)
-            (λ (k : HasSpare net rate flows link.tail → ⊥). absurd (no_back e link p ((n, l), (some, (s, k)))))
-            (spare_or_not net rate flows link.tail);
+        forth = λ e link p n l room s. unless (spare_or_not net rate flows link.head) (λ k. no_forth e link p ((n, l), (room, (s, k))));
+        back = λ e link p n l some s. unless (spare_or_not net rate flows link.tail) (λ k. no_back e link p ((n, l), (some, (s, k))));
       }
 
       step : IsClosed net cap rate Free flows levels ⊎ Grows flows

@@ -1,12 +1,12 @@
 -- If the nodes with excess are closed, the levels of all of them can be lowered. The sum of levels falls.
 use Rattle.std.proofs.Common.{◌≡◌, ◌≢◌, ℕ, zero, suc, ◌<◌, [], ◌∷◌, ◌⊎◌, inl, inr, ⊎_elim, Option, Some, None, slice_get, unwrap_or, sym, ap, subst, refl, ◌∙◌, arith}
-use Rattle.nf_complete_laws.proofs.Common.{ℚ, 0ℚ, ◌+ℚ◌, ◌-ℚ◌, ◌*ℚ◌, ◌≤ℚ◌, ◌<ℚ◌, reading_of, ≤ℚ_of_lt, lt_or_le_ℚ, not_both_ℚ, less_ps, ≤ℚ_refl, ≤ℚ_trans, le, lt, eq}
+use Rattle.nf_complete_laws.proofs.Common.{ℚ, 0ℚ, ◌+ℚ◌, ◌-ℚ◌, ◌*ℚ◌, ◌≤ℚ◌, ◌<ℚ◌, reading_of, ≤ℚ_of_lt, ≤ℚ_of_same, ≤ℚ_antisymm, lt_or_le_ℚ, not_both_ℚ, less_ps, ≤ℚ_refl, ≤ℚ_trans, le, lt, eq}
 use Rattle.nf_complete_laws.proofs.Common.{linear_le, linear_lt, Link, Network, IsLink, IsNetwork, sum_in, sum_out, IsPositive, sum_in-same, sum_in-line, sum_in-order}
 use Rattle.nf_complete_laws.proofs.Common.{sum_out-order, sum_to, before_or_at, sum_le, sum_lt_le, sum_le_lt, Fits, demand}
 use Rattle.nf_complete_laws.proofs.Deciding.{Decided}
 use Rattle.nf_complete_laws.proofs.Small.{Small, Small-bound, Small-map, Small-both, Small-when, Small-at_most, Small-apart, Small-times, Small-to}
 use Rattle.nf_complete_laws.proofs.LinkSums.{sum_in-not_negative}
-use Rattle.nf_complete_laws.proofs.Fitting.{IsAtMost, IsFilled, HasRoom, filled_or_room, capped, capped-le, capped-same, capped-none, capped-near, Fits-capped, fits_used, ordered-low}
+use Rattle.nf_complete_laws.proofs.Fitting.{IsAtMost, IsFilled, HasRoom, filled_or_room, capped, capped-le, capped-same, capped-none, capped-near, Fits-capped, fits_used}
 use Rattle.nf_complete_laws.proofs.Spare.{spare, HasSpare, spare_or_not}
 use Rattle.nf_complete_laws.proofs.Serving.{Serves, IsClosed}
 
@@ -27,25 +27,9 @@ abbrev low_by : {A : Type 0} → Decided A → ℚ → ℚ → ℚ
 low_by (inl a) h x = x -ℚ h
 low_by (inr n) h x = x
 
-low_by-cases : {A : Type 0} (d : Decided A) (h x : ℚ) → (A × (low_by d h x ≡ x -ℚ h)) ⊎ ((A → ⊥) × (low_by d h x ≡ x))
-low_by-cases (inl a) h x = inl (a, refl)
-low_by-cases (inr n) h x = inr (n, refl)
-
-low_by-le : {A : Type 0} (d : Decided A) (h x : ℚ) → 0ℚ ≤ℚ h → low_by d h x ≤ℚ x
-low_by-le (inl a) h x n = linear_le (h ∷ x ∷ []) (le n ∷ []) (search reading_of) tt
-low_by-le (inr m) h x n = ≤ℚ_refl x
-
-low_by-near : {A : Type 0} (d : Decided A) (h x : ℚ) → 0ℚ ≤ℚ h → x -ℚ h ≤ℚ low_by d h x
-low_by-near (inl a) h x n = ≤ℚ_refl _
-low_by-near (inr m) h x n = linear_le (h ∷ x ∷ []) (le n ∷ []) (search reading_of) tt
-
-low_by-is : {A : Type 0} (d : Decided A) (h x : ℚ) → A → low_by d h x ≡ x -ℚ h
-low_by-is (inl a) h x b = refl
-low_by-is (inr n) h x b = absurd (n b)
-
-low_by-not : {A : Type 0} (d : Decided A) (h x : ℚ) → (A → ⊥) → low_by d h x ≡ x
-low_by-not (inl a) h x n = absurd (n a)
-low_by-not (inr m) h x n = refl
+low_by-any : {A : Type 0} (d : Decided A) (h x : ℚ) (P : ℚ → Type 0) → (A → P (x -ℚ h)) → ((A → ⊥) → P x) → P (low_by d h x)
+low_by-any (inl a) h x P f g = f a
+low_by-any (inr n) h x P f g = g n
 
 unwrapped-not_negative : (capacity : Option ℚ) → IsPositive capacity → 0ℚ ≤ℚ unwrap_or capacity 0ℚ
 unwrapped-not_negative None positive = ≤ℚ_refl 0ℚ
@@ -70,7 +54,8 @@ enough_by_same o d i p q h e m = linear_le (o ∷ d ∷ i ∷ p ∷ q ∷ []) (l
 
 module _ (net : Network) (cap : Link → Option ℚ) (rate floor : ℚ) (Idle Free : ℕ → Link → Type 0) (flows levels : ℕ → ℚ) (good : IsNetwork net)
     (positive : (e : ℕ) (link : Link) → IsLink net e link → IsPositive (cap link)) (floor_nn : 0ℚ ≤ℚ floor)
-    (serves : Serves net cap rate floor Idle Free flows levels) (at_most : (e : ℕ) (link : Link) → IsLink net e link → IsAtMost (cap link) (flows e) (levels link.head))
+    (serves : Serves net cap rate floor Idle Free flows levels)
+    (at_most : (e : ℕ) (link : Link) → IsLink net e link → IsAtMost (cap link) (flows e) (levels link.head))
     (closed : IsClosed net cap rate Free flows levels) (lifted : (v : ℕ) → v < net.nodes → HasSpare net rate flows v → floor <ℚ levels v) where
   abbrev Spares : ℕ → Type 0
   Spares v = HasSpare net rate flows v
@@ -106,7 +91,8 @@ module _ (net : Network) (cap : Link → Option ℚ) (rate floor : ℚ) (Idle Fr
 
   above : Small Above
   above = Small-to net.nodes (λ v h. Spares v → h ≤ℚ levels v -ℚ floor)
-      (λ v l. Small-when (Spares v) (λ h. h ≤ℚ levels v -ℚ floor) (spare_or_not net rate flows v) (λ s. Small-at_most (levels v -ℚ floor) (less_ps floor (levels v) (lifted v l s))))
+      (λ v l. Small-when (Spares v) (λ h. h ≤ℚ levels v -ℚ floor) (spare_or_not net rate flows v)
+      (λ s. Small-at_most (levels v -ℚ floor) (less_ps floor (levels v) (lifted v l s))))
 
   paid : Small Paid
   paid = Small-to net.nodes (λ v h. Spares v → sum_in net.links capacity_at v *ℚ h ≤ℚ spare net rate flows v)
@@ -132,36 +118,40 @@ module _ (net : Network) (cap : Link → Option ℚ) (rate floor : ℚ) (Idle Fr
     new-is : (e : ℕ) (link : Link) → IsLink net e link → new e ≡ capped (cap link) (flows e) (lowered link.head)
     new-is e link p = ap (λ (o : Option Link). lowered_by o (flows e)) p
 
+    lowered-any : (v : ℕ) (P : ℚ → Type 0) → (Spares v → P (levels v -ℚ h)) → ((Spares v → ⊥) → P (levels v)) → P (lowered v)
+    lowered-any v = low_by-any (spare_or_not net rate flows v) h (levels v)
+
+    below : (x : ℚ) → x -ℚ h ≤ℚ x
+    below x = linear_le (x ∷ h ∷ []) (le n ∷ []) (search reading_of) tt
+
     lowered-le : (v : ℕ) → lowered v ≤ℚ levels v
-    lowered-le v = low_by-le (spare_or_not net rate flows v) h (levels v) n
+    lowered-le v = lowered-any v (λ z. z ≤ℚ levels v) (λ _. below (levels v)) (λ _. ≤ℚ_refl (levels v))
 
     lowered-is : (v : ℕ) → Spares v → lowered v ≡ levels v -ℚ h
-    lowered-is v s = low_by-is (spare_or_not net rate flows v) h (levels v) s
+    lowered-is v s = lowered-any v (λ z. z ≡ levels v -ℚ h) (λ _. refl) (λ n. absurd (n s))
 
     lowered-not : (v : ℕ) → (Spares v → ⊥) → lowered v ≡ levels v
-    lowered-not v s = low_by-not (spare_or_not net rate flows v) h (levels v) s
-
-    lowered-cases : (v : ℕ) → (Spares v × (lowered v ≡ levels v -ℚ h)) ⊎ ((Spares v → ⊥) × (lowered v ≡ levels v))
-    lowered-cases v = low_by-cases (spare_or_not net rate flows v) h (levels v)
+    lowered-not v none = lowered-any v (λ z. z ≡ levels v) (λ s. absurd (none s)) (λ _. refl)
 
     lowered-keeps_up : (v : ℕ) → v < net.nodes → floor ≤ℚ lowered v
-    lowered-keeps_up v l = ⊎_elim
-        (λ (w : Spares v × (lowered v ≡ levels v -ℚ h)). left (levels v) (lowered v) w.1 (is_small.above v l w.0))
-        (λ (w : (Spares v → ⊥) × (lowered v ≡ levels v)). subst (λ (z : ℚ). floor ≤ℚ z) (sym w.1) (serves.keeps_up v l))
-        (lowered-cases v)
+    lowered-keeps_up v l = lowered-any v (λ z. floor ≤ℚ z) (λ s. left (levels v) (is_small.above v l s)) (λ _. serves.keeps_up v l)
       where
-        left : (x y : ℚ) → y ≡ x -ℚ h → h ≤ℚ x -ℚ floor → floor ≤ℚ y
-        left x y e k = linear_le (x ∷ y ∷ h ∷ floor ∷ []) (eq e ∷ le k ∷ []) (search reading_of) tt
+        left : (x : ℚ) → h ≤ℚ x -ℚ floor → floor ≤ℚ x -ℚ h
+        left x k = linear_le (x ∷ h ∷ floor ∷ []) (le k ∷ []) (search reading_of) tt
 
     lowered-not_negative : (v : ℕ) → v < net.nodes → 0ℚ ≤ℚ lowered v
     lowered-not_negative v l = ≤ℚ_trans _ _ _ floor_nn (lowered-keeps_up v l)
 
     -- Levels keep their order along a link with flow, and against a link with room.
     keeps_order : (u v : ℕ) → u < net.nodes → v < net.nodes → levels u ≤ℚ levels v → (levels u ≡ levels v → Spares v → Spares u) → lowered u ≤ℚ lowered v
-    keeps_order u v l m low both = ordered-low (levels u) (levels v) (lowered u) (lowered v) h low (lowered-le u) (⊎_elim
-        (λ (w : Spares v × (lowered v ≡ levels v -ℚ h)). inr (w.1, (is_small.apart u l v m, λ same. lowered-is u (both same w.0))))
-        (λ (w : (Spares v → ⊥) × (lowered v ≡ levels v)). inl w.1)
-        (lowered-cases v))
+    keeps_order u v l m low both = lowered-any v (λ z. lowered u ≤ℚ z) (λ s. ⊎_elim
+        (λ (k : levels u <ℚ levels v). apart_by _ _ _ (lowered-le u) (is_small.apart u l v m k))
+        (λ (k : levels v ≤ℚ levels u).
+        let same : levels u ≡ levels v = ≤ℚ_antisymm _ _ low k in ≤ℚ_of_same _ _ (lowered-is u (both same s) ∙ ap (λ (z : ℚ). z -ℚ h) same))
+        (lt_or_le_ℚ (levels u) (levels v))) (λ _. ≤ℚ_trans _ _ _ (lowered-le u) low)
+      where
+        apart_by : (r s t : ℚ) → r ≤ℚ s → h ≤ℚ t -ℚ s → r ≤ℚ t -ℚ h
+        apart_by r s t k g = linear_le (r ∷ s ∷ t ∷ h ∷ []) (le k ∷ le g ∷ []) (search reading_of) tt
 
     rises : (e : ℕ) (link : Link) → IsLink net e link → Free e link → 0ℚ <ℚ flows e → lowered link.tail ≤ℚ lowered link.head
     rises e link p m some = keeps_order link.tail link.head (good.tails e link p) (good.heads e link p)
@@ -175,7 +165,8 @@ module _ (net : Network) (cap : Link → Option ℚ) (rate floor : ℚ) (Idle Fr
 
     others : (e : ℕ) (link : Link) → IsLink net e link → Free e link → Fits (cap link) (new e) (lowered link.tail) (lowered link.head)
     others e link p m = subst (λ (x : ℚ). Fits (cap link) x (lowered link.tail) (lowered link.head)) (sym (new-is e link p))
-        (Fits-capped (cap link) (flows e) (levels link.tail) (levels link.head) (lowered link.tail) (lowered link.head) (positive e link p) (serves.fits e link p m)
+        (Fits-capped (cap link) (flows e) (levels link.tail) (levels link.head) (lowered link.tail) (lowered link.head) (positive e link p)
+        (serves.fits e link p m)
         (lowered-not_negative link.head (good.heads e link p)) (lowered-le link.head) used upper)
       where
         used : (flows e ≤ℚ 0ℚ) ⊎ (lowered link.tail ≤ℚ lowered link.head)
@@ -199,7 +190,7 @@ module _ (net : Network) (cap : Link → Option ℚ) (rate floor : ℚ) (Idle Fr
     new-near : (e : ℕ) (link : Link) → IsLink net e link → flows e ≤ℚ new e +ℚ capacity_at e *ℚ h
     new-near e link p = subst (λ (o : Option Link). flows e ≤ℚ lowered_by o (flows e) +ℚ capacity_by o *ℚ h) (sym p)
         (capped-near (cap link) (flows e) (levels link.head) (lowered link.head) h (positive e link p) n
-        (at_most e link p) (low_by-near (spare_or_not net rate flows link.head) h (levels link.head) n))
+        (at_most e link p) (lowered-any link.head (λ z. levels link.head -ℚ h ≤ℚ z) (λ _. ≤ℚ_refl _) (λ _. below (levels link.head))))
 
     less_out : (v : ℕ) → sum_out net.links new v ≤ℚ sum_out net.links flows v
     less_out v = sum_out-order net.links new flows v (λ e link p _. new-le e link p)
@@ -226,10 +217,11 @@ module _ (net : Network) (cap : Link → Option ℚ) (rate floor : ℚ) (Idle Fr
     }
 
     lowered-less : (v : ℕ) → v < net.nodes → Spares v → 0ℚ <ℚ h → sum_to net.nodes lowered <ℚ sum_to net.nodes levels
-    lowered-less v l s k = sum_to-lt net.nodes lowered levels (λ u _. lowered-le u) v l (less (levels v) (lowered v) (lowered-is v s))
+    lowered-less v l s k = sum_to-lt net.nodes lowered levels (λ u _. lowered-le u) v l
+        (subst (λ (z : ℚ). z <ℚ levels v) (sym (lowered-is v s)) (less (levels v)))
       where
-        less : (x y : ℚ) → y ≡ x -ℚ h → y <ℚ x
-        less x y e = linear_lt (x ∷ y ∷ h ∷ []) (eq e ∷ lt k ∷ []) (search reading_of) tt
+        less : (x : ℚ) → x -ℚ h <ℚ x
+        less x = linear_lt (x ∷ h ∷ []) (lt k ∷ []) (search reading_of) tt
 
   pub lowered_some : Lowered net cap rate floor Idle Free flows levels
   lowered_some =

@@ -1,12 +1,12 @@
 -- Pushes keep oversupplies that send the least out of the source. If the nodes with excess are closed, their slopes can be lowered. The
 -- result is an oversupply with a smaller sum of slopes.
-use Rattle.std.proofs.Common.{◌≡◌, ◌≢◌, ℕ, ◌<◌, [], ◌∷◌, ◌⊎◌, inl, inr, ⊎_elim, sym, subst, refl}
+use Rattle.std.proofs.Common.{◌≡◌, ◌≢◌, ℕ, ◌<◌, [], ◌∷◌, inl, inr, ⊎_elim, sym, subst, refl}
 use Rattle.nf_complete_laws.proofs.Common.{ℚ, 0ℚ, ◌+ℚ◌, ◌-ℚ◌, ◌*ℚ◌, ◌≤ℚ◌, ◌<ℚ◌, reading_of, ≤ℚ_of_same, ≤ℚ_of_lt, ≤ℚ_antisymm, lt_or_le_ℚ, not_both_ℚ, ≤ℚ_refl}
 use Rattle.nf_complete_laws.proofs.Common.{≤ℚ_trans, le, lt, eq, le_times, linear_false, Has, Link, Network, IsLink, IsNetwork, sum_out, Sets, Enters, NeedsState}
 use Rattle.nf_complete_laws.proofs.Common.{Fills, IsPositive-link, HasIn, sum_to, AreSets, HoldNoCycle, EachIsEntered, NoneEntersSource-acyclic, none_first, IsOversupply}
 use Rattle.nf_complete_laws.proofs.Fitting.{capped-fills, fits_used}
-use Rattle.nf_complete_laws.proofs.Spare.{spare, HasSpare, spare_or_not, kind_of, not_negative, at_most, spare-brings}
-use Rattle.nf_complete_laws.proofs.Serving.{IsClosed, Led, IsInactive, NeedsOne, needs_or_not, capacity_of, Serves-over, ServesBySlopes, IsOversupply-serves}
+use Rattle.nf_complete_laws.proofs.Spare.{spare, HasSpare, spare_or_not, by_kind, not_negative, at_most, spare-brings}
+use Rattle.nf_complete_laws.proofs.Serving.{IsClosed, Led, IsInactive, NeedsStateAt, needs_or_not, capacity_of, Serves-over, ServesBySlopes, IsOversupply-serves}
 use Rattle.nf_complete_laws.proofs.Pushing.{pushed, pushed-link, out-here, out-else}
 use Rattle.nf_complete_laws.proofs.Lowering.{Lowered, lowered_some}
 use Rattle.nf_complete_laws.proofs.Growing.{Serve-less, grow}
@@ -24,44 +24,47 @@ pub record IsLeastFlow (net : Network) (sets : Sets) (rate : ℚ) (slopes flows 
 
 module _ (net : Network) (sets : Sets) (rate : ℚ) (slopes : ℕ → ℚ) (good : IsNetwork net) (acyclic : HoldNoCycle net sets) where
   module _ (entered : EachIsEntered net sets) where
-    leads : (e : ℕ) (link : Link) → IsLink net e link → NeedsOne sets e link → (link.head ≢ link.tail) × (link.head ≢ net.source)
+    leads : (e : ℕ) (link : Link) → IsLink net e link → NeedsStateAt sets e link → (link.head ≢ link.tail) × (link.head ≢ net.source)
     leads e link p n = (
       (λ h. acyclic e [] link.tail (link, p, n.0, refl, h)),
       (λ h. NoneEntersSource-acyclic net sets good acyclic entered e link (record { is_link = p; active = n.0; head = h })),
     )
 
-    busy : (e : ℕ) (link : Link) → NeedsOne sets e link → IsInactive sets e link → ⊥
+    busy : (e : ℕ) (link : Link) → NeedsStateAt sets e link → IsInactive sets e link → ⊥
     busy e link n i = i n.0
 
     IsOversupply-pushed : (flows : ℕ → ℚ) (e : ℕ) (link : Link) (p : IsLink net e link) (d : ℚ) → IsOversupply net sets rate flows slopes → NeedsState sets e
         → ServesBySlopes net sets rate (pushed net rate flows e link p d) slopes → IsOversupply net sets rate (pushed net rate flows e link p d) slopes
     IsOversupply-pushed flows e link p d over n serves = IsOversupply-serves net sets rate _ slopes serves
-        (pushed-link net rate flows e link p d (λ k other x. Has sets.resetting k → Fills other.capacity x (slopes other.head)) (λ r. absurd (n.1 r)) over.resetting) over.led
+        (pushed-link net rate flows e link p d (λ k other x. Has sets.resetting k → Fills other.capacity x (slopes other.head))
+        (λ r. absurd (n.1 r)) over.resetting) over.led
 
-    not_source : (flows : ℕ → ℚ) → IsLeastFlow net sets rate slopes flows → (e : ℕ) (link : Link) → IsLink net e link → NeedsOne sets e link
+    not_source : (flows : ℕ → ℚ) → IsLeastFlow net sets rate slopes flows → (e : ℕ) (link : Link) → IsLink net e link → NeedsStateAt sets e link
         → slopes link.head ≡ slopes link.tail → 0ℚ <ℚ flows e → HasSpare net rate flows link.head → link.tail ≢ net.source
     not_source flows f e link p n level some s at =
         let w : (a : ℚ) × (0ℚ <ℚ a) × ServesBySlopes net sets rate (pushed net rate flows e link p (0ℚ -ℚ a)) slopes
-        = Serve-less net capacity_of rate 0ℚ (IsInactive sets) (NeedsOne sets) slopes good (λ e link. needs_or_not sets e) busy leads flows
+        = Serve-less net capacity_of rate 0ℚ (IsInactive sets) (NeedsStateAt sets) slopes good (λ e link. needs_or_not sets e) busy leads flows
         (Serves-over net sets rate flows slopes f.over) e link p n level some s in
         no_less_than (sum_out net.links flows net.source) _ w.0 (out-here net rate flows e link p (0ℚ -ℚ w.0) net.source at)
         (f.least _ (IsOversupply-pushed flows e link p (0ℚ -ℚ w.0) f.over n w.2)) w.1
 
-    kept : (flows : ℕ → ℚ) → IsLeastFlow net sets rate slopes flows → (e : ℕ) (link : Link) (p : IsLink net e link) (d : ℚ) → NeedsOne sets e link
+    kept : (flows : ℕ → ℚ) → IsLeastFlow net sets rate slopes flows → (e : ℕ) (link : Link) (p : IsLink net e link) (d : ℚ) → NeedsStateAt sets e link
         → link.tail ≢ net.source
         → ServesBySlopes net sets rate (pushed net rate flows e link p d) slopes → IsLeastFlow net sets rate slopes (pushed net rate flows e link p d)
     kept flows f e link p d n apart serves = record {
       over = IsOversupply-pushed flows e link p d f.over n serves;
-      least = λ other o. subst (λ (z : ℚ). z ≤ℚ sum_out net.links other net.source) (sym (out-else net rate flows e link p d net.source apart)) (f.least other o);
+      least = λ other o. subst (λ (z : ℚ). z ≤ℚ sum_out net.links other net.source)
+          (sym (out-else net rate flows e link p d net.source apart)) (f.least other o);
     }
 
     pub grow_least : (flows : ℕ → ℚ) → IsLeastFlow net sets rate slopes flows
-        → (flows : ℕ → ℚ) × IsLeastFlow net sets rate slopes flows × IsClosed net capacity_of rate (NeedsOne sets) flows slopes
-    grow_least = grow net capacity_of rate 0ℚ (IsInactive sets) (NeedsOne sets) slopes good (λ e link. needs_or_not sets e) busy leads (IsLeastFlow net sets rate slopes)
+        → (flows : ℕ → ℚ) × IsLeastFlow net sets rate slopes flows × IsClosed net capacity_of rate (NeedsStateAt sets) flows slopes
+    grow_least = grow net capacity_of rate 0ℚ (IsInactive sets) (NeedsStateAt sets) slopes good
+        (λ e link. needs_or_not sets e) busy leads (IsLeastFlow net sets rate slopes)
         (λ flows f. Serves-over net sets rate flows slopes f.over) not_source (λ flows f e link p d n apart serves _. kept flows f e link p d n apart serves)
 
   module _ (are : AreSets net sets) (rate_nn : 0ℚ ≤ℚ rate) (flows : ℕ → ℚ) (over : IsOversupply net sets rate flows slopes)
-      (closed : IsClosed net capacity_of rate (NeedsOne sets) flows slopes) where
+      (closed : IsClosed net capacity_of rate (NeedsStateAt sets) flows slopes) where
     abbrev Spares : ℕ → Type 0
     Spares v = HasSpare net rate flows v
 
@@ -80,17 +83,12 @@ module _ (net : Network) (sets : Sets) (rate : ℚ) (slopes : ℕ → ℚ) (good
         (fits_used link.capacity _ _ _ (over.others e link p n) some)
 
     flat_link : (e : ℕ) (link : Link) → IsLink net e link → 0ℚ <ℚ flows e → Flat link.head → Has sets.active e × Flat link.tail
-    flat_link e link p some f = ⊎_elim
-        (λ (r : Has sets.resetting e).
-        let fills : Fills link.capacity (flows e) (slopes link.head) = over.resetting e link p r in
+    flat_link e link p some f = by_kind sets e
+        (λ r. let fills : Fills link.capacity (flows e) (slopes link.head) = over.resetting e link p r in
         absurd (no_positive (flows e) fills.0 (slopes link.head) some (≤ℚ_of_same _ _ fills.2) (good.capacities e link fills.0 p fills.1) f.1))
-        (λ (o : NeedsState sets e ⊎ (Has sets.active e → ⊥)). ⊎_elim
-        (λ (n : NeedsState sets e).
-        let level : slopes link.head ≡ slopes link.tail = flat_level e link p n some f in
+        (λ n. let level : slopes link.head ≡ slopes link.tail = flat_level e link p n some f in
         (n.0, (closed.back e link p n level some f.0, subst (λ (t : ℚ). t ≤ℚ 0ℚ) level f.1)))
-        (λ (a : Has sets.active e → ⊥). absurd (idle_none e link p a some))
-        o)
-        (kind_of sets e)
+        (λ a. absurd (idle_none e link p a some))
 
     flat_back : (v : ℕ) → v < net.nodes → Flat v → (e : ℕ) × (link : Link) × Enters net sets v e link × Flat link.tail
     flat_back v h f =
@@ -105,21 +103,24 @@ module _ (net : Network) (sets : Sets) (rate : ℚ) (slopes : ℕ → ℚ) (good
         (lt_or_le_ℚ 0ℚ (slopes v))
 
     -- ---- lower slopes
-    low : Lowered net capacity_of rate 0ℚ (IsInactive sets) (NeedsOne sets) flows slopes
-    low = lowered_some net capacity_of rate 0ℚ (IsInactive sets) (NeedsOne sets) flows slopes good (λ e link p. IsPositive-link net e link good p) (≤ℚ_refl 0ℚ)
+    low : Lowered net capacity_of rate 0ℚ (IsInactive sets) (NeedsStateAt sets) flows slopes
+    low = lowered_some net capacity_of rate 0ℚ (IsInactive sets) (NeedsStateAt sets) flows slopes good (λ e link p. IsPositive-link net e link good p) (≤ℚ_refl 0ℚ)
         (Serves-over net sets rate flows slopes over) (at_most net sets rate flows slopes good over) closed positive
 
     led_by : (v : ℕ) → HasIn net.links flows v → Led net sets low.new_levels v
-    led_by v b = ⊎_elim
-        (λ (r : Has sets.resetting b.0). (b.0, b.1, record { is_link = b.2; active = are.resetting b.0 r; head = b.3 }, inl r))
-        (λ (o : NeedsState sets b.0 ⊎ (Has sets.active b.0 → ⊥)). ⊎_elim
-        (λ (m : NeedsState sets b.0). (b.0, b.1, record { is_link = b.2; active = m.0; head = b.3 }, inr (low.rises b.0 b.1 b.2 m b.4)))
-        (λ (a : Has sets.active b.0 → ⊥). absurd (idle_none b.0 b.1 b.2 a b.4))
-        o)
-        (kind_of sets b.0)
+    led_by v b = by_kind sets b.0
+        (λ r. (b.0, b.1, record { is_link = b.2; active = are.resetting b.0 r; head = b.3 }, inl r))
+        (λ m. (b.0, b.1, record { is_link = b.2; active = m.0; head = b.3 }, inr (low.rises b.0 b.1 b.2 m b.4)))
+        (λ a. absurd (idle_none b.0 b.1 b.2 a b.4))
 
     led_as_before : (v : ℕ) → Led net sets slopes v → (Spares v → ⊥) → Led net sets low.new_levels v
-    led_as_before v t none = (t.0, t.1, t.2, ⊎_elim (λ (r : Has sets.resetting t.0). inl r) (λ (k : slopes t.1.tail ≤ℚ slopes t.1.head). inr (kept_order k)) t.3)
+    led_as_before v t none = (
+      t.0,
+      t.1,
+      t.2,
+      ⊎_elim (λ (r : Has sets.resetting t.0). inl r)
+          (λ (k : slopes t.1.tail ≤ℚ slopes t.1.head). inr (kept_order k)) t.3,
+    )
       where
         kept_order : slopes t.1.tail ≤ℚ slopes t.1.head → low.new_levels t.1.tail ≤ℚ low.new_levels t.1.head
         kept_order k = ≤ℚ_trans _ _ _ (≤ℚ_trans _ _ _ (low.lower t.1.tail) k) (≤ℚ_of_same _ _ (sym (low.same t.1.head (λ s. none (subst Spares t.2.head s)))))

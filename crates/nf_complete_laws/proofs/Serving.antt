@@ -31,8 +31,8 @@ capacity_of link = link.capacity
 abbrev pub IsInactive : Sets → ℕ → Link → Type 0
 IsInactive sets e link = Has sets.active e → ⊥
 
-abbrev pub NeedsOne : Sets → ℕ → Link → Type 0
-NeedsOne sets e link = NeedsState sets e
+abbrev pub NeedsStateAt : Sets → ℕ → Link → Type 0
+NeedsStateAt sets e link = NeedsState sets e
 
 pub needs_or_not : (sets : Sets) (e : ℕ) → Decided (NeedsState sets e)
 needs_or_not sets e = both (flagged sets.active e) (not_so (flagged sets.resetting e))
@@ -49,7 +49,7 @@ IsLed net sets slopes = (v : ℕ) → v < net.nodes → v ≢ net.source → Led
 
 module _ (net : Network) (sets : Sets) (rate : ℚ) (flows slopes : ℕ → ℚ) where
   abbrev pub ServesBySlopes : Type 0
-  ServesBySlopes = Serves net capacity_of rate 0ℚ (IsInactive sets) (NeedsOne sets) flows slopes
+  ServesBySlopes = Serves net capacity_of rate 0ℚ (IsInactive sets) (NeedsStateAt sets) flows slopes
 
   pub Serves-over : IsOversupply net sets rate flows slopes → ServesBySlopes
   Serves-over over = record {

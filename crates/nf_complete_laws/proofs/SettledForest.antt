@@ -2,7 +2,6 @@
 -- inflow, the only Tight links are the one chosen to enter it and those chosen to enter further such nodes. The flow of the entering link
 -- therefore continues forever along active links, which hold no cycle. So the trail uses interior links only, which hold no cycle.
 use Rattle.std.proofs.Common.{◌≡◌, ◌≢◌, ℕ, ◌<◌, ◌≤◌, List, [], ◌∷◌, ◌++◌, ◌⊎◌, inl, inr, ⊎_elim, Bool, true, false, if◌then◌else◌, eqb, Option, Some, None, sym, ap, subst, refl, ◌∙◌, arith}
-use Rattle.std.proofs.lemmas.Bool.{cases_eq}
 use Rattle.nf_complete_laws.proofs.Common.{cases_lt, eqb_tells, ℚ, 0ℚ, ◌-ℚ◌, ◌≤ℚ◌, reading_of, ≤ℚ_of_same, not_both_ℚ, eq, linear_eq, linear_false, Tight, Full}
 use Rattle.nf_complete_laws.proofs.Common.{Zero, number_at, Has, Link, Network, IsLink, IsNetwork, hops, sum_in, Sets, IsThinFlow, Pattern, HasState, IsTrail}
 use Rattle.nf_complete_laws.proofs.Common.{AllDiffer, IsForest, link_at, only_at, only_at-here, only_at-else, out_less_in, sum_in-same, sum_out-same}
@@ -11,7 +10,7 @@ use Rattle.nf_complete_laws.proofs.Common.{LeadsToBare, IsSettledPattern, AreGoo
 use Rattle.nf_thin_laws.proofs.Forests.{Dart, Carries, forest-none}
 use Rattle.nf_complete_laws.proofs.Trails.{mark, sum_in-only, signed, carried_by, turn-first, trail-allowed, carried-closed}
 use Rattle.nf_complete_laws.proofs.Deciding.{Decided, both, same_or_not, First, NoLink, first_or_none}
-use Rattle.nf_complete_laws.proofs.Bare.{bare_out}
+use Rattle.nf_complete_laws.proofs.Bare.{same_node, bare_out}
 use Rattle.nf_complete_laws.proofs.Classes.{Class, led, empty, full, between, class}
 
 -- ---- no node has a property that continues along an active link from each node that has it
@@ -105,7 +104,7 @@ module _ (net : Network) (sets : Sets) (rate : ℚ) (flows slopes : List ℚ) (p
           (λ (z : d k ≡ 0ℚ). z ∙ sym (only_at-else e (d e) k w))
           (λ (n : d k ≡ 0ℚ → ⊥). absurd (other_in k m p s w n))
           (same_or_not (d k) 0ℚ))
-          (cases_eq e k)
+          (same_node e k)
 
       mark_here : (b : Bool) → b ≡ true → (if b then d e else 0ℚ) ≡ d e
       mark_here true k = refl
@@ -124,7 +123,7 @@ module _ (net : Network) (sets : Sets) (rate : ℚ) (flows slopes : List ℚ) (p
       Onward f m = (m.tail ≡ v) × (d f ≡ 0ℚ → ⊥)
 
       onward_or_not : (f : ℕ) (m : Link) → Decided (Onward f m)
-      onward_or_not f m = both (cases_eq m.tail v) (⊎_elim (λ (z : d f ≡ 0ℚ). inr (λ n. n z)) (λ (n : d f ≡ 0ℚ → ⊥). inl n) (same_or_not (d f) 0ℚ))
+      onward_or_not f m = both (same_node m.tail v) (⊎_elim (λ (z : d f ≡ 0ℚ). inr (λ n. n z)) (λ (n : d f ≡ 0ℚ → ⊥). inl n) (same_or_not (d f) 0ℚ))
 
       no_sum : (o i y : ℚ) → o -ℚ i ≡ 0ℚ → i ≡ y → o ≡ 0ℚ → y ≡ 0ℚ
       no_sum o i y a b c = linear_eq (o ∷ i ∷ y ∷ []) (eq a ∷ eq b ∷ eq c ∷ []) (search reading_of) tt tt

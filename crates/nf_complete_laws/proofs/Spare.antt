@@ -1,10 +1,9 @@
 -- The excess of a node in an oversupply, its inflow less its outflow and demand; and properties of the links.
-use Rattle.std.proofs.Common.{◌≢◌, ℕ, ◌==◌, if◌then◌else◌, Bool, true, false, [], ◌∷◌, ◌⊎◌, inl, inr, ⊎_elim, sym}
-use Rattle.std.proofs.lemmas.Bool.{cases_eq}
-use Rattle.nf_thin_laws.proofs.Bases.{has_or_not}
+use Rattle.std.proofs.Common.{◌≢◌, ℕ, ◌==◌, if◌then◌else◌, Bool, true, false, [], ◌∷◌, ⊎_elim, sym}
 use Rattle.nf_complete_laws.proofs.Common.{ℚ, 0ℚ, ◌+ℚ◌, ◌-ℚ◌, ◌≤ℚ◌, ◌<ℚ◌, reading_of, ≤ℚ_of_same, ≤ℚ_refl, le, lt, linear_le, linear_lt, Has, Link, Network}
 use Rattle.nf_complete_laws.proofs.Common.{IsLink, IsNetwork, sum_in, sum_out, Sets, NeedsState, IsPositive-link, HasIn, sum_in-some, demand, IsOversupply}
 use Rattle.nf_complete_laws.proofs.Deciding.{Decided, both}
+use Rattle.nf_complete_laws.proofs.Bare.{flagged, same_node}
 use Rattle.nf_complete_laws.proofs.ExistsDeciding.{not_so, less_or_not}
 use Rattle.nf_complete_laws.proofs.LinkSums.{sum_out-not_negative}
 use Rattle.nf_complete_laws.proofs.Fitting.{IsAtMost, IsAtMost-fills, IsAtMost-none, not_negative-fills}
@@ -17,7 +16,7 @@ abbrev pub HasSpare : Network → ℚ → (ℕ → ℚ) → ℕ → Type 0
 HasSpare net rate flows v = (v ≢ net.source) × (0ℚ <ℚ spare net rate flows v)
 
 pub spare_or_not : (net : Network) (rate : ℚ) (flows : ℕ → ℚ) (v : ℕ) → Decided (HasSpare net rate flows v)
-spare_or_not net rate flows v = both (not_so (cases_eq v net.source)) (less_or_not 0ℚ (spare net rate flows v))
+spare_or_not net rate flows v = both (not_so (same_node v net.source)) (less_or_not 0ℚ (spare net rate flows v))
 
 pub enough_of_spare : (i o d : ℚ) → 0ℚ ≤ℚ i -ℚ (o +ℚ d) → o +ℚ d ≤ℚ i
 enough_of_spare i o d h = linear_le (i ∷ o ∷ d ∷ []) (le h ∷ []) (search reading_of) tt
@@ -42,32 +41,23 @@ spare-brings net rate flows nn n v h =
     some i o d p q r = linear_lt (i ∷ o ∷ d ∷ []) (le p ∷ le q ∷ lt r ∷ []) (search reading_of) tt
 
 -- A link is resetting, needs a state, or is not active.
-pub kind_of : (sets : Sets) (e : ℕ) → Has sets.resetting e ⊎ (NeedsState sets e ⊎ (Has sets.active e → ⊥))
-kind_of sets e = ⊎_elim
-    (λ (r : Has sets.resetting e). inl r)
-    (λ (r : Has sets.resetting e → ⊥). ⊎_elim
-    (λ (a : Has sets.active e). inr (inl (a, r)))
-    (λ (a : Has sets.active e → ⊥). inr (inr a))
-    (has_or_not sets.active e))
-    (has_or_not sets.resetting e)
+pub by_kind : {B : Type 0} (sets : Sets) (e : ℕ) → (Has sets.resetting e → B) → (NeedsState sets e → B) → ((Has sets.active e → ⊥) → B) → B
+by_kind sets e full free none = ⊎_elim
+    full
+    (λ (r : Has sets.resetting e → ⊥). ⊎_elim (λ (a : Has sets.active e). free (a, r)) none (flagged sets.active e))
+    (flagged sets.resetting e)
 
 module _ (net : Network) (sets : Sets) (rate : ℚ) (flows slopes : ℕ → ℚ) (good : IsNetwork net) (over : IsOversupply net sets rate flows slopes) where
   pub not_negative : (e : ℕ) (link : Link) → IsLink net e link → 0ℚ ≤ℚ flows e
-  not_negative e link p = ⊎_elim
-      (λ (r : Has sets.resetting e). not_negative-fills link.capacity _ _ (IsPositive-link net e link good p) (over.resetting e link p r)
+  not_negative e link p = by_kind sets e
+      (λ r. not_negative-fills link.capacity _ _ (IsPositive-link net e link good p) (over.resetting e link p r)
       (over.no_negative_slope link.head (good.heads e link p)))
-      (λ (o : NeedsState sets e ⊎ (Has sets.active e → ⊥)). ⊎_elim
-      (λ (n : NeedsState sets e). (over.others e link p n).no_negative)
-      (λ (a : Has sets.active e → ⊥). ≤ℚ_of_same _ _ (sym (over.inactive e link p a)))
-      o)
-      (kind_of sets e)
+      (λ n. (over.others e link p n).no_negative)
+      (λ a. ≤ℚ_of_same _ _ (sym (over.inactive e link p a)))
 
   pub at_most : (e : ℕ) (link : Link) → IsLink net e link → IsAtMost link.capacity (flows e) (slopes link.head)
-  at_most e link p = ⊎_elim
-      (λ (r : Has sets.resetting e). IsAtMost-fills link.capacity _ _ (over.resetting e link p r))
-      (λ (o : NeedsState sets e ⊎ (Has sets.active e → ⊥)). ⊎_elim
-      (λ (n : NeedsState sets e). (over.others e link p n).most)
-      (λ (a : Has sets.active e → ⊥). IsAtMost-none link.capacity _ _ (IsPositive-link net e link good p) (over.inactive e link p a)
+  at_most e link p = by_kind sets e
+      (λ r. IsAtMost-fills link.capacity _ _ (over.resetting e link p r))
+      (λ n. (over.others e link p n).most)
+      (λ a. IsAtMost-none link.capacity _ _ (IsPositive-link net e link good p) (over.inactive e link p a)
       (over.no_negative_slope link.head (good.heads e link p)))
-      o)
-      (kind_of sets e)

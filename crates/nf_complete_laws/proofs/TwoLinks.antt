@@ -1,10 +1,8 @@
 -- Two links from source to sink, of which one is resetting and the other unbounded.
 use Rattle.std.proofs.Common.{◌≡◌, ℕ, zero, suc, ◌<◌, List, [], ◌∷◌, Some, None, sym, ap, subst, refl, ◌∙◌, arith}
-use Rattle.nf_rational_laws.proofs.Facts.{one_ps}
-use Rattle.nf_rational_laws.proofs.Chains.{≤ℚ_refl}
 use Rattle.nf_complete_laws.proofs.Common.{none-some, same_Some, ℚ, 0ℚ, 1ℚ, ◌≤ℚ◌, ◌<ℚ◌, reading_of, not_both_ℚ, linear_le, linear_lt, Has, Hop, IsHop, IsWalk}
 use Rattle.nf_complete_laws.proofs.Common.{Link, IsNetwork, IsLink, hops, hop_of, slack, EachIsEntered, AreSets-sets_at, HoldNoCycle-sets_at, ResetsAreBounded}
-use Rattle.nf_model_laws.proofs.MemberLink.{node_cases, zero_one}
+use Rattle.nf_model_laws.proofs.MemberLink.{node_cases}
 use Rattle.nf_model_laws.proofs.Slacks.{active_of_slack, resetting_of_slack, slack_of_resetting}
 use Rattle.nf_complete_laws.specs.ExistenceLaws.{ThinFlowExists}
 use Rattle.nf_complete_laws.specs.TwoLinks.{bounded_link, unbounded_link, two_links, queue_labels, queue_sets, TwoLinksHaveThinFlow}
@@ -14,6 +12,9 @@ by_link : (P : ℕ → Link → Type 0) (e : ℕ) (link : Link) → IsLink two_l
 by_link P zero link p a b = subst (λ (l : Link). P 0 l) (same_Some bounded_link link p) a
 by_link P (suc zero) link p a b = subst (λ (l : Link). P 1 l) (same_Some unbounded_link link p) b
 by_link P (suc (suc e)) link p a b = absurd (none-some link p)
+
+zero_one : {X : Type 0} → ◌≡◌ {A = ℕ} zero (suc zero) → X
+zero_one e = absurd (cc)
 
 -- Both links lead from 0 to 1.
 ends_of : (e : ℕ) (hop : Hop) → IsHop (hops two_links) e hop → (0 ≡ hop.tail) × (hop.head ≡ 1)
@@ -34,6 +35,12 @@ no_cycle e walk v w =
 zero_one_ℚ : 0ℚ ≤ℚ 1ℚ
 zero_one_ℚ = linear_le [] [] (search reading_of) tt
 
+one_positive : 0ℚ <ℚ 1ℚ
+one_positive = linear_lt [] [] (search reading_of) tt
+
+zero_zero : 0ℚ ≤ℚ 0ℚ
+zero_zero = linear_le [] [] (search reading_of) tt
+
 IsNetwork-two_links : IsNetwork two_links
 IsNetwork-two_links = record {
   source = omega arith;
@@ -41,9 +48,9 @@ IsNetwork-two_links = record {
   apart = λ e. zero_one e;
   tails = λ e link p. by_link (λ _ (l : Link). l.tail < 2) e link p (omega arith) (omega arith);
   heads = λ e link p. by_link (λ _ (l : Link). l.head < 2) e link p (omega arith) (omega arith);
-  transits = λ e link p. by_link (λ _ (l : Link). 0ℚ ≤ℚ l.transit) e link p (≤ℚ_refl 0ℚ) zero_one_ℚ;
+  transits = λ e link p. by_link (λ _ (l : Link). 0ℚ ≤ℚ l.transit) e link p zero_zero zero_one_ℚ;
   capacities = λ e link rate p some. by_link (λ _ (l : Link). l.capacity ≡ Some rate → 0ℚ <ℚ rate) e link p
-      (λ s. subst (λ (c : ℚ). 0ℚ <ℚ c) (same_Some 1ℚ rate s) one_ps) (λ s. absurd (none-some rate s)) some;
+      (λ s. subst (λ (c : ℚ). 0ℚ <ℚ c) (same_Some 1ℚ rate s) one_positive) (λ s. absurd (none-some rate s)) some;
   pieces = record {
     starts = λ i piece p. absurd (none-some piece p);
     rise = λ i piece next p q. absurd (none-some piece p);

@@ -50,7 +50,8 @@ module _ (net : Network) (good : IsNetwork net) (rate : ℚ) (nn : 0ℚ ≤ℚ r
       enough = λ w other. ⊎_elim
           (λ (k : link.head ≡ link.tail). subst (λ (j : ℕ). 0ℚ ≤ℚ spare net rate flows w +ℚ only_at j rate w) k (r.enough w other))
           (λ (k : link.head ≢ link.tail). ⊎_elim
-          (λ (m : link.head ≡ net.source). from_source _ _ _ (only_at-else link.head rate w (λ j. other (sym j ∙ m))) (r.enough w other) (only_at-nn link.tail rate nn w))
+          (λ (m : link.head ≡ net.source). from_source _ _ _ (only_at-else link.head rate w (λ j. other (sym j ∙ m)))
+          (r.enough w other) (only_at-nn link.tail rate nn w))
           (λ (m : link.head ≢ net.source). absurd (n (k, m)))
           (same_node link.head net.source))
           (same_node link.head link.tail);

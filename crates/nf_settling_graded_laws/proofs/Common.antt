@@ -1,7 +1,7 @@
 -- The names that most proofs of this crate cite, passed on from one place. Declares nothing.
 pub use Rattle.nf_complete_laws.proofs.Bare.{same_node}
 pub use Rattle.nf_complete_laws.proofs.Deciding.{Decided, both}
-pub use Rattle.nf_complete_laws.proofs.ExistsDeciding.{not_so}
+pub use Rattle.nf_complete_laws.proofs.ExistsDeciding.{not_so, unless}
 pub use Rattle.nf_complete_laws.proofs.Fitting.{IsAtMost-none, IsAtMost, fits_used}
 pub use Rattle.nf_complete_laws.proofs.LinkSums.{sum_in-not_negative}
 pub use Rattle.nf_complete_laws.proofs.Pushing.{in-pushed, pushed, pushed-cases, spare-else, spare-head, spare-tail}
