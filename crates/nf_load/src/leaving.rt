@@ -1,5 +1,5 @@
 // The slopes of exit and outflow from moment to moment.
-ghost use Rattle.std.specs.Prelude.{◌≡◌, ◌≢◌, ◌&&◌, IfOk, IfSome, IsTrue, Ok, slice_get};
+ghost use Rattle.std.specs.Prelude.{◌≡◌, ◌≢◌, ◌&&◌, IfOk, IfSome, IsTrue, Ok};
 ghost use Rattle.nf_rational.specs.Rational.{ℚ};
 ghost use Rattle.nf_rational.specs.Operations.{0ℚ};
 ghost use Rattle.nf_rational.specs.Signs.{is_zero};
@@ -7,10 +7,10 @@ ghost use Rattle.nf_frac_def.specs.Passing.{passes_Q};
 ghost use Rattle.nf_frac_def.specs.Checked.{checked};
 ghost use Rattle.nf_frac_def.specs.declared.Op.TheVariants.{Difference};
 ghost use Rattle.nf_model_laws.specs.Capacity.{IsPositive};
-ghost use Rattle.nf_load.specs.Slopes.{flat};
 ghost use Rattle.nf_load.specs.Paces.{IsPaceIf};
 ghost use Rattle.nf_load.specs.Leaving.{AreExits, AreExitsOf, AreLeaving, IsBusy, IsLeavingIf};
 
+use crate::shortening::known_at;
 use crate::waits::{Exit, Leaving, Pace};
 use nf_frac::Q;
 use std::alloc::{AllocError, Global};
@@ -77,17 +77,6 @@ fn leaves(capacity: &Option<Q>, pace: Option<Pace>, before: &Exit, after: &Exit)
     }
 }
 
-// Returns the pace from the moment of this number on, if it is known.
-fn pace_at(paces: &[Option<Pace>], index: usize) -> Option<Pace>
-    ensures { result ≡ flat (slice_get paces.now index) }
-{
-    if index < paces.len() {
-        paces[index]
-    } else {
-        None
-    }
-}
-
 /// Returns the slopes of exit and outflow from each moment to the next, where the pace is known and no operation passes.
 pub(crate) fn all_leaving(
     alloc: Global,
@@ -101,7 +90,7 @@ pub(crate) fn all_leaving(
 {
     let mut leaving = Vec::with_capacity(alloc, all.len())?;
     for i in 1..all.len() {
-        let slopes = leaves(capacity, pace_at(paces, i - 1), &all[i - 1], &all[i]);
+        let slopes = leaves(capacity, known_at(paces, i - 1), &all[i - 1], &all[i]);
         leaving.push(slopes)?;
     }
     Ok(leaving)

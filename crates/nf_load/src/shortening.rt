@@ -26,12 +26,12 @@ pub(crate) fn slope_or(p: &Point, q: &Point, known: Option<Q>, part: Part) -> Re
     }
 }
 
-// Returns the slope of the piece from the point of this number on, if it is known.
-fn known_at(slopes: &[Option<Q>], index: usize) -> Option<Q>
-    ensures { result ≡ flat (slice_get slopes.now index) }
+/// Returns the entry of this number, if it is known.
+pub(crate) fn known_at<T: Copy>(entries: &[Option<T>], index: usize) -> Option<T>
+    ensures { result ≡ flat (slice_get entries.now index) }
 {
-    if index < slopes.len() {
-        slopes[index]
+    if index < entries.len() {
+        entries[index]
     } else {
         None
     }

@@ -1,5 +1,5 @@
 // The links at each node, in link order: a node's first link, and after each link the next ones at its ends.
-ghost use Rattle.std.specs.Prelude.{◌≡◌, ◌<◌, ℕ, suc, length, slice_get, slice_set, Some, IfOk};
+ghost use Rattle.std.specs.Prelude.{◌<◌, suc, length, IfOk};
 ghost use Rattle.nf_thin_balance.specs.LinksAt.{IsNextAt, HasLinksFrom, HasLinks};
 
 use nf_graph::{LinkId, NodeId};
@@ -15,22 +15,6 @@ pub(crate) struct LinksAt {
     at_tail: Vec<u32>,
     // Of each link, the next link at its head.
     at_head: Vec<u32>,
-}
-
-// Returns the number at an index.
-fn number_at(numbers: &[u32], at: usize) -> u32
-    requires { at < length numbers.now }
-    ensures { slice_get numbers.now at ≡ Some result }
-{
-    numbers[at]
-}
-
-// Sets the number at an index.
-fn put_number(numbers: &mut Vec<u32>, at: usize, number: u32)
-    requires { at < length numbers.old.items }
-    ensures { numbers.new.items ≡ slice_set numbers.old.items at number }
-{
-    numbers[at] = number;
 }
 
 // Adds a link before all links that were added.
@@ -49,10 +33,10 @@ fn add_first(
     let hop = &net.hops()[link.index()];
     let tail = hop.tail.index();
     let head = hop.head.index();
-    put_number(at_tail, link.index(), number_at(first, tail));
-    put_number(at_head, link.index(), number_at(first, head));
-    put_number(first, tail, link.0);
-    put_number(first, head, link.0);
+    at_tail[link.index()] = first[tail];
+    at_head[link.index()] = first[head];
+    first[tail] = link.0;
+    first[head] = link.0;
 }
 
 impl LinksAt {
@@ -82,7 +66,7 @@ impl LinksAt {
         requires node { node < net.now.net.nodes }
         ensures { IsNextAt net.now.net node 0 result }
     {
-        number_at(&self.first, node.index())
+        self.first[node.index()]
     }
 
     /// Returns the next link at a node after a link at this node. After another link, returns the next of all links.
@@ -95,10 +79,10 @@ impl LinksAt {
         let leaves = hop.tail == node;
         let enters = hop.head == node;
         if leaves {
-            return number_at(&self.at_tail, link.index());
+            return self.at_tail[link.index()];
         }
         if enters {
-            return number_at(&self.at_head, link.index());
+            return self.at_head[link.index()];
         }
         link.0 + 1
     }

@@ -22,7 +22,7 @@ leaves-slopes-requires-clause-pace c =
     let before : c.loop-i.i - 1 < length c.args.all.now = omega arith in
     let e = slice_get_read c.args.all.now _ (c.loop-i.i - 1) c.index-all-i.result refl before c.index-all-i.is in
     let g = slice_get_read c.args.all.now _ c.loop-i.i c.index-all-i-in-loop-i.result refl inside c.index-all-i-in-loop-i.is in
-    subst (λ (o : Option Pace). IsPaceIf c.args.capacity.now o c.index-all-i.result.waits c.index-all-i-in-loop-i.result.waits) (sym c.pace_at.ensures)
+    subst (λ (o : Option Pace). IsPaceIf c.args.capacity.now o c.index-all-i.result.waits c.index-all-i-in-loop-i.result.waits) (sym c.known_at.ensures)
     (along_flat (λ (pace : Option Pace) (before after : Exit). IsPaceIf c.args.capacity.now pace before.waits after.waits) c.args.all.now c.args.paces.now (c.loop-i.i - 1) c.loop-i.i
     c.index-all-i.result c.index-all-i-in-loop-i.result tt c.requires.exits.known e (omega (arith, c.loop-i.invariant.count)) g)
 
