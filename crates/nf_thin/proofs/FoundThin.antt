@@ -13,7 +13,6 @@ use Rattle.nf_thin_laws.proofs.Slopes.{slopes-unique}
 use Rattle.nf_thin.specs.declared.thin.Thin.{Thin}
 use Rattle.nf_thin.specs.declared.thin.ThinFlow.{ThinFlow}
 use Rattle.nf_thin.specs.declared.fault.SearchFault.{SearchFault}
-use Rattle.nf_thin.specs.declared.known.Known.{Known}
 use Rattle.nf_thin.specs.declared.vain.Vain.{Vain}
 use Rattle.nf_thin.specs.Knowing.{IsKnown, IsThinAt}
 use Rattle.nf_thin_rank.specs.Questions.{AreSetsOf}
@@ -53,7 +52,7 @@ module _ (passes : Passing) (net : Network) (sets : Sets) (rate : ℚ) (base : P
   flow_is_only (Err fault) s = tt
 
 -- the known pattern, where it is the next one
-pub found_known : (passes : Passing) (net : Network) (sets : Sets) (rate : ℚ) (known : Known) (pattern : Pattern) (before : Vain) (thin : Thin)
+pub found_known : (passes : Passing) (net : Network) (sets : Sets) (rate : ℚ) (known : ThinFlow) (pattern : Pattern) (before : Vain) (thin : Thin)
     → IsKnown passes net sets rate known → IsThinAt known (before.tried + 1) thin → known.pattern ≡ pattern → IsFound passes net sets rate pattern before thin
 found_known passes net sets rate known pattern before thin is at same = record {
   place = at.place_is ∙ add-one before.tried;

@@ -6,20 +6,11 @@ ghost use Rattle.nf_thin.specs.Knowing.{IsKnown, IsThinAt};
 ghost use Rattle.nf_thin.specs.Slopes.{AreThinSlopes};
 
 use crate::problem::Problem;
-use crate::thin::Thin;
-use nf_frac::{Halt, Q};
-use nf_pattern::Pattern;
+use crate::thin::{Thin, ThinFlow};
+use nf_frac::Halt;
 use nf_thin_guess::SolvedPattern;
 use nf_thin_one::{Outcome, each_is_led, judge_values};
 use std::alloc::{AllocError, Global};
-
-/// An accepted pattern, with the flow of each link and the slope of each node.
-#[derive(Drop)]
-pub(crate) struct Known {
-    pub(crate) pattern: Pattern,
-    pub(crate) flows: Vec<Q>,
-    pub(crate) slopes: Vec<Q>,
-}
 
 /// Returns the guessed pattern with its flows and slopes, or `None`. The pattern is accepted, and each node is entered. Fails if an
 /// allocation fails.
@@ -27,7 +18,7 @@ pub(crate) fn known_by(
     alloc: Global,
     problem: &Problem,
     last: SolvedPattern,
-) -> Result<Option<Known>, AllocError>
+) -> Result<Option<ThinFlow>, AllocError>
     requires { IsSolved passes_Q problem.now.ranking.net.now.net problem.now.ranking.sets.now
         problem.now.rate last }
     ensures known { IfOk result (λ found. IfSome found
@@ -48,10 +39,10 @@ pub(crate) fn known_by(
         &pattern,
         values,
     ) {
-        Ok(Outcome::Accepted { flows, slopes }) => Ok(Some(Known {
-            pattern,
+        Ok(Outcome::Accepted { flows, slopes }) => Ok(Some(ThinFlow {
             flows,
             slopes,
+            pattern,
         })),
         Ok(Outcome::Refused) => Ok(None),
         Err(Halt::Passed(_)) => Ok(None),
@@ -60,7 +51,7 @@ pub(crate) fn known_by(
 }
 
 /// Returns a copy of the thin flow of the known pattern, with this place. Fails if an allocation fails.
-pub(crate) fn thin_at(alloc: Global, known: &Known, place: u64) -> Result<Thin, AllocError>
+pub(crate) fn thin_at(alloc: Global, known: &ThinFlow, place: u64) -> Result<Thin, AllocError>
     ensures { IfOk result (λ thin. IsThinAt known.now place thin) }
 {
     let flows = known.flows.as_slice().to_vec(alloc)?;

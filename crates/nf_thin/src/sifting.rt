@@ -6,9 +6,9 @@ ghost use Rattle.nf_thin.specs.Posing.{GuidesFor, SiftsFor};
 
 use crate::cycles::hold_no_cycle;
 use crate::fault::SearchFault;
-use crate::known::{Known, known_by, thin_at};
+use crate::known::{known_by, thin_at};
 use crate::problem::Problem;
-use crate::thin::Thin;
+use crate::thin::{Thin, ThinFlow};
 use crate::trying_next::try_next;
 use crate::vain::Vain;
 use nf_pattern::Pattern;
@@ -21,7 +21,7 @@ use std::alloc::{AllocError, Global};
 /// these slopes.
 #[derive(Drop)]
 pub(crate) struct Guide {
-    pub(crate) known: Known,
+    pub(crate) known: ThinFlow,
     pub(crate) scaled: Scaled,
 }
 
