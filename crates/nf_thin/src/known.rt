@@ -2,11 +2,11 @@
 ghost use Rattle.std.specs.Prelude.{IfOk, IfSome};
 ghost use Rattle.nf_frac_def.specs.Passing.{passes_Q};
 ghost use Rattle.nf_thin_guess.specs.Guessing.{IsSolved};
-ghost use Rattle.nf_thin.specs.Knowing.{IsKnown, IsThinAt};
+ghost use Rattle.nf_thin.specs.Knowing.{IsKnown};
 ghost use Rattle.nf_thin.specs.Slopes.{AreThinSlopes};
 
 use crate::problem::Problem;
-use crate::thin::{Thin, ThinFlow};
+use crate::thin::ThinFlow;
 use nf_frac::Halt;
 use nf_thin_guess::SolvedPattern;
 use nf_thin_one::{Outcome, each_is_led, judge_values};
@@ -48,19 +48,4 @@ pub(crate) fn known_by(
         Err(Halt::Passed(_)) => Ok(None),
         Err(Halt::Memory) => Err(AllocError),
     }
-}
-
-/// Returns a copy of the thin flow of the known pattern, with this place. Fails if an allocation fails.
-pub(crate) fn thin_at(alloc: Global, known: &ThinFlow, place: u64) -> Result<Thin, AllocError>
-    ensures { IfOk result (λ thin. IsThinAt known.now place thin) }
-{
-    let flows = known.flows.as_slice().to_vec(alloc)?;
-    let labels = known.slopes.as_slice().to_vec(alloc)?;
-    let pattern = known.pattern.copy(alloc)?;
-    Ok(Thin {
-        flows,
-        labels,
-        pattern,
-        place,
-    })
 }

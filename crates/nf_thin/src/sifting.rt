@@ -6,9 +6,9 @@ ghost use Rattle.nf_thin.specs.Posing.{GuidesFor, SiftsFor};
 
 use crate::cycles::hold_no_cycle;
 use crate::fault::SearchFault;
-use crate::known::{known_by, thin_at};
+use crate::known::known_by;
 use crate::problem::Problem;
-use crate::thin::{Thin, ThinFlow};
+use crate::thin::ThinFlow;
 use crate::trying_next::try_next;
 use crate::vain::Vain;
 use nf_pattern::Pattern;
@@ -34,7 +34,7 @@ pub(crate) fn sift_next(
     guide: &Guide,
     pattern: &Pattern,
     vain: &mut Vain,
-) -> Result<Option<Thin>, SearchFault>
+) -> Result<Option<ThinFlow>, SearchFault>
     requires problem { IsPosed problem.now.ranking }
     requires listed { IsListedFor problem.now.ranking pattern.now }
     requires guide { GuidesFor problem.now guide.now }
@@ -46,8 +46,9 @@ pub(crate) fn sift_next(
         return Err(SearchFault::Budget { tried: budget });
     }
     if is_one_pattern(problem.ranking.net, &guide.known.pattern, pattern) {
-        let thin = thin_at(alloc, &guide.known, vain.tried + 1)?;
-        return Ok(Some(thin));
+        vain.tried += 1;
+        let found = guide.known.copy(alloc)?;
+        return Ok(Some(found));
     }
     let Some(node) = ruled_out_at(
         alloc,

@@ -1,6 +1,7 @@
 // The results of a search.
 use nf_frac::Q;
 use nf_pattern::Pattern;
+use std::alloc::{AllocError, Global};
 
 /// A thin flow with resetting, with its pattern. `flows` has the flow of each link, an amount per unit of time. `labels` has the slope of
 /// each node's label. `place` is the pattern's rank in the listing, counted from 1.
@@ -20,24 +21,21 @@ pub struct ThinFlow {
     pub pattern: Pattern,
 }
 
-impl Thin {
-    ghost use Rattle.std.specs.Prelude.{◌≡◌};
-    ghost use Rattle.nf_thin.specs.Finding.{flow_of};
+impl ThinFlow {
+    ghost use Rattle.std.specs.Prelude.{IfOk};
+    ghost use Rattle.nf_thin.specs.Knowing.{IsCopy};
 
-    /// Returns the thin flow without its place.
-    pub(crate) fn flow(self) -> ThinFlow
-        ensures { result ≡ flow_of self }
+    /// Returns a copy. Fails if an allocation fails.
+    pub(crate) fn copy(&self, alloc: Global) -> Result<ThinFlow, AllocError>
+        ensures { IfOk result (IsCopy self.now) }
     {
-        let Thin {
+        let flows = self.flows.as_slice().to_vec(alloc)?;
+        let slopes = self.slopes.as_slice().to_vec(alloc)?;
+        let pattern = self.pattern.copy(alloc)?;
+        Ok(ThinFlow {
             flows,
-            labels,
+            slopes,
             pattern,
-            place: _,
-        } = self;
-        ThinFlow {
-            flows,
-            slopes: labels,
-            pattern,
-        }
+        })
     }
 }
