@@ -1,10 +1,9 @@
 // A phase before the run is extended by it: its length, and the changes of labels and links.
-ghost use Rattle.std.specs.Prelude.{◌≡◌, ℕ, suc, IfOk, IfErr, MatchBool};
+ghost use Rattle.std.specs.Prelude.{◌≡◌, ℕ, suc, IfOk, IfErr};
 ghost use Rattle.nf_rational.specs.Order.{◌<ℚ◌};
 ghost use Rattle.nf_frac_def.specs.Passing.{passes_Q};
 ghost use Rattle.nf_net_def.specs.WellNamed.{IsNamed};
-ghost use Rattle.nf_phase_def.specs.Open.{Continues};
-ghost use Rattle.nf_phase.specs.Stepping.{Reaches, IsFaultOf, IsCause};
+ghost use Rattle.nf_phase.specs.Stepping.{Reaches, IsFaultOf};
 ghost use Rattle.nf_phase.specs.Finding.{IsFound, ListsPass, LeadsOn};
 
 use crate::fault::StepFault;
@@ -26,16 +25,9 @@ pub(crate) struct Phase {
     pub(crate) thin: ThinFlow,
 }
 
-// A phase, and whether it is the remainder of an interrupted one.
-#[derive(Drop)]
-pub(crate) struct NextPhase {
-    pub(crate) rests: bool,
-    pub(crate) phase: Phase,
-}
-
 impl Run {
     // Returns the phase by a thin flow. Refuses at the first operation that exceeds its bound, or if an allocation fails.
-    pub(crate) fn phase_by(
+    pub(crate) fn phase(
         &self,
         alloc: Global,
         net: &Network,
@@ -87,28 +79,5 @@ impl Run {
             steps,
             thin,
         })
-    }
-
-    // Returns the next phase, and whether it is the remainder of an interrupted one. Refuses with the first cause for which there is none.
-    pub(crate) fn phase(
-        &self,
-        alloc: Global,
-        net: &Network,
-        horizon: Q,
-        patterns: u64,
-    ) -> Result<NextPhase, StepFault>
-        requires reaches { Reaches passes_Q net.now.net self.now }
-        requires below { self.now.time <ℚ horizon }
-        ensures named { IsNamed net.now }
-        ensures rests { IfOk result (λ next. MatchBool next.rests (Continues net.now.net self.now)
-            (Continues net.now.net self.now → ⊥)) }
-        ensures leads { IfOk result
-            (λ next. LeadsOn passes_Q net.now.net horizon patterns self.now next.phase) }
-        ensures cause { IfErr result (IsCause passes_Q net.now.net horizon patterns self.now) }
-    {
-        let found = self.find(alloc, net, patterns)?;
-        let rests = self.continues(net, &found.slacks);
-        let phase = self.phase_by(alloc, net, horizon, found)?;
-        Ok(NextPhase { rests, phase })
     }
 }
