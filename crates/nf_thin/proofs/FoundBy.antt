@@ -18,7 +18,7 @@ use Rattle.nf_thin_laws.proofs.BySlopes.{forcing as forced_forcing, allowed as f
 use Rattle.nf_thin_laws.specs.ActiveLinks.{HoldNoCycle}
 use Rattle.nf_thin.specs.Slopes.{AreThinSlopes}
 use Rattle.nf_thin_narrow.specs.Asking.{question_left}
-use Rattle.nf_thin.specs.declared.thin.ThinFlow.{ThinFlow}
+use Rattle.nf_thin_one.specs.declared.thin.ThinFlow.{ThinFlow}
 use Rattle.nf_thin.specs.declared.fault.SearchFault.{SearchFault}
 use Rattle.nf_thin_rank.specs.Questions.{AreSetsOf, question_of}
 use Rattle.nf_thin.specs.Finding.{NarrowFinds, FindsBy}

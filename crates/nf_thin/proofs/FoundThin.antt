@@ -10,10 +10,11 @@ use Rattle.nf_thin_def.specs.Accepted.{IsAccepted}
 use Rattle.nf_thin_def.specs.Search.{Found, IsSearch}
 use Rattle.nf_thin_laws.proofs.Accepted.{IsThinFlow-accepted}
 use Rattle.nf_thin_laws.proofs.Slopes.{slopes-unique}
-use Rattle.nf_thin.specs.declared.thin.ThinFlow.{ThinFlow}
+use Rattle.nf_thin_one.specs.declared.thin.ThinFlow.{ThinFlow}
 use Rattle.nf_thin.specs.declared.fault.SearchFault.{SearchFault}
 use Rattle.nf_thin.specs.declared.vain.Vain.{Vain}
-use Rattle.nf_thin.specs.Knowing.{IsKnown, IsCopy}
+use Rattle.nf_thin_one.specs.Trying.{IsCopy}
+use Rattle.nf_thin.specs.Knowing.{IsKnown}
 use Rattle.nf_thin_rank.specs.Questions.{AreSetsOf}
 use Rattle.nf_thin.specs.Searching.{SlopesAreOnly, IsFound}
 use Rattle.nf_thin.specs.Finding.{Finds}

@@ -10,7 +10,7 @@ use Rattle.nf_thin_def.specs.Search.{Answers, IsSearch}
 use Rattle.nf_pattern.specs.Given.{Question, Given, IsListedBy, IsNext, NoneLeft, Enumerates}
 use Rattle.nf_thin_equation_laws.specs.Equations.{IsPatternIn}
 use Rattle.nf_pattern.proofs.Deciding.{has_listing}
-use Rattle.nf_thin.specs.declared.thin.ThinFlow.{ThinFlow}
+use Rattle.nf_thin_one.specs.declared.thin.ThinFlow.{ThinFlow}
 use Rattle.nf_thin.specs.declared.vain.Vain.{Vain}
 use Rattle.nf_thin.specs.declared.fault.SearchFault.{SearchFault}
 use Rattle.nf_thin.specs.FirstPassing.{fault_of}

@@ -16,7 +16,7 @@ use Rattle.nf_thin_laws.proofs.Narrowed.{order_put, no_earlier_place}
 use Rattle.nf_pattern.specs.Given.{Question, IsListedBy, Given, Last, AtStart, UpTo, IsLater, IsNext, Enumerates}
 use Rattle.nf_thin_narrow.specs.Asking.{question_left, StandsWithin, GivenUpTo, StandsAt}
 use Rattle.nf_thin_narrow.proofs.Places.{given_next}
-use Rattle.nf_thin.specs.declared.thin.ThinFlow.{ThinFlow}
+use Rattle.nf_thin_one.specs.declared.thin.ThinFlow.{ThinFlow}
 use Rattle.nf_thin.specs.declared.fault.SearchFault.{SearchFault}
 use Rattle.nf_thin.specs.declared.vain.Vain.{Vain}
 use Rattle.nf_thin_rank.specs.Questions.{AreSetsOf, question_of}

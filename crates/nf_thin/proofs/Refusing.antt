@@ -11,7 +11,7 @@ use Rattle.nf_thin_laws.proofs.States.{slopes-same}
 use Rattle.nf_thin.specs.Slopes.{AreThinSlopes, AreSlopesOfListed}
 use Rattle.nf_thin_balance.specs.declared.scaled.Scaled.{Scaled}
 use Rattle.nf_thin_balance.specs.Scaled.{IsScaled}
-use Rattle.nf_thin.specs.declared.thin.ThinFlow.{ThinFlow}
+use Rattle.nf_thin_one.specs.declared.thin.ThinFlow.{ThinFlow}
 use Rattle.nf_thin.specs.declared.vain.Vain.{Vain}
 use Rattle.nf_thin.specs.declared.fault.SearchFault.{SearchFault}
 use Rattle.nf_thin.specs.Searching.{TriesNext}

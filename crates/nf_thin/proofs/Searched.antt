@@ -12,12 +12,13 @@ use Rattle.nf_thin_def.specs.Accepted.{pattern_lists, IsAccepted}
 use Rattle.nf_thin_def.specs.Listing.{HasPlace, IsListingIn}
 use Rattle.nf_thin_def.specs.Search.{SearchAnswer, Found, OverBudget, PassesAt, NoPattern, NoneAcceptedBefore, IsOverBudget, IsInVain, IsFirstPassing, Answers, IsSearch}
 use Rattle.nf_pattern.specs.Given.{Question, Last, AtStart, UpTo, IsNext, NoneLeft}
-use Rattle.nf_thin.specs.declared.thin.ThinFlow.{ThinFlow}
+use Rattle.nf_thin_one.specs.declared.thin.ThinFlow.{ThinFlow}
 use Rattle.nf_thin.specs.declared.vain.Vain.{Vain}
 use Rattle.nf_thin.specs.declared.fault.SearchFault.{SearchFault}
 use Rattle.nf_thin.specs.FirstPassing.{or_first, fault_of}
 use Rattle.nf_thin_rank.specs.Questions.{question_of}
-use Rattle.nf_thin.specs.Searching.{Searches, Noted, InVain, IsFound}
+use Rattle.nf_thin_one.specs.Trying.{TriesOne}
+use Rattle.nf_thin.specs.Searching.{Searches, Noted, InVain, IsFound, TriesNext}
 use Rattle.nf_thin.specs.Finding.{FindsAt}
 use Rattle.nf_pattern.specs.Front.{IsListingOf}
 use Rattle.nf_thin_narrow.specs.Asking.{GivenUpTo}
@@ -155,3 +156,9 @@ module _ (passes : Passing) (net : Network) (sets : Sets) (rate : ℚ) (pattern 
     where
       no : false ≡ true → ⊥
       no e = cc
+
+  -- One step with a pattern of which no operation passes.
+  pub tried : (budget : ℕ) (before after : Vain) → before.tried < budget → after.tried ≡ suc before.tried → after.passed ≡ before.passed
+      → (found : Option ThinFlow) → TriesOne passes net sets rate pattern (Ok found) → TriesNext passes net sets rate budget pattern before after (Ok found)
+  tried budget before after less one_more same (Some thin) t = (less, record { place = one_more; pattern_is = t.0; accepted = t.1; solution = t.2 })
+  tried budget before after less one_more same None t = (less, record { one_more = one_more; not_accepted = λ a. t.1 a.solvable; noted = inl (t.0, same) })

@@ -10,7 +10,7 @@ use Rattle.nf_thin_def.specs.Listing.{HasPlace}
 use Rattle.nf_thin_def.specs.Search.{SearchAnswer, Found}
 use Rattle.nf_thin_laws.specs.Forcing.{filled}
 use Rattle.nf_thin_laws.specs.NarrowLaws.{Narrows, NoneFilledBefore}
-use Rattle.nf_thin.specs.declared.thin.ThinFlow.{ThinFlow}
+use Rattle.nf_thin_one.specs.declared.thin.ThinFlow.{ThinFlow}
 use Rattle.nf_thin.specs.declared.fault.SearchFault.{SearchFault}
 use Rattle.nf_thin.specs.Searching.{Searches}
 

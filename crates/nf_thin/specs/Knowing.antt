@@ -6,16 +6,10 @@ use Rattle.nf_model.specs.Network.{Network}
 use Rattle.nf_model.specs.ThinFlow.{Sets}
 use Rattle.nf_model.specs.Pattern.{IsSolution}
 use Rattle.nf_thin_def.specs.Accepted.{IsAccepted}
-use Rattle.nf_thin.specs.declared.thin.ThinFlow.{ThinFlow}
+use Rattle.nf_thin_one.specs.declared.thin.ThinFlow.{ThinFlow}
 
 -- The known pattern is accepted, and its flows and slopes are the solution.
 pub record IsKnown (passes : Passing) (net : Network) (sets : Sets) (rate : ℚ) (known : ThinFlow) : Type 0 where
   pub states : length known.pattern ≡ length net.links
   pub accepted : IsAccepted passes net sets rate known.pattern
   pub solution : IsSolution net sets rate known.pattern known.flows.items known.slopes.items
-
--- The second thin flow is a copy of the first.
-pub record IsCopy (known copied : ThinFlow) : Type 0 where
-  pub pattern_is : copied.pattern ≡ known.pattern
-  pub flows_are : copied.flows.items ≡ known.flows.items
-  pub slopes_are : copied.slopes.items ≡ known.slopes.items

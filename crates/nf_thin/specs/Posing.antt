@@ -5,7 +5,7 @@ use Rattle.nf_model.specs.Pattern.{Pattern}
 use Rattle.nf_thin_def.specs.Search.{SearchAnswer, IsSearch}
 use Rattle.nf_thin.specs.declared.problem.Problem.{Problem}
 use Rattle.nf_thin.specs.declared.sifting.Guide.{Guide}
-use Rattle.nf_thin.specs.declared.thin.ThinFlow.{ThinFlow}
+use Rattle.nf_thin_one.specs.declared.thin.ThinFlow.{ThinFlow}
 use Rattle.nf_thin.specs.declared.vain.Vain.{Vain}
 use Rattle.nf_thin.specs.declared.fault.SearchFault.{SearchFault}
 use Rattle.nf_thin.specs.Searching.{TriesNext}

@@ -10,7 +10,7 @@ use Rattle.nf_thin_def.specs.Accepted.{pattern_lists, IsAccepted}
 use Rattle.nf_thin_def.specs.Search.{SearchAnswer, Found, OverBudget, PassesAt, NoPattern}
 use Rattle.nf_thin_laws.specs.ActiveLinks.{HoldNoCycle}
 use Rattle.nf_thin.specs.declared.thin.Thin.{Thin}
-use Rattle.nf_thin.specs.declared.thin.ThinFlow.{ThinFlow}
+use Rattle.nf_thin_one.specs.declared.thin.ThinFlow.{ThinFlow}
 use Rattle.nf_thin.specs.declared.vain.Vain.{Vain}
 use Rattle.nf_thin.specs.declared.fault.SearchFault.{SearchFault}
 use Rattle.nf_thin.specs.FirstPassing.{or_first}

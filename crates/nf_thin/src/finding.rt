@@ -12,11 +12,11 @@ ghost use Rattle.nf_thin.specs.Finding.{FindsBy};
 use crate::fault::SearchFault;
 use crate::problem::Problem;
 use crate::sifting::{Guide, guide_of, sift_next};
-use crate::thin::ThinFlow;
 use crate::vain::Vain;
 use nf_graph::NodeId;
 use nf_pattern::{Pattern, Patterns};
 use nf_thin_narrow::{fill, forced_by, narrow_listing};
+use nf_thin_one::ThinFlow;
 use nf_thin_rank::{Pace, Ranking, near_listed, unbounded_flags};
 use std::alloc::{AllocError, Global};
 

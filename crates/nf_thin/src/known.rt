@@ -6,14 +6,12 @@ ghost use Rattle.nf_thin.specs.Knowing.{IsKnown};
 ghost use Rattle.nf_thin.specs.Slopes.{AreThinSlopes};
 
 use crate::problem::Problem;
-use crate::thin::ThinFlow;
 use nf_frac::Halt;
 use nf_thin_guess::SolvedPattern;
-use nf_thin_one::{Outcome, each_is_led, judge_values};
+use nf_thin_one::{ThinFlow, each_is_led, judge_values};
 use std::alloc::{AllocError, Global};
 
-/// Returns the guessed pattern with its flows and slopes, or `None`. The pattern is accepted, and each node is entered. Fails if an
-/// allocation fails.
+/// Returns the thin flow of the guessed pattern if the pattern is accepted and enters each node, or `None`. Fails if an allocation fails.
 pub(crate) fn known_by(
     alloc: Global,
     problem: &Problem,
@@ -39,12 +37,7 @@ pub(crate) fn known_by(
         &pattern,
         values,
     ) {
-        Ok(Outcome::Accepted { flows, slopes }) => Ok(Some(ThinFlow {
-            flows,
-            slopes,
-            pattern,
-        })),
-        Ok(Outcome::Refused) => Ok(None),
+        Ok(found) => Ok(found),
         Err(Halt::Passed(_)) => Ok(None),
         Err(Halt::Memory) => Err(AllocError),
     }

@@ -14,13 +14,14 @@ ghost use Rattle.nf_thin.specs.Finding.{Finds, FindsAt};
 use crate::fault::SearchFault;
 use crate::finding::find_by_slopes;
 use crate::problem::Problem;
-use crate::thin::{Thin, ThinFlow};
+use crate::thin::Thin;
 use crate::trying_next::try_next;
 use crate::vain::Vain;
 use nf_frac::Q;
 use nf_graph::{LinkSets, NodeId};
 use nf_net::Network;
 use nf_pattern::{Pattern, Patterns};
+use nf_thin_one::ThinFlow;
 use nf_thin_rank::{Ranking, listing};
 use std::alloc::Global;
 

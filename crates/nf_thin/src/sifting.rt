@@ -8,13 +8,12 @@ use crate::cycles::hold_no_cycle;
 use crate::fault::SearchFault;
 use crate::known::known_by;
 use crate::problem::Problem;
-use crate::thin::ThinFlow;
 use crate::trying_next::try_next;
 use crate::vain::Vain;
 use nf_pattern::Pattern;
 use nf_thin_balance::{Scaled, ruled_out_at, scaled_flows};
 use nf_thin_guess::guess;
-use nf_thin_one::is_one_pattern;
+use nf_thin_one::{ThinFlow, is_one_pattern};
 use std::alloc::{AllocError, Global};
 
 /// A pattern known to be accepted, with its flows and slopes. `scaled` has ranges of the supply, and of the flows that fill the links at

@@ -5,11 +5,10 @@ ghost use Rattle.nf_thin.specs.Posing.{TriesFor};
 
 use crate::fault::SearchFault;
 use crate::problem::Problem;
-use crate::thin::ThinFlow;
 use crate::vain::Vain;
 use nf_frac::Halt;
 use nf_pattern::Pattern;
-use nf_thin_one::{Outcome, try_one};
+use nf_thin_one::{ThinFlow, try_one};
 use std::alloc::Global;
 
 /// Counts the next pattern and tries it. Returns its thin flow, or `None` if the pattern is not accepted. Refuses if the budget is spent.
@@ -36,15 +35,7 @@ pub(crate) fn try_next(
         problem.rate,
         pattern,
     ) {
-        Ok(Outcome::Accepted { flows, slopes }) => {
-            let pattern = pattern.copy(alloc)?;
-            Ok(Some(ThinFlow {
-                flows,
-                slopes,
-                pattern,
-            }))
-        }
-        Ok(Outcome::Refused) => Ok(None),
+        Ok(found) => Ok(found),
         Err(Halt::Passed(at)) => {
             vain.note(at);
             Ok(None)

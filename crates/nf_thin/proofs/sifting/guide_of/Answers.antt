@@ -4,7 +4,7 @@ use Rattle.nf_rational.specs.Rational.{ℚ}
 use Rattle.nf_frac_def.specs.Passing.{passes_Q}
 use Rattle.nf_thin_guess.specs.declared.guessing.SolvedPattern.{SolvedPattern}
 use Rattle.nf_thin_guess.specs.Guessing.{IsSolved}
-use Rattle.nf_thin.specs.declared.thin.ThinFlow.{ThinFlow}
+use Rattle.nf_thin_one.specs.declared.thin.ThinFlow.{ThinFlow}
 use Rattle.nf_thin.specs.Slopes.{AreThinSlopes}
 use Rattle.nf_thin.specs.Knowing.{IsKnown}
 use Rattle.nf_thin_balance.specs.Scaled.{IsScaled}
