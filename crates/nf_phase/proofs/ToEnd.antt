@@ -13,7 +13,7 @@ use Rattle.nf_net_def.specs.declared.Cause.TheVariants as Cause
 use Rattle.nf_thin_def.specs.PhaseRun.{Standing}
 use Rattle.nf_phase_def.specs.ToEnd.{end_list, GoesToEnd, GoesForever, FailsOn}
 use Rattle.nf_frac_def.proofs.AtPart.{part_ok}
-use Rattle.nf_thin.specs.declared.thin.ThinFlow.{ThinFlow}
+use Rattle.nf_thin.specs.ThinFlow.{ThinFlow}
 use Rattle.nf_phase.specs.declared.fault.StepFault.{StepFault}
 use Rattle.nf_phase.specs.declared.finding.PhaseStart.{PhaseStart}
 use Rattle.nf_phase.specs.declared.phase.Phase.{Phase}

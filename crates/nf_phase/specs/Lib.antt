@@ -4,4 +4,4 @@ pub mod Stepping
 pub mod Finding
 pub mod OpenRuns
 pub mod Solution
-pub use Rattle.nf_thin.specs.declared.thin.ThinFlow
+pub use Rattle.nf_thin.specs.ThinFlow

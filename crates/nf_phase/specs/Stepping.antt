@@ -14,7 +14,7 @@ use Rattle.nf_phase_def.specs.ToEnd.{Tail}
 use Rattle.nf_phase_def.specs.ToEnd.{FailsOn}
 use Rattle.nf_phase_laws.specs.RunLaws.{KeepsLabels}
 use Rattle.nf_thin.specs.declared.fault.SearchFault.TheVariants as SearchFault
-use Rattle.nf_thin.specs.declared.thin.ThinFlow.{ThinFlow}
+use Rattle.nf_thin.specs.ThinFlow.{ThinFlow}
 use Rattle.nf_phase.specs.declared.fault.StepFault.{StepFault}
 
 -- A run begins at departure 0, or is restored from a flow. It is extended phase by phase, each phase with its own horizon and budget of

@@ -8,7 +8,7 @@ ghost use Rattle.nf_phase.specs.Stepping.{Reaches};
 ghost use Rattle.nf_phase.specs.Finding.{LeadsOn, after_phase};
 ghost use Rattle.nf_phase.specs.OpenRuns.{after_rest};
 
-use crate::phase::{NextPhase, Phase};
+use crate::phase::Phase;
 use crate::run::Run;
 use nf_frac::Q;
 use nf_net::Network;
@@ -52,24 +52,23 @@ impl Run {
         Ok(())
     }
 
-    // Extends the run by the next phase. The last pattern stays if the phase is the remainder of an interrupted one. Fails if an allocation
-    // fails; the run is then unchanged.
+    // Extends the run by the next phase. The last pattern stays if `rests` is true: the phase is then the remainder of an interrupted one.
+    // Fails if an allocation fails; the run is then unchanged.
     pub(crate) fn extend_by_next(
         &mut self,
         alloc: Global,
         net: &Network,
-        next: NextPhase,
+        rests: bool,
+        phase: Phase,
     ) -> Result<(), AllocError>
         requires reaches { Reaches passes_Q net.now.net self.old }
         requires named { IsNamed net.now }
         requires more { self.old.made < 2 ^ 64 - 1 }
         requires leads { (horizon : ℚ) × (patterns : ℕ)
-            × LeadsOn passes_Q net.now.net horizon patterns self.old next.phase }
-        ensures made { OnOk result
-            (self.new ≡ after_rest next.rests net.now.net self.old next.phase) }
+            × LeadsOn passes_Q net.now.net horizon patterns self.old phase }
+        ensures made { OnOk result (self.new ≡ after_rest rests net.now.net self.old phase) }
         ensures kept { OnErr result (self.new ≡ self.old) }
     {
-        let NextPhase { rests, phase } = next;
         if !rests {
             return self.extend_by(net, phase);
         }

@@ -1,12 +1,10 @@
 // The search for the thin flow of the next phase.
-ghost use Rattle.std.specs.Prelude.{◌≡◌, ℕ, suc, Ok, IfOk, OnOk, IfErr};
+ghost use Rattle.std.specs.Prelude.{◌≡◌, suc, IfOk, IfErr};
 ghost use Rattle.nf_rational.specs.Rational.{ℚ};
 ghost use Rattle.nf_frac_def.specs.Passing.{passes_Q};
-ghost use Rattle.nf_model.specs.Network.{hops as hops_of};
-ghost use Rattle.nf_model.specs.ThinFlow.{slacks_of, sets_at};
+ghost use Rattle.nf_model.specs.ThinFlow.{sets_at};
 ghost use Rattle.nf_net_def.specs.WellNamed.{IsNamed};
 ghost use Rattle.nf_thin_def.specs.PhaseRun.{IsSearchHere};
-ghost use Rattle.nf_thin_def.specs.Slack.{slack_list};
 ghost use Rattle.nf_thin.specs.Finding.{Finds};
 ghost use Rattle.nf_phase.specs.Stepping.{Reaches, IsFaultOf};
 ghost use Rattle.nf_phase.specs.Finding.{IsFound, FindsNone};
@@ -30,23 +28,6 @@ pub(crate) struct PhaseStart {
 }
 
 impl Run {
-    // Returns the slacks of the links, times. Refuses if an operation exceeds its bound, with the first one, or if an allocation fails.
-    fn slacks(&self, alloc: Global, net: &Network) -> Result<Vec<Q>, StepFault>
-        requires reaches { Reaches passes_Q net.now.net self.now }
-        ensures named { IsNamed net.now }
-        ensures slacks { IfOk result
-            (λ slacks. slacks.items ≡ slacks_of (hops_of net.now.net) self.now.labels) }
-        ensures list { OnOk result
-            (slack_list passes_Q (hops_of net.now.net) self.now.labels
-            ≡ Ok (slacks_of (hops_of net.now.net) self.now.labels)) }
-        ensures cause { (patterns : ℕ)
-            → IfErr result
-            (IsFaultOf (FindsNone passes_Q net.now.net patterns self.now) (suc self.now.made)) }
-    {
-        let slacks = slacks(alloc, net.hops(), &self.labels)?;
-        Ok(slacks)
-    }
-
     // Returns a thin flow for the sets that the slacks define. The search starts at the base pattern.
     fn thin(
         &self,
@@ -77,7 +58,7 @@ impl Run {
         ensures cause { IfErr result
             (IsFaultOf (FindsNone passes_Q net.now.net patterns self.now) (suc self.now.made)) }
     {
-        let slacks = self.slacks(alloc, net)?;
+        let slacks = slacks(alloc, net.hops(), &self.labels)?;
         let sets = sets(alloc, &slacks)?;
         let thin = self.thin(alloc, net, &sets, patterns)?;
         Ok(PhaseStart { slacks, sets, thin })

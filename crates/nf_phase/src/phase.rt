@@ -1,14 +1,9 @@
 // A phase before the run is extended by it: its length, and the changes of labels and links.
-ghost use Rattle.std.specs.Prelude.{◌≡◌, ℕ, suc, Ok, IfOk, IfErr, MatchBool};
+ghost use Rattle.std.specs.Prelude.{◌≡◌, ℕ, suc, IfOk, IfErr};
 ghost use Rattle.nf_rational.specs.Order.{◌<ℚ◌};
 ghost use Rattle.nf_frac_def.specs.Passing.{passes_Q};
-ghost use Rattle.nf_model.specs.Network.{hops as hops_of};
-ghost use Rattle.nf_model.specs.ThinFlow.{slacks_of};
-ghost use Rattle.nf_model.specs.Phases.{IsPhaseLength};
 ghost use Rattle.nf_net_def.specs.WellNamed.{IsNamed};
-ghost use Rattle.nf_thin_def.specs.PhaseRun.{phase_lists};
-ghost use Rattle.nf_phase_def.specs.Open.{Continues};
-ghost use Rattle.nf_phase.specs.Stepping.{Reaches, IsFaultOf, IsCause};
+ghost use Rattle.nf_phase.specs.Stepping.{Reaches, IsFaultOf};
 ghost use Rattle.nf_phase.specs.Finding.{IsFound, ListsPass, LeadsOn};
 
 use crate::fault::StepFault;
@@ -30,37 +25,25 @@ pub(crate) struct Phase {
     pub(crate) thin: ThinFlow,
 }
 
-// A phase, and whether it is the remainder of an interrupted one.
-#[derive(Drop)]
-pub(crate) struct NextPhase {
-    pub(crate) rests: bool,
-    pub(crate) phase: Phase,
-}
-
 impl Run {
-    // Returns the length of a phase by a thin flow with the labels at its end, and the step of each link in it. Refuses at the first
-    // operation that exceeds its bound.
-    fn lists(
+    // Returns the phase by a thin flow. Refuses at the first operation that exceeds its bound, or if an allocation fails.
+    pub(crate) fn phase(
         &self,
         alloc: Global,
         net: &Network,
         horizon: Q,
-        found: &PhaseStart,
-    ) -> Result<(Advanced, Vec<LinkStep>), StepFault>
+        found: PhaseStart,
+    ) -> Result<Phase, StepFault>
         requires reaches { Reaches passes_Q net.now.net self.now }
         requires named { IsNamed net.now }
-        requires found { (patterns : ℕ) × IsFound passes_Q net.now.net patterns self.now found.now }
-        ensures lists { IfOk result
-            (λ parts. phase_lists passes_Q net.now.net horizon self.now found.now.thin.pattern
-            found.now.thin.flows.items found.now.thin.slopes.items
-            ≡ Ok
-            (record { length = parts.0.length; labels = parts.0.labels; links = parts.1.items })) }
-        ensures length { IfOk result (λ parts. IsPhaseLength net.now.net
-            (slacks_of (hops_of net.now.net) self.now.labels) found.now.thin.slopes.items
-            self.now.time horizon parts.0.length) }
-        ensures cause { IfErr result (IsFaultOf
-            (ListsPass passes_Q net.now.net horizon self.now found.now.thin.pattern
-            found.now.thin.flows.items found.now.thin.slopes.items)
+        requires below { self.now.time <ℚ horizon }
+        requires found { (patterns : ℕ) × IsFound passes_Q net.now.net patterns self.now found }
+        ensures leads { (patterns : ℕ) → IsFound passes_Q net.now.net patterns self.now found
+            → IfOk result (LeadsOn passes_Q net.now.net horizon patterns self.now) }
+        ensures thin { IfOk result (λ phase. phase.thin ≡ found.thin) }
+        ensures cause { IfErr result
+            (IsFaultOf (ListsPass passes_Q net.now.net horizon self.now found.thin.pattern
+            found.thin.flows.items found.thin.slopes.items)
             (suc self.now.made)) }
     {
         let slopes = &found.thin.slopes;
@@ -84,30 +67,6 @@ impl Run {
             labels: &end.labels,
         };
         let steps = phase.link_steps(alloc, &amounts)?;
-        Ok((end, steps))
-    }
-
-    // Returns the phase by a thin flow. Refuses at the first operation that exceeds its bound, or if an allocation fails.
-    pub(crate) fn phase_by(
-        &self,
-        alloc: Global,
-        net: &Network,
-        horizon: Q,
-        found: PhaseStart,
-    ) -> Result<Phase, StepFault>
-        requires reaches { Reaches passes_Q net.now.net self.now }
-        requires named { IsNamed net.now }
-        requires below { self.now.time <ℚ horizon }
-        requires found { (patterns : ℕ) × IsFound passes_Q net.now.net patterns self.now found }
-        ensures leads { (patterns : ℕ) → IsFound passes_Q net.now.net patterns self.now found
-            → IfOk result (LeadsOn passes_Q net.now.net horizon patterns self.now) }
-        ensures thin { IfOk result (λ phase. phase.thin ≡ found.thin) }
-        ensures cause { IfErr result
-            (IsFaultOf (ListsPass passes_Q net.now.net horizon self.now found.thin.pattern
-            found.thin.flows.items found.thin.slopes.items)
-            (suc self.now.made)) }
-    {
-        let (end, steps) = self.lists(alloc, net, horizon, &found)?;
         let PhaseStart {
             slacks: _,
             sets: _,
@@ -120,28 +79,5 @@ impl Run {
             steps,
             thin,
         })
-    }
-
-    // Returns the next phase, and whether it is the remainder of an interrupted one. Refuses with the first cause for which there is none.
-    pub(crate) fn phase(
-        &self,
-        alloc: Global,
-        net: &Network,
-        horizon: Q,
-        patterns: u64,
-    ) -> Result<NextPhase, StepFault>
-        requires reaches { Reaches passes_Q net.now.net self.now }
-        requires below { self.now.time <ℚ horizon }
-        ensures named { IsNamed net.now }
-        ensures rests { IfOk result (λ next. MatchBool next.rests (Continues net.now.net self.now)
-            (Continues net.now.net self.now → ⊥)) }
-        ensures leads { IfOk result
-            (λ next. LeadsOn passes_Q net.now.net horizon patterns self.now next.phase) }
-        ensures cause { IfErr result (IsCause passes_Q net.now.net horizon patterns self.now) }
-    {
-        let found = self.find(alloc, net, patterns)?;
-        let rests = self.continues(net, &found.slacks);
-        let phase = self.phase_by(alloc, net, horizon, found)?;
-        Ok(NextPhase { rests, phase })
     }
 }

@@ -98,8 +98,10 @@ impl Run {
         ensures kept { OnErr result (self.new ≡ self.old) }
         ensures cause { IfErr result (IsCause passes_Q net.now.net horizon patterns self.old) }
     {
-        let next = self.phase(alloc, net, horizon, patterns)?;
-        self.extend_by_next(alloc, net, next)?;
+        let found = self.find(alloc, net, patterns)?;
+        let rests = self.continues(net, &found.slacks);
+        let phase = self.phase(alloc, net, horizon, found)?;
+        self.extend_by_next(alloc, net, rests, phase)?;
         Ok(())
     }
 
@@ -134,7 +136,7 @@ impl Run {
             } = found;
             return Ok(Some(thin));
         };
-        let phase = self.phase_by(alloc, net, end, found)?;
+        let phase = self.phase(alloc, net, end, found)?;
         self.extend_by(net, phase)?;
         Ok(None)
     }

@@ -1,6 +1,6 @@
 -- The answer of a search by forced states.
 use Rattle.std.proofs.Common.{◌≡◌, ℕ, List, sym, subst, ◌∙◌}
-use Rattle.std.specs.Prelude.{Some, Ok, Err}
+use Rattle.std.specs.Prelude.{Option, Some, None, Result, Ok, Err}
 use Rattle.nf_rational.specs.Rational.{ℚ}
 use Rattle.nf_frac_def.specs.Passing.{Passing}
 use Rattle.nf_model.specs.Network.{Network, IsNetwork, unbounded}
@@ -18,11 +18,10 @@ use Rattle.nf_thin_laws.proofs.BySlopes.{forcing as forced_forcing, allowed as f
 use Rattle.nf_thin_laws.specs.ActiveLinks.{HoldNoCycle}
 use Rattle.nf_thin.specs.Slopes.{AreThinSlopes}
 use Rattle.nf_thin_narrow.specs.Asking.{question_left}
-use Rattle.nf_thin.specs.declared.thin.Thin.{Thin}
+use Rattle.nf_thin_one.specs.declared.thin.ThinFlow.{ThinFlow}
 use Rattle.nf_thin.specs.declared.fault.SearchFault.{SearchFault}
 use Rattle.nf_thin_rank.specs.Questions.{AreSetsOf, question_of}
-use Rattle.nf_thin.specs.Searching.{Searches}
-use Rattle.nf_thin.specs.Finding.{NarrowFinds, Finds, flow_of}
+use Rattle.nf_thin.specs.Finding.{NarrowFinds, FindsBy}
 
 module _ (passes : Passing) (net : Network) (sets : Sets) (rate : ℚ) (base forced : Pattern) (budget : ℕ) (forcing : IsForcing sets (unbounded net) forced)
     (allowed : (pattern : Pattern) → IsListedIn net sets pattern → IsSolvable net sets rate pattern → HasForced forced pattern)
@@ -53,20 +52,20 @@ module _ (passes : Passing) (net : Network) (sets : Sets) (rate : ℚ) (base for
     allowed = allowed;
   }
 
-  pub by_within : (thin : Thin) → NarrowFinds passes net sets rate base forced budget (Ok (Some thin)) → Finds (IsSearch passes net sets rate base budget) budget (Ok (flow_of thin))
-  by_within thin finds =
+  pub by_result : (result : Result (Option ThinFlow) SearchFault) → NarrowFinds passes net sets rate base forced budget result
+      → FindsBy (IsSearch passes net sets rate base budget) budget result
+  by_result (Ok (Some thin)) finds =
       let f = finds listing narrow narrows in
-      let w = answer_within passes net sets rate base forced listing narrow narrows budget thin.place f.part f.has_place f.accepted f.first thin.flows.items
-      thin.labels.items f.solution f.within in
-      (w.0, subst (λ (p : Pattern). IsSearch passes net sets rate base budget (Found w.0 p thin.flows.items thin.labels.items)) (sym f.pattern_is) w.1)
-
-  pub by_fault : (fault : SearchFault) → NarrowFinds passes net sets rate base forced budget (Err fault) → Searches (IsSearch passes net sets rate base budget) budget (Err fault)
-  by_fault (SearchFault.Budget tried) finds =
+      let w = answer_within passes net sets rate base forced listing narrow narrows budget f.place f.part f.has_place f.accepted f.first thin.flows.items
+      thin.slopes.items f.solution f.within in
+      (w.0, subst (λ (p : Pattern). IsSearch passes net sets rate base budget (Found w.0 p thin.flows.items thin.slopes.items)) (sym f.pattern_is) w.1)
+  by_result (Ok None) finds = tt
+  by_result (Err (SearchFault.Budget tried)) finds =
       let f = finds listing narrow narrows in
       (f.0, answer_beyond passes net sets rate base forced listing narrow narrows budget f.1.place f.1.part f.1.has_place f.1.none f.1.beyond)
-  by_fault (SearchFault.Passed place at) finds = absurd (finds listing narrow narrows)
-  by_fault SearchFault.NoPattern finds = absurd (finds listing narrow narrows)
-  by_fault SearchFault.Memory finds = tt
+  by_result (Err (SearchFault.Passed place at)) finds = absurd (finds listing narrow narrows)
+  by_result (Err SearchFault.NoPattern) finds = absurd (finds listing narrow narrows)
+  by_result (Err SearchFault.Memory) finds = tt
 
 -- ---- the states that slopes force
 module _ (net : Network) (sets : Sets) (rate : ℚ) (base forced : Pattern) (slopes : List ℚ) (good : IsNetwork net) (sets_are : AreSetsOf net sets) (acyclic : HoldNoCycle net sets)

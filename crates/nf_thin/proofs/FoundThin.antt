@@ -1,5 +1,5 @@
 -- The flow found is a thin flow, and its slopes are the only ones.
-use Rattle.std.proofs.Common.{◌≡◌, ℕ, ◌+◌, List, sym, subst, ◌∙◌, add-one}
+use Rattle.std.proofs.Common.{◌≡◌, ℕ, suc, List, sym, subst, ◌∙◌}
 use Rattle.std.specs.Prelude.{Result, Ok, Err, IfOk}
 use Rattle.nf_rational.specs.Rational.{ℚ}
 use Rattle.nf_model.specs.Network.{Network, IsNetwork}
@@ -10,36 +10,25 @@ use Rattle.nf_thin_def.specs.Accepted.{IsAccepted}
 use Rattle.nf_thin_def.specs.Search.{Found, IsSearch}
 use Rattle.nf_thin_laws.proofs.Accepted.{IsThinFlow-accepted}
 use Rattle.nf_thin_laws.proofs.Slopes.{slopes-unique}
-use Rattle.nf_thin.specs.declared.thin.Thin.{Thin}
-use Rattle.nf_thin.specs.declared.thin.ThinFlow.{ThinFlow}
+use Rattle.nf_thin_one.specs.declared.thin.ThinFlow.{ThinFlow}
 use Rattle.nf_thin.specs.declared.fault.SearchFault.{SearchFault}
-use Rattle.nf_thin.specs.declared.known.Known.{Known}
 use Rattle.nf_thin.specs.declared.vain.Vain.{Vain}
-use Rattle.nf_thin.specs.Knowing.{IsKnown, IsThinAt}
+use Rattle.nf_thin_one.specs.Trying.{IsCopy}
+use Rattle.nf_thin.specs.Knowing.{IsKnown}
 use Rattle.nf_thin_rank.specs.Questions.{AreSetsOf}
-use Rattle.nf_thin.specs.Searching.{Searches, SlopesAreOnly, IsFound}
+use Rattle.nf_thin.specs.Searching.{SlopesAreOnly, IsFound}
 use Rattle.nf_thin.specs.Finding.{Finds}
 
 module _ (passes : Passing) (net : Network) (sets : Sets) (rate : ℚ) (base : Pattern) (budget : ℕ) (good : IsNetwork net) (sets_are : AreSetsOf net sets) where
   module _ (place : ℕ) (pattern : Pattern) (flows slopes : List ℚ) (s : IsSearch passes net sets rate base budget (Found place pattern flows slopes)) where
-    found_is_thin : IsThinFlow net sets rate flows slopes
+    pub found_is_thin : IsThinFlow net sets rate flows slopes
     found_is_thin =
         let first = s.answers in
         let listed : IsListedIn net sets pattern = s.is_listing.listed place pattern first.has_place in
         IsThinFlow-accepted net sets rate pattern flows slopes good sets_are.sets_are listed.states listed.entered first.solution.solves first.solution.meets
 
-    found_is_only : SlopesAreOnly net sets rate slopes
+    pub found_is_only : SlopesAreOnly net sets rate slopes
     found_is_only no_cycle other_flows other is_thin = slopes-unique net sets rate good no_cycle other_flows other flows slopes is_thin found_is_thin
-
-  pub result_is_thin : (result : Result Thin SearchFault) → Searches (IsSearch passes net sets rate base budget) budget result
-      → IfOk result (λ thin. IsThinFlow net sets rate thin.flows.items thin.labels.items)
-  result_is_thin (Ok thin) s = found_is_thin thin.place thin.pattern thin.flows.items thin.labels.items s
-  result_is_thin (Err fault) s = tt
-
-  pub result_is_only : (result : Result Thin SearchFault) → Searches (IsSearch passes net sets rate base budget) budget result
-      → IfOk result (λ thin. SlopesAreOnly net sets rate thin.labels.items)
-  result_is_only (Ok thin) s = found_is_only thin.place thin.pattern thin.flows.items thin.labels.items s
-  result_is_only (Err fault) s = tt
 
   -- The place does not matter.
   pub flow_is_thin : (result : Result ThinFlow SearchFault) → Finds (IsSearch passes net sets rate base budget) budget result
@@ -53,13 +42,14 @@ module _ (passes : Passing) (net : Network) (sets : Sets) (rate : ℚ) (base : P
   flow_is_only (Err fault) s = tt
 
 -- the known pattern, where it is the next one
-pub found_known : (passes : Passing) (net : Network) (sets : Sets) (rate : ℚ) (known : Known) (pattern : Pattern) (before : Vain) (thin : Thin)
-    → IsKnown passes net sets rate known → IsThinAt known (before.tried + 1) thin → known.pattern ≡ pattern → IsFound passes net sets rate pattern before thin
-found_known passes net sets rate known pattern before thin is at same = record {
-  place = at.place_is ∙ add-one before.tried;
+pub found_known : (passes : Passing) (net : Network) (sets : Sets) (rate : ℚ) (known : ThinFlow) (pattern : Pattern) (before after : Vain) (found : ThinFlow)
+    → IsKnown passes net sets rate known → IsCopy known found → known.pattern ≡ pattern → after.tried ≡ suc before.tried
+    → IsFound passes net sets rate pattern before after found
+found_known passes net sets rate known pattern before after found is at same one_more = record {
+  place = one_more;
   pattern_is = at.pattern_is ∙ same;
   accepted = subst (λ (p : Pattern). IsAccepted passes net sets rate p) same is.accepted;
-  solution = subst (λ (p : Pattern). IsSolution net sets rate p thin.flows.items thin.labels.items) same
-      (subst (λ (flows : List ℚ). IsSolution net sets rate known.pattern flows thin.labels.items) (sym at.flows_are)
+  solution = subst (λ (p : Pattern). IsSolution net sets rate p found.flows.items found.slopes.items) same
+      (subst (λ (flows : List ℚ). IsSolution net sets rate known.pattern flows found.slopes.items) (sym at.flows_are)
       (subst (λ (slopes : List ℚ). IsSolution net sets rate known.pattern known.flows.items slopes) (sym at.slopes_are) is.solution));
 }

@@ -10,12 +10,13 @@ use Rattle.nf_thin_def.specs.Search.{Answers, IsSearch}
 use Rattle.nf_pattern.specs.Given.{Question, Given, IsListedBy, IsNext, NoneLeft, Enumerates}
 use Rattle.nf_thin_equation_laws.specs.Equations.{IsPatternIn}
 use Rattle.nf_pattern.proofs.Deciding.{has_listing}
-use Rattle.nf_thin.specs.declared.thin.Thin.{Thin}
+use Rattle.nf_thin_one.specs.declared.thin.ThinFlow.{ThinFlow}
 use Rattle.nf_thin.specs.declared.vain.Vain.{Vain}
 use Rattle.nf_thin.specs.declared.fault.SearchFault.{SearchFault}
 use Rattle.nf_thin.specs.FirstPassing.{fault_of}
 use Rattle.nf_thin_rank.specs.Questions.{AreSetsOf, AsksOf}
-use Rattle.nf_thin.specs.Searching.{Searches, TriesNext}
+use Rattle.nf_thin.specs.Searching.{TriesNext}
+use Rattle.nf_thin.specs.Finding.{FindsAt}
 use Rattle.nf_pattern.specs.Front.{IsListingOf}
 use Rattle.nf_thin.proofs.Searched.{Vainly, none_tried, over_budget, found, vainly_more, search_ends, all_searched}
 use Rattle.nf_thin_rank.proofs.Asking.{listed_in}
@@ -40,11 +41,11 @@ module _ (passes : Passing) (net : Network) (sets : Sets) (rate : ℚ) (first : 
   is : IsListingOf q listing
   is = (has_listing q asks.is_question).1
 
-  abbrev Finds : Result Thin SearchFault → Type 0
-  Finds result = Searches (IsSearch passes net sets rate base budget) budget result
+  abbrev Finds : Result (ThinFlow × ℕ) SearchFault → Type 0
+  Finds result = FindsAt (IsSearch passes net sets rate base budget) budget result
 
-  done : (result : Result Thin SearchFault) → Searches (Answers passes net sets rate listing budget) budget result → Finds result
-  done result a = subst (λ (b : Pattern). Searches (IsSearch passes net sets rate b budget) budget result) based
+  done : (result : Result (ThinFlow × ℕ) SearchFault) → FindsAt (Answers passes net sets rate listing budget) budget result → Finds result
+  done result a = subst (λ (b : Pattern). FindsAt (IsSearch passes net sets rate b budget) budget result) based
       (all_searched passes net sets rate q asks.asked listing is budget result a)
 
   pub loop_starts : (given : Given) (vain : Vain) → given ≡ first → vain.tried ≡ 0 → vain.passed ≡ None → InLoop passes net sets rate q budget given vain
@@ -65,8 +66,10 @@ module _ (passes : Passing) (net : Network) (sets : Sets) (rate : ℚ) (first : 
       pub loop_listed : IsListedIn net sets pattern
       loop_listed = subst (λ (x : Question). IsListedBy x pattern) asks.asked next.listed
 
-      pub loop_finds : (now : Vain) (thin : Thin) → TriesNext passes net sets rate budget pattern vain now (Ok (Some thin)) → Finds (Ok thin)
-      loop_finds now thin t = done (Ok thin) (found passes net sets rate listing q is given.last vain (so.2 listing is) pattern next budget thin t.0 t.1)
+      pub loop_finds : (now : Vain) (thin : ThinFlow) → TriesNext passes net sets rate budget pattern vain now (Ok (Some thin))
+          → Finds (Ok (thin, now.tried))
+      loop_finds now thin t = done (Ok (thin, now.tried))
+          (found passes net sets rate listing q is given.last vain (so.2 listing is) pattern next budget now thin t.0 t.1)
 
       pub loop_fails : (now : Vain) (fault : SearchFault) → TriesNext passes net sets rate budget pattern vain now (Err fault) → Finds (Err fault)
       loop_fails now (SearchFault.Budget tried) t = done (Err (SearchFault.Budget tried))

@@ -16,7 +16,7 @@ use Rattle.nf_thin_laws.proofs.Narrowed.{order_put, no_earlier_place}
 use Rattle.nf_pattern.specs.Given.{Question, IsListedBy, Given, Last, AtStart, UpTo, IsLater, IsNext, Enumerates}
 use Rattle.nf_thin_narrow.specs.Asking.{question_left, StandsWithin, GivenUpTo, StandsAt}
 use Rattle.nf_thin_narrow.proofs.Places.{given_next}
-use Rattle.nf_thin.specs.declared.thin.Thin.{Thin}
+use Rattle.nf_thin_one.specs.declared.thin.ThinFlow.{ThinFlow}
 use Rattle.nf_thin.specs.declared.fault.SearchFault.{SearchFault}
 use Rattle.nf_thin.specs.declared.vain.Vain.{Vain}
 use Rattle.nf_thin_rank.specs.Questions.{AreSetsOf, question_of}
@@ -77,15 +77,16 @@ module _ (passes : Passing) (net : Network) (sets : Sets) (rate : ℚ) (base for
       here : slice_get narrow before.tried ≡ Some p
       here = given_next (question_left forced (question_of net sets base)) narrow n.part given.last p next before.tried (vainly listing narrow n).0
 
-    pub narrow_found : (thin : Thin) → SiftsNext passes net sets rate budget (filled forced p) before now (Ok (Some thin))
+    pub narrow_found : (thin : ThinFlow) → SiftsNext passes net sets rate budget (filled forced p) before now (Ok (Some thin))
         → StandsWithin (question_of net sets base) (filled forced p) budget true → NarrowFinds passes net sets rate base forced budget (Ok (Some thin))
     narrow_found thin t near listing narrow n = record {
+      place = suc before.tried;
       part = p;
-      has_place = (before.tried, t.1.place, here listing narrow n);
+      has_place = (before.tried, refl, here listing narrow n);
       pattern_is = t.1.pattern_is;
       accepted = t.1.accepted;
       solution = t.1.solution;
-      first = subst (NoneFilledBefore passes net sets rate forced narrow) (sym t.1.place) (vainly listing narrow n).1;
+      first = (vainly listing narrow n).1;
       within = λ there at. near listing there n.whole at;
     }
 

@@ -11,7 +11,7 @@ use Rattle.nf_thin_laws.proofs.States.{slopes-same}
 use Rattle.nf_thin.specs.Slopes.{AreThinSlopes, AreSlopesOfListed}
 use Rattle.nf_thin_balance.specs.declared.scaled.Scaled.{Scaled}
 use Rattle.nf_thin_balance.specs.Scaled.{IsScaled}
-use Rattle.nf_thin.specs.declared.thin.Thin.{Thin}
+use Rattle.nf_thin_one.specs.declared.thin.ThinFlow.{ThinFlow}
 use Rattle.nf_thin.specs.declared.vain.Vain.{Vain}
 use Rattle.nf_thin.specs.declared.fault.SearchFault.{SearchFault}
 use Rattle.nf_thin.specs.Searching.{TriesNext}
@@ -30,7 +30,8 @@ module _ (net : Network) (sets : Sets) (rate : ℚ) (pattern : Pattern) (listed 
       subst (λ (s : List ℚ). IsScaled net rate s here) (sym (only pattern solvable.flows solvable.slopes listed solvable.solution.solves solvable.solution.meets)) is
 
 -- A tried pattern is counted.
-pub tried_counts : (passes : Passing) (net : Network) (sets : Sets) (rate : ℚ) (budget : ℕ) (pattern : Pattern) (before after : Vain) (result : Result (Option Thin) SearchFault)
+pub tried_counts : (passes : Passing) (net : Network) (sets : Sets) (rate : ℚ) (budget : ℕ) (pattern : Pattern) (before after : Vain)
+    (result : Result (Option ThinFlow) SearchFault)
     → TriesNext passes net sets rate budget pattern before after result → SiftsNext passes net sets rate budget pattern before after result
 tried_counts passes net sets rate budget pattern before after (Ok None) t = (t.0, record { one_more = t.1.one_more; not_accepted = t.1.not_accepted })
 tried_counts passes net sets rate budget pattern before after (Ok (Some thin)) t = t

@@ -12,12 +12,14 @@ use Rattle.nf_thin_def.specs.Accepted.{pattern_lists, IsAccepted}
 use Rattle.nf_thin_def.specs.Listing.{HasPlace, IsListingIn}
 use Rattle.nf_thin_def.specs.Search.{SearchAnswer, Found, OverBudget, PassesAt, NoPattern, NoneAcceptedBefore, IsOverBudget, IsInVain, IsFirstPassing, Answers, IsSearch}
 use Rattle.nf_pattern.specs.Given.{Question, Last, AtStart, UpTo, IsNext, NoneLeft}
-use Rattle.nf_thin.specs.declared.thin.Thin.{Thin}
+use Rattle.nf_thin_one.specs.declared.thin.ThinFlow.{ThinFlow}
 use Rattle.nf_thin.specs.declared.vain.Vain.{Vain}
 use Rattle.nf_thin.specs.declared.fault.SearchFault.{SearchFault}
 use Rattle.nf_thin.specs.FirstPassing.{or_first, fault_of}
 use Rattle.nf_thin_rank.specs.Questions.{question_of}
-use Rattle.nf_thin.specs.Searching.{Searches, Noted, InVain, IsFound}
+use Rattle.nf_thin_one.specs.Trying.{TriesOne}
+use Rattle.nf_thin.specs.Searching.{Searches, Noted, InVain, IsFound, TriesNext}
+use Rattle.nf_thin.specs.Finding.{FindsAt}
 use Rattle.nf_pattern.specs.Front.{IsListingOf}
 use Rattle.nf_thin_narrow.specs.Asking.{GivenUpTo}
 use Rattle.nf_thin_narrow.proofs.Places.{given_next, given_all}
@@ -65,14 +67,14 @@ module _ (passes : Passing) (net : Network) (sets : Sets) (rate : ℚ) (listing 
       none_accepted = subst (λ (n : ℕ). NoneAcceptedBefore passes net sets rate listing (suc n)) same so.none_accepted;
     }
 
-    pub found : (budget : ℕ) (thin : Thin) → vain.tried < budget → IsFound passes net sets rate pattern vain thin
-        → Answers passes net sets rate listing budget (Found thin.place thin.pattern thin.flows.items thin.labels.items)
-    found budget thin less f = record {
+    pub found : (budget : ℕ) (after : Vain) (thin : ThinFlow) → vain.tried < budget → IsFound passes net sets rate pattern vain after thin
+        → Answers passes net sets rate listing budget (Found after.tried thin.pattern thin.flows.items thin.slopes.items)
+    found budget after thin less f = record {
       within = (let s = f.place in omega arith);
       has_place = subst (λ (n : ℕ). HasPlace listing n thin.pattern) (sym f.place) (subst (λ (p : Pattern). HasPlace listing (suc vain.tried) p) (sym f.pattern_is) place_is);
       first = subst (NoneAcceptedBefore passes net sets rate listing) (sym f.place) so.none_accepted;
       accepted = subst (IsAccepted passes net sets rate) (sym f.pattern_is) f.accepted;
-      solution = subst (λ (p : Pattern). IsSolution net sets rate p thin.flows.items thin.labels.items) (sym f.pattern_is) f.solution;
+      solution = subst (λ (p : Pattern). IsSolution net sets rate p thin.flows.items thin.slopes.items) (sym f.pattern_is) f.solution;
     }
 
     module _ (after : Vain) (counted : InVain passes net sets rate pattern vain after) where
@@ -139,9 +141,9 @@ module _ (passes : Passing) (net : Network) (sets : Sets) (rate : ℚ) (q : Ques
   searched : (answer : SearchAnswer) → Answers passes net sets rate listing budget answer → IsSearch passes net sets rate q.base budget answer
   searched answer a = record { listing = listing; is_listing = listing_in; answers = a }
 
-  pub all_searched : (result : Result Thin SearchFault) → Searches (Answers passes net sets rate listing budget) budget result
-      → Searches (IsSearch passes net sets rate q.base budget) budget result
-  all_searched (Ok thin) a = searched (Found thin.place thin.pattern thin.flows.items thin.labels.items) a
+  pub all_searched : (result : Result (ThinFlow × ℕ) SearchFault) → FindsAt (Answers passes net sets rate listing budget) budget result
+      → FindsAt (IsSearch passes net sets rate q.base budget) budget result
+  all_searched (Ok (thin, place)) a = searched (Found place thin.pattern thin.flows.items thin.slopes.items) a
   all_searched (Err (SearchFault.Budget tried)) a = (a.0, searched OverBudget a.1)
   all_searched (Err (SearchFault.Passed place at)) a = searched (PassesAt place at) a
   all_searched (Err SearchFault.NoPattern) a = searched NoPattern a
@@ -154,3 +156,9 @@ module _ (passes : Passing) (net : Network) (sets : Sets) (rate : ℚ) (pattern 
     where
       no : false ≡ true → ⊥
       no e = cc
+
+  -- One step with a pattern of which no operation passes.
+  pub tried : (budget : ℕ) (before after : Vain) → before.tried < budget → after.tried ≡ suc before.tried → after.passed ≡ before.passed
+      → (found : Option ThinFlow) → TriesOne passes net sets rate pattern (Ok found) → TriesNext passes net sets rate budget pattern before after (Ok found)
+  tried budget before after less one_more same (Some thin) t = (less, record { place = one_more; pattern_is = t.0; accepted = t.1; solution = t.2 })
+  tried budget before after less one_more same None t = (less, record { one_more = one_more; not_accepted = λ a. t.1 a.solvable; noted = inl (t.0, same) })

@@ -6,3 +6,4 @@ pub mod Knowing
 pub mod Sifting
 pub mod Finding
 pub use Rattle.nf_thin_rank.specs.Questions
+pub use Rattle.nf_thin_one.specs.declared.thin.ThinFlow

@@ -1,17 +1,16 @@
 -- The result of a search, and one step of it.
-use Rattle.std.specs.Prelude.{◌≡◌, ◌⊎◌, ℕ, suc, ◌<◌, List, length, Option, Some, None, Result, Ok, Err, IsOk}
+use Rattle.std.specs.Prelude.{◌≡◌, ◌⊎◌, ℕ, suc, ◌<◌, List, Option, Some, None, Result, Ok, Err, IsOk}
 use Rattle.nf_rational.specs.Rational.{ℚ}
 use Rattle.nf_frac_def.specs.Passing.{Passing}
 use Rattle.nf_frac_def.specs.declared.PassedAt.{PassedAt}
-use Rattle.nf_model.specs.Entries.{Has}
-use Rattle.nf_model.specs.Network.{Network, hops, unbounded}
+use Rattle.nf_model.specs.Network.{Network}
 use Rattle.nf_model.specs.ThinFlow.{Sets, IsThinFlow}
 use Rattle.nf_model.specs.Pattern.{Pattern, IsSolution}
 use Rattle.nf_thin_def.specs.Accepted.{pattern_lists, IsAccepted}
 use Rattle.nf_thin_def.specs.Search.{SearchAnswer, Found, OverBudget, PassesAt, NoPattern}
-use Rattle.nf_pattern.specs.Given.{Question, IsQuestion, Given, AtStart}
-use Rattle.nf_thin_laws.specs.ActiveLinks.{AreSets, HoldNoCycle}
+use Rattle.nf_thin_laws.specs.ActiveLinks.{HoldNoCycle}
 use Rattle.nf_thin.specs.declared.thin.Thin.{Thin}
+use Rattle.nf_thin_one.specs.declared.thin.ThinFlow.{ThinFlow}
 use Rattle.nf_thin.specs.declared.vain.Vain.{Vain}
 use Rattle.nf_thin.specs.declared.fault.SearchFault.{SearchFault}
 use Rattle.nf_thin.specs.FirstPassing.{or_first}
@@ -44,21 +43,21 @@ module _ (passes : Passing) (net : Network) (sets : Sets) (rate : ℚ) (pattern 
     pub noted : Noted before.passed after.passed (suc before.tried)
 
   -- The pattern is accepted, at the next place.
-  pub record IsFound (before : Vain) (thin : Thin) : Type 0 where
-    pub place : thin.place ≡ suc before.tried
-    pub pattern_is : thin.pattern ≡ pattern
+  pub record IsFound (before after : Vain) (found : ThinFlow) : Type 0 where
+    pub place : after.tried ≡ suc before.tried
+    pub pattern_is : found.pattern ≡ pattern
     pub accepted : IsAccepted passes net sets rate pattern
-    pub solution : IsSolution net sets rate pattern thin.flows.items thin.labels.items
+    pub solution : IsSolution net sets rate pattern found.flows.items found.slopes.items
 
 -- The result of one step: `Rejects` holds without a thin flow, and `Finds` of a thin flow. The step is refused if the budget is spent.
-abbrev pub Steps : Type 0 → (Thin → Type 0) → ℕ → Vain → Result (Option Thin) SearchFault → Type 0
+abbrev pub Steps : Type 0 → (ThinFlow → Type 0) → ℕ → Vain → Result (Option ThinFlow) SearchFault → Type 0
 Steps Rejects Finds budget before (Ok None) = (before.tried < budget) × Rejects
-Steps Rejects Finds budget before (Ok (Some thin)) = (before.tried < budget) × Finds thin
+Steps Rejects Finds budget before (Ok (Some found)) = (before.tried < budget) × Finds found
 Steps Rejects Finds budget before (Err (SearchFault.Budget tried)) = (before.tried ≡ budget) × (tried ≡ budget)
 Steps Rejects Finds budget before (Err (SearchFault.Passed place at)) = ⊥
 Steps Rejects Finds budget before (Err SearchFault.NoPattern) = ⊥
 Steps Rejects Finds budget before (Err SearchFault.Memory) = Unit {0}
 
-abbrev pub TriesNext : Passing → Network → Sets → ℚ → ℕ → Pattern → Vain → Vain → Result (Option Thin) SearchFault → Type 0
+abbrev pub TriesNext : Passing → Network → Sets → ℚ → ℕ → Pattern → Vain → Vain → Result (Option ThinFlow) SearchFault → Type 0
 TriesNext passes net sets rate budget pattern before after =
-    Steps (InVain passes net sets rate pattern before after) (IsFound passes net sets rate pattern before) budget before
+    Steps (InVain passes net sets rate pattern before after) (IsFound passes net sets rate pattern before after) budget before

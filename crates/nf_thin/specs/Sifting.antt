@@ -7,7 +7,7 @@ use Rattle.nf_model.specs.ThinFlow.{Sets}
 use Rattle.nf_model.specs.Pattern.{Pattern}
 use Rattle.nf_thin_def.specs.Accepted.{IsAccepted}
 use Rattle.nf_thin_laws.specs.ActiveLinks.{HoldNoCycle}
-use Rattle.nf_thin.specs.declared.thin.Thin.{Thin}
+use Rattle.nf_thin_one.specs.declared.thin.ThinFlow.{ThinFlow}
 use Rattle.nf_thin.specs.declared.vain.Vain.{Vain}
 use Rattle.nf_thin.specs.declared.fault.SearchFault.{SearchFault}
 use Rattle.nf_thin.specs.declared.sifting.Guide.{Guide}
@@ -30,6 +30,6 @@ pub record IsCounted (passes : Passing) (net : Network) (sets : Sets) (rate : �
   pub one_more : after.tried ≡ suc before.tried
   pub not_accepted : IsAccepted passes net sets rate pattern → ⊥
 
-abbrev pub SiftsNext : Passing → Network → Sets → ℚ → ℕ → Pattern → Vain → Vain → Result (Option Thin) SearchFault → Type 0
+abbrev pub SiftsNext : Passing → Network → Sets → ℚ → ℕ → Pattern → Vain → Vain → Result (Option ThinFlow) SearchFault → Type 0
 SiftsNext passes net sets rate budget pattern before after =
-    Steps (IsCounted passes net sets rate pattern before after) (IsFound passes net sets rate pattern before) budget before
+    Steps (IsCounted passes net sets rate pattern before after) (IsFound passes net sets rate pattern before after) budget before

@@ -12,11 +12,11 @@ ghost use Rattle.nf_thin.specs.Finding.{FindsBy};
 use crate::fault::SearchFault;
 use crate::problem::Problem;
 use crate::sifting::{Guide, guide_of, sift_next};
-use crate::thin::{Thin, ThinFlow};
 use crate::vain::Vain;
 use nf_graph::NodeId;
 use nf_pattern::{Pattern, Patterns};
 use nf_thin_narrow::{fill, forced_by, narrow_listing};
+use nf_thin_one::ThinFlow;
 use nf_thin_rank::{Pace, Ranking, near_listed, unbounded_flags};
 use std::alloc::{AllocError, Global};
 
@@ -28,8 +28,7 @@ struct Narrow<'a> {
 }
 
 // Tries the patterns left without the forced links, with the forced states put in, until one is accepted or its rank in the whole listing
-// is beyond the budget. The place in the result is that among the patterns left. The caller lends `pace` and `whole`, a copy of the base,
-// for the current pattern with its forced states.
+// is beyond the budget. The caller lends `pace` and `whole`, a copy of the base, for the current pattern with its forced states.
 fn try_narrow(
     alloc: Global,
     problem: &Problem,
@@ -37,7 +36,7 @@ fn try_narrow(
     patterns: &mut Patterns,
     pace: &mut Pace,
     whole: &mut Pattern,
-) -> Result<Option<Thin>, SearchFault>
+) -> Result<Option<ThinFlow>, SearchFault>
     requires problem { IsPosed problem.now.ranking }
     requires guide { GuidesFor problem.now narrow.now.guide.now }
     requires forcing { IsForcing problem.now.ranking.sets.now
@@ -86,7 +85,11 @@ fn narrowed(alloc: Global, ranking: &Ranking, forced: &Pattern) -> Result<Patter
 }
 
 // Runs `try_narrow` from the start.
-fn go_narrow(alloc: Global, problem: &Problem, narrow: &Narrow) -> Result<Option<Thin>, SearchFault>
+fn go_narrow(
+    alloc: Global,
+    problem: &Problem,
+    narrow: &Narrow,
+) -> Result<Option<ThinFlow>, SearchFault>
     requires problem { IsPosed problem.now.ranking }
     requires guide { GuidesFor problem.now narrow.now.guide.now }
     requires forcing { IsForcing problem.now.ranking.sets.now
@@ -115,11 +118,7 @@ fn find_by(alloc: Global, problem: &Problem, guide: &Guide) -> Result<Option<Thi
         guide,
         forced: &forced,
     };
-    let found = go_narrow(alloc, problem, &narrow)?;
-    let Some(thin) = found else {
-        return Ok(None);
-    };
-    Ok(Some(thin.flow()))
+    go_narrow(alloc, problem, &narrow)
 }
 
 // Returns a guide guessed from a listed pattern near the base, or `None`. Fails if an allocation fails.

@@ -2,32 +2,21 @@
 ghost use Rattle.std.specs.Prelude.{IfOk, IfSome};
 ghost use Rattle.nf_frac_def.specs.Passing.{passes_Q};
 ghost use Rattle.nf_thin_guess.specs.Guessing.{IsSolved};
-ghost use Rattle.nf_thin.specs.Knowing.{IsKnown, IsThinAt};
+ghost use Rattle.nf_thin.specs.Knowing.{IsKnown};
 ghost use Rattle.nf_thin.specs.Slopes.{AreThinSlopes};
 
 use crate::problem::Problem;
-use crate::thin::Thin;
-use nf_frac::{Halt, Q};
-use nf_pattern::Pattern;
+use nf_frac::Halt;
 use nf_thin_guess::SolvedPattern;
-use nf_thin_one::{Outcome, each_is_led, judge_values};
+use nf_thin_one::{ThinFlow, each_is_led, judge_values};
 use std::alloc::{AllocError, Global};
 
-/// An accepted pattern, with the flow of each link and the slope of each node.
-#[derive(Drop)]
-pub(crate) struct Known {
-    pub(crate) pattern: Pattern,
-    pub(crate) flows: Vec<Q>,
-    pub(crate) slopes: Vec<Q>,
-}
-
-/// Returns the guessed pattern with its flows and slopes, or `None`. The pattern is accepted, and each node is entered. Fails if an
-/// allocation fails.
+/// Returns the thin flow of the guessed pattern if the pattern is accepted and enters each node, or `None`. Fails if an allocation fails.
 pub(crate) fn known_by(
     alloc: Global,
     problem: &Problem,
     last: SolvedPattern,
-) -> Result<Option<Known>, AllocError>
+) -> Result<Option<ThinFlow>, AllocError>
     requires { IsSolved passes_Q problem.now.ranking.net.now.net problem.now.ranking.sets.now
         problem.now.rate last }
     ensures known { IfOk result (λ found. IfSome found
@@ -48,28 +37,8 @@ pub(crate) fn known_by(
         &pattern,
         values,
     ) {
-        Ok(Outcome::Accepted { flows, slopes }) => Ok(Some(Known {
-            pattern,
-            flows,
-            slopes,
-        })),
-        Ok(Outcome::Refused) => Ok(None),
+        Ok(found) => Ok(found),
         Err(Halt::Passed(_)) => Ok(None),
         Err(Halt::Memory) => Err(AllocError),
     }
-}
-
-/// Returns a copy of the thin flow of the known pattern, with this place. Fails if an allocation fails.
-pub(crate) fn thin_at(alloc: Global, known: &Known, place: u64) -> Result<Thin, AllocError>
-    ensures { IfOk result (λ thin. IsThinAt known.now place thin) }
-{
-    let flows = known.flows.as_slice().to_vec(alloc)?;
-    let labels = known.slopes.as_slice().to_vec(alloc)?;
-    let pattern = known.pattern.copy(alloc)?;
-    Ok(Thin {
-        flows,
-        labels,
-        pattern,
-        place,
-    })
 }

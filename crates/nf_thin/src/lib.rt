@@ -13,6 +13,8 @@ mod trying_next;
 mod vain;
 
 pub use fault::SearchFault;
-pub use nf_thin_one::{Judged, MOST_GRID_UNKNOWNS, Tried, try_pattern, unknown_count, verdict};
+pub use nf_thin_one::{
+    Judged, MOST_GRID_UNKNOWNS, ThinFlow, Tried, try_pattern, unknown_count, verdict,
+};
 pub use searches::{find_thin, search};
-pub use thin::{Thin, ThinFlow};
+pub use thin::Thin;

@@ -9,32 +9,33 @@ ghost use Rattle.nf_thin_rank.specs.Questions.{AreSetsOf, AsksOf};
 ghost use Rattle.nf_thin_rank.specs.Posing.{IsPosed};
 ghost use Rattle.nf_thin.specs.Searching.{Searches, SlopesAreOnly};
 ghost use Rattle.nf_thin.specs.Posing.{IsAnswerTo};
-ghost use Rattle.nf_thin.specs.Finding.{Finds};
+ghost use Rattle.nf_thin.specs.Finding.{Finds, FindsAt};
 
 use crate::fault::SearchFault;
 use crate::finding::find_by_slopes;
 use crate::problem::Problem;
-use crate::thin::{Thin, ThinFlow};
+use crate::thin::Thin;
 use crate::trying_next::try_next;
 use crate::vain::Vain;
 use nf_frac::Q;
 use nf_graph::{LinkSets, NodeId};
 use nf_net::Network;
 use nf_pattern::{Pattern, Patterns};
+use nf_thin_one::ThinFlow;
 use nf_thin_rank::{Ranking, listing};
 use std::alloc::Global;
 
-// Tries the patterns of a listing from its start, until one is accepted.
+// Tries the patterns of a listing from its start, until one is accepted. Returns its thin flow and its place.
 fn go_through(
     alloc: Global,
     problem: &Problem,
     patterns: &mut Patterns,
-) -> Result<Thin, SearchFault>
+) -> Result<(ThinFlow, u64), SearchFault>
     requires problem { IsPosed problem.now.ranking }
     requires question { AsksOf problem.now.ranking.net.now.net problem.now.ranking.sets.now
         patterns.old }
     requires base { patterns.old.question.base ≡ problem.now.ranking.base.now }
-    ensures { Searches (IsAnswerTo problem.now) problem.now.ranking.budget result }
+    ensures { FindsAt (IsAnswerTo problem.now) problem.now.ranking.budget result }
 {
     let mut vain = Vain {
         tried: 0,
@@ -44,16 +45,16 @@ fn go_through(
     while let Some(pattern) = patterns.next() {
         let found = try_next(alloc, problem, pattern, &mut vain)?;
         if let Some(thin) = found {
-            return Ok(thin);
+            return Ok((thin, vain.tried));
         }
     }
     Err(vain.fault())
 }
 
-// Searches by the whole listing.
-fn search_all(alloc: Global, problem: &Problem) -> Result<Thin, SearchFault>
+// Searches by the whole listing. Returns the thin flow and its place.
+fn search_all(alloc: Global, problem: &Problem) -> Result<(ThinFlow, u64), SearchFault>
     requires { IsPosed problem.now.ranking }
-    ensures { Searches (IsAnswerTo problem.now) problem.now.ranking.budget result }
+    ensures { FindsAt (IsAnswerTo problem.now) problem.now.ranking.budget result }
 {
     let mut patterns = listing(alloc, &problem.ranking, problem.ranking.base)?;
     go_through(alloc, problem, &mut patterns)
@@ -97,7 +98,18 @@ pub fn search(
         },
         rate,
     };
-    search_all(alloc, &problem)
+    let (found, place) = search_all(alloc, &problem)?;
+    let ThinFlow {
+        flows,
+        slopes,
+        pattern,
+    } = found;
+    Ok(Thin {
+        flows,
+        labels: slopes,
+        pattern,
+        place,
+    })
 }
 
 // Searches by the slopes of a thin flow, and by the whole listing if that finds no answer.
@@ -108,8 +120,8 @@ fn find_or_search(alloc: Global, problem: &Problem) -> Result<ThinFlow, SearchFa
     if let Some(found) = find_by_slopes(alloc, problem)? {
         return Ok(found);
     }
-    let thin = search_all(alloc, problem)?;
-    Ok(thin.flow())
+    let (found, _) = search_all(alloc, problem)?;
+    Ok(found)
 }
 
 /// Returns the thin flow that `search` finds, without its place. Refuses if `search` does, with the same cause, or if an allocation fails.

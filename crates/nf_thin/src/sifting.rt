@@ -6,22 +6,21 @@ ghost use Rattle.nf_thin.specs.Posing.{GuidesFor, SiftsFor};
 
 use crate::cycles::hold_no_cycle;
 use crate::fault::SearchFault;
-use crate::known::{Known, known_by, thin_at};
+use crate::known::known_by;
 use crate::problem::Problem;
-use crate::thin::Thin;
 use crate::trying_next::try_next;
 use crate::vain::Vain;
 use nf_pattern::Pattern;
 use nf_thin_balance::{Scaled, ruled_out_at, scaled_flows};
 use nf_thin_guess::guess;
-use nf_thin_one::is_one_pattern;
+use nf_thin_one::{ThinFlow, is_one_pattern};
 use std::alloc::{AllocError, Global};
 
 /// A pattern known to be accepted, with its flows and slopes. `scaled` has ranges of the supply, and of the flows that fill the links at
 /// these slopes.
 #[derive(Drop)]
 pub(crate) struct Guide {
-    pub(crate) known: Known,
+    pub(crate) known: ThinFlow,
     pub(crate) scaled: Scaled,
 }
 
@@ -34,7 +33,7 @@ pub(crate) fn sift_next(
     guide: &Guide,
     pattern: &Pattern,
     vain: &mut Vain,
-) -> Result<Option<Thin>, SearchFault>
+) -> Result<Option<ThinFlow>, SearchFault>
     requires problem { IsPosed problem.now.ranking }
     requires listed { IsListedFor problem.now.ranking pattern.now }
     requires guide { GuidesFor problem.now guide.now }
@@ -46,8 +45,9 @@ pub(crate) fn sift_next(
         return Err(SearchFault::Budget { tried: budget });
     }
     if is_one_pattern(problem.ranking.net, &guide.known.pattern, pattern) {
-        let thin = thin_at(alloc, &guide.known, vain.tried + 1)?;
-        return Ok(Some(thin));
+        vain.tried += 1;
+        let found = guide.known.copy(alloc)?;
+        return Ok(Some(found));
     }
     let Some(node) = ruled_out_at(
         alloc,

@@ -1,4 +1,4 @@
-// The results of a search.
+// The result of `search`.
 use nf_frac::Q;
 use nf_pattern::Pattern;
 
@@ -10,34 +10,4 @@ pub struct Thin {
     pub labels: Vec<Q>,
     pub pattern: Pattern,
     pub place: u64,
-}
-
-/// A thin flow with resetting, with its pattern, as in `Thin` but without the place. `slopes` has the slope of each node's label.
-#[derive(Drop)]
-pub struct ThinFlow {
-    pub flows: Vec<Q>,
-    pub slopes: Vec<Q>,
-    pub pattern: Pattern,
-}
-
-impl Thin {
-    ghost use Rattle.std.specs.Prelude.{◌≡◌};
-    ghost use Rattle.nf_thin.specs.Finding.{flow_of};
-
-    /// Returns the thin flow without its place.
-    pub(crate) fn flow(self) -> ThinFlow
-        ensures { result ≡ flow_of self }
-    {
-        let Thin {
-            flows,
-            labels,
-            pattern,
-            place: _,
-        } = self;
-        ThinFlow {
-            flows,
-            slopes: labels,
-            pattern,
-        }
-    }
 }

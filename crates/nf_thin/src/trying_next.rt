@@ -5,20 +5,19 @@ ghost use Rattle.nf_thin.specs.Posing.{TriesFor};
 
 use crate::fault::SearchFault;
 use crate::problem::Problem;
-use crate::thin::Thin;
 use crate::vain::Vain;
 use nf_frac::Halt;
 use nf_pattern::Pattern;
-use nf_thin_one::{Outcome, try_one};
+use nf_thin_one::{ThinFlow, try_one};
 use std::alloc::Global;
 
-/// Tries the next pattern. Returns its thin flow, or `None` if the pattern is not accepted. Refuses if the budget is spent.
+/// Counts the next pattern and tries it. Returns its thin flow, or `None` if the pattern is not accepted. Refuses if the budget is spent.
 pub(crate) fn try_next(
     alloc: Global,
     problem: &Problem,
     pattern: &Pattern,
     vain: &mut Vain,
-) -> Result<Option<Thin>, SearchFault>
+) -> Result<Option<ThinFlow>, SearchFault>
     requires pattern { IsPatternIn problem.now.ranking.net.now.net problem.now.ranking.sets.now
         pattern.now }
     requires within { vain.old.tried ≤ problem.now.ranking.budget }
@@ -36,16 +35,7 @@ pub(crate) fn try_next(
         problem.rate,
         pattern,
     ) {
-        Ok(Outcome::Accepted { flows, slopes }) => {
-            let pattern = pattern.copy(alloc)?;
-            Ok(Some(Thin {
-                flows,
-                labels: slopes,
-                pattern,
-                place: vain.tried,
-            }))
-        }
-        Ok(Outcome::Refused) => Ok(None),
+        Ok(found) => Ok(found),
         Err(Halt::Passed(at)) => {
             vain.note(at);
             Ok(None)

@@ -20,7 +20,7 @@ use Rattle.nf_thin_equation_laws.proofs.Table.{rows-length, is_square}
 use Rattle.nf_thin_one.specs.declared.verdicts.Judged.{Judged}
 use Rattle.nf_thin_one.specs.Judging.{IsJudged}
 use Rattle.nf_thin_one.specs.declared.trying.Tried.{Tried}
-use Rattle.nf_thin_one.specs.declared.trying.Outcome.{Outcome}
+use Rattle.nf_thin_one.specs.declared.thin.ThinFlow.{ThinFlow}
 use Rattle.nf_thin_one.specs.Trying.{AreValuesOf, JudgesFlows, JudgesValues, TriesOne, TriesInto}
 use Rattle.nf_thin_one.proofs.Patterns.{table_ok, table_passes, verdict_passes, accepted, refused, not_one}
 
@@ -41,17 +41,18 @@ module _ (passes : Passing) (net : Network) (sets : Sets) (rate : ℚ) (pattern 
       (table_ok passes net sets rate pattern p (Some values) h)).solves.count
       ∙ rows-length net sets rate pattern p.network p.sets_are
 
-  pub tried_values : (values : List ℚ) → AreValuesOf passes net sets rate pattern values → (r : Result Outcome (Halt ℚ))
+  pub tried_values : (values : List ℚ) → AreValuesOf passes net sets rate pattern values → (r : Result (Option ThinFlow) (Halt ℚ))
       → JudgesValues net pattern (flows_in net.nodes sets.active values) (slopes_in net.nodes values)
       (at_part Part.Verdict (verdict_list passes net pattern (slopes_in net.nodes values))) r
       → TriesOne passes net sets rate pattern r
-  tried_values values h (Ok (Outcome.Accepted flows slopes)) j =
-      let found = accepted passes net sets rate pattern p values h j.0 j.3 in (
+  tried_values values h (Ok (Some thin)) j =
+      let found = accepted passes net sets rate pattern p values h j.0 j.4 in (
+        j.3,
         found.0,
-        subst (λ (l : List ℚ). IsSolution net sets rate pattern flows.items l) (sym j.2)
+        subst (λ (l : List ℚ). IsSolution net sets rate pattern thin.flows.items l) (sym j.2)
             (subst (λ (f : List ℚ). IsSolution net sets rate pattern f (slopes_in net.nodes values)) (sym j.1) found.1),
       )
-  tried_values values h (Ok Outcome.Refused) j = refused passes net sets rate pattern p values h j.0 j.1
+  tried_values values h (Ok None) j = refused passes net sets rate pattern p values h j.0 j.1
   tried_values values h (Err (Halt.Passed at)) j = verdict_passes passes net sets rate pattern p values h at j
   tried_values values h (Err Halt.Memory) j = tt
 

@@ -8,6 +8,7 @@ mod fulls;
 mod led;
 mod small_numbers;
 mod solving;
+mod thin;
 mod trying;
 mod verdicts;
 
@@ -16,5 +17,6 @@ pub use filling::unknown_count;
 pub use fulls::full_flow;
 pub use led::{each_is_led, may_carry};
 pub use solving::MOST_GRID_UNKNOWNS;
-pub use trying::{Outcome, Tried, judge_values, pattern_values, solved, try_one, try_pattern};
+pub use thin::ThinFlow;
+pub use trying::{Tried, judge_values, pattern_values, solved, try_one, try_pattern};
 pub use verdicts::{Judged, verdict};

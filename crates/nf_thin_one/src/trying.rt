@@ -19,6 +19,7 @@ ghost use Rattle.nf_thin_one.specs.Trying.{JudgesFlows, JudgesValues, TriesOne, 
 use crate::filling::{fill, table_of, unknown_count};
 use crate::small_numbers::has_small_numbers;
 use crate::solving::solve_pattern;
+use crate::thin::ThinFlow;
 use crate::verdicts::{Judged, verdict};
 use nf_frac::{Halt, PassedAt, Q, Small};
 use nf_graph::{LinkId, LinkSets};
@@ -34,15 +35,6 @@ pub enum Tried {
     Accepted,
     /// The pattern is not solvable.
     NotSolvable,
-}
-
-/// The result of `try_one`, with flows and slopes.
-#[derive(Drop)]
-pub enum Outcome {
-    /// The pattern is accepted: flows of the links, and slopes of the nodes.
-    Accepted { flows: Vec<Q>, slopes: Vec<Q> },
-    /// The pattern is not solvable.
-    Refused,
 }
 
 // ---- flows and slopes, from the values of a table's unknowns, and what is judged of them
@@ -129,14 +121,15 @@ fn judge_into(
     judge(net, sets, pattern, flows, slopes)
 }
 
-/// Judges the values that solve the table of a pattern. Refuses if an operation of the verdict passes, or if an allocation fails.
+/// Judges the values that solve the table of a pattern. Returns their thin flow, or `None` if the pattern is not solvable. Refuses if an
+/// operation of the verdict passes, or if an allocation fails.
 pub fn judge_values(
     alloc: Global,
     net: &Network,
     sets: &LinkSets,
     pattern: &Pattern,
     values: Vec<Q>,
-) -> Result<Outcome, Halt<Q>>
+) -> Result<Option<ThinFlow>, Halt<Q>>
     requires pattern { IsPatternIn net.now.net sets.now pattern.now }
     requires values { length values.items
         ≡ net.now.net.nodes + length (active_from 0 sets.now.active) }
@@ -150,9 +143,16 @@ pub fn judge_values(
     let mut slopes = values;
     slopes.truncate(net.node_count() as usize);
     match verdict(net, sets, pattern, &flows, &slopes)? {
-        Judged::Meets => Ok(Outcome::Accepted { flows, slopes }),
-        Judged::FailsNode(_) => Ok(Outcome::Refused),
-        Judged::FailsLink(_) => Ok(Outcome::Refused),
+        Judged::Meets => {
+            let pattern = pattern.copy(alloc)?;
+            Ok(Some(ThinFlow {
+                flows,
+                slopes,
+                pattern,
+            }))
+        }
+        Judged::FailsNode(_) => Ok(None),
+        Judged::FailsLink(_) => Ok(None),
     }
 }
 
@@ -258,20 +258,20 @@ pub fn try_pattern(
     }
 }
 
-/// Returns whether a pattern is accepted, and with which flows and slopes. Refuses at the first of its operations that passes, or if an
-/// allocation fails. Takes any number of unknowns. Its table is allocated, which is quicker than to make a grid.
+/// Returns the thin flow of an accepted pattern, or `None` if the pattern is not solvable. Refuses at the first of its operations that
+/// passes, or if an allocation fails. Takes any number of unknowns. Its table is allocated, which is quicker than to make a grid.
 pub fn try_one(
     alloc: Global,
     net: &Network,
     sets: &LinkSets,
     rate: Q,
     pattern: &Pattern,
-) -> Result<Outcome, Halt<Q>>
+) -> Result<Option<ThinFlow>, Halt<Q>>
     requires { IsPatternIn net.now.net sets.now pattern.now }
     ensures { TriesOne passes_Q net.now.net sets.now rate pattern.now result }
 {
     match pattern_values(alloc, net, sets, rate, pattern)? {
         Some(values) => judge_values(alloc, net, sets, pattern, values),
-        None => Ok(Outcome::Refused),
+        None => Ok(None),
     }
 }

@@ -4,7 +4,7 @@ use Rattle.nf_rational.specs.Rational.{ℚ}
 use Rattle.nf_frac_def.specs.Passing.{passes_Q}
 use Rattle.nf_thin_guess.specs.declared.guessing.SolvedPattern.{SolvedPattern}
 use Rattle.nf_thin_guess.specs.Guessing.{IsSolved}
-use Rattle.nf_thin.specs.declared.known.Known.{Known}
+use Rattle.nf_thin_one.specs.declared.thin.ThinFlow.{ThinFlow}
 use Rattle.nf_thin.specs.Slopes.{AreThinSlopes}
 use Rattle.nf_thin.specs.Knowing.{IsKnown}
 use Rattle.nf_thin_balance.specs.Scaled.{IsScaled}
@@ -21,15 +21,15 @@ scaled_flows-requires-clause-sets c = c.requires.problem.sets.sets_are.count
 
 pub scaled_flows-requires-clause-slopes : goal.scaled_flows-requires-clause-slopes
 scaled_flows-requires-clause-slopes c =
-    let known = subst (λ (found : Option Known). IfSome found (λ known. IsKnown passes_Q c.args.problem.now.ranking.net.now.net
+    let known = subst (λ (found : Option ThinFlow). IfSome found (λ known. IsKnown passes_Q c.args.problem.now.ranking.net.now.net
     c.args.problem.now.ranking.sets.now c.args.problem.now.rate known)) c.in-Some-2.is c.in_ok-known.ensures.known in
     ap (λ (l : List ℚ). length l) c.deref.ensures.value ∙ known.solution.solves.slope_count
 
 pub returns : goal.returns
 returns c =
-    let known = subst (λ (found : Option Known). IfSome found (λ known. IsKnown passes_Q c.args.problem.now.ranking.net.now.net
+    let known = subst (λ (found : Option ThinFlow). IfSome found (λ known. IsKnown passes_Q c.args.problem.now.ranking.net.now.net
     c.args.problem.now.ranking.sets.now c.args.problem.now.rate known)) c.in-Some-2.is c.in_ok-known.ensures.known in
-    let thin = subst (λ (found : Option Known). IfSome found (λ known. AreThinSlopes c.args.problem.now.ranking.net.now.net
+    let thin = subst (λ (found : Option ThinFlow). IfSome found (λ known. AreThinSlopes c.args.problem.now.ranking.net.now.net
     c.args.problem.now.ranking.sets.now c.args.problem.now.rate known.slopes.items)) c.in-Some-2.is c.in_ok-known.ensures.thin in
     record {
       known = known;

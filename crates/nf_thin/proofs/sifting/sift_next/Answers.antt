@@ -28,8 +28,8 @@ pub returns-then-is_one_pattern : goal.returns-then-is_one_pattern
 returns-then-is_one_pattern c = (
   let n = c.if-vain-budget.false in let w = c.requires.within in omega arith,
   found_known passes_Q c.args.problem.now.ranking.net.now.net c.args.problem.now.ranking.sets.now c.args.problem.now.rate c.args.guide.now.known
-      c.args.pattern.now c.args.vain.now c.in_ok-thin.thin
-      c.requires.guide.known c.in_ok-thin.ensures (c.is_one_pattern.ensures c.if-is_one_pattern.true),
+      c.args.pattern.now c.args.vain.now _ c.in_ok-found.found
+      c.requires.guide.known c.in_ok-found.ensures (c.is_one_pattern.ensures c.if-is_one_pattern.true) (add-one c.args.vain.now.tried),
 )
 
 pub returns-in_default : goal.returns-in_default

@@ -15,12 +15,12 @@ verdict-requires-clause-flows c =
 pub verdict-requires-clause-states : goal.verdict-requires-clause-states
 verdict-requires-clause-states c = c.requires.pattern.pattern_is.count ∙ c.requires.pattern.sets_are.count
 
-pub returns-in-Meets : goal.returns-in-Meets
-returns-in-Meets c =
+pub returns-in_ok-pattern-in-Meets : goal.returns-in_ok-pattern-in-Meets
+returns-in_ok-pattern-in-Meets c =
     let long = c.truncate.ensures.items ∙ ap (λ (n : ℕ). take n c.args.values.items) c.node_count.ensures in
     let flows = c.in_ok-flows.ensures ∙ ap (λ (l : List ℚ). flows_in c.args.net.now.net.nodes c.args.sets.now.active l) c.deref.ensures.value in
     let both = judged_so c.args.net.now.net c.args.pattern.now _ _ _ _ _ _ (c.deref-2.ensures.value ∙ flows) (c.deref-3.ensures.value ∙ long) c.in-Meets.is c.in_ok-verdict.ensures in
-    (both.0, flows, long, both.1)
+    (both.0, flows, long, c.in_ok-pattern-in-Meets.ensures, both.1)
 
 pub returns-in-FailsNode : goal.returns-in-FailsNode
 returns-in-FailsNode c =

@@ -60,17 +60,17 @@ returns-clause-phase c =
     c.in-Some.end (ap (λ (o : Option ℚ). Ok o) (sym c.in-Some.is) ∙ c.in_ok-end.ensures.list)
     c.in_ok-phase.phase (c.in_ok-phase.ensures.leads c.args.patterns c.in_ok-found.ensures.found) c.in_ok-phase.ensures.thin c.extend_by.new.self c.in_ok-extend_by.ensures.made
 
-pub phase_by-requires-clause-reaches : goal.phase_by-requires-clause-reaches
-phase_by-requires-clause-reaches c = c.requires.reaches
+pub phase-requires-clause-reaches : goal.phase-requires-clause-reaches
+phase-requires-clause-reaches c = c.requires.reaches
 
-pub phase_by-requires-clause-named : goal.phase_by-requires-clause-named
-phase_by-requires-clause-named c = c.in_ok-found.ensures.named
+pub phase-requires-clause-named : goal.phase-requires-clause-named
+phase-requires-clause-named c = c.in_ok-found.ensures.named
 
-pub phase_by-requires-clause-found : goal.phase_by-requires-clause-found
-phase_by-requires-clause-found c = (c.args.patterns, c.in_ok-found.ensures.found)
+pub phase-requires-clause-found : goal.phase-requires-clause-found
+phase-requires-clause-found c = (c.args.patterns, c.in_ok-found.ensures.found)
 
-pub phase_by-requires-clause-below : goal.phase_by-requires-clause-below
-phase_by-requires-clause-below c =
+pub phase-requires-clause-below : goal.phase-requires-clause-below
+phase-requires-clause-below c =
     subst (λ (s : Standing). s.time <ℚ c.in-Some.end) c.self.view_is (MatchOption-at_some _
     (λ (end : ℚ). c.self.inside.reached <ℚ end) c.in-Some.end c.in-Some.is c.in_ok-end.ensures.later)
 
