@@ -1,7 +1,7 @@
 -- The states of links in the pattern of settled flows. The flows solve the pattern's equations and satisfy its inequalities.
 use Rattle.std.proofs.Common.{◌≡◌, ◌≢◌, ℕ, ◌<◌, List, [], ◌∷◌, ◌⊎◌, inl, inr, ⊎_elim, Bool, true, false, Option, Some, None, slice_get, sym, ap, subst, refl, ◌∙◌}
 use Rattle.nf_complete_laws.proofs.Common.{is_none, same_Some, slice_get-map, none-some, ℚ, 0ℚ, ◌*ℚ◌, ◌≤ℚ◌, ◌<ℚ◌, reading_of, ≤ℚ_of_lt, ≤ℚ_antisymm, lt_or_le_ℚ}
-use Rattle.nf_complete_laws.proofs.Common.{nn_times, le, eq, linear_le, above_not_zero, State, Tight, Full, Zero, number_at, Has, Hop, IsHop, Link, Network}
+use Rattle.nf_complete_laws.proofs.Common.{nn_times, le, eq, linear_le, ps_apart, State, Tight, Full, Zero, number_at, Has, Hop, IsHop, Link, Network}
 use Rattle.nf_complete_laws.proofs.Common.{IsLink, hop_of, hops, unbounded, Sets, exit_slope, exit_slope_at, Enters, IsThinFlow, Pattern, HasState, NeedsState}
 use Rattle.nf_complete_laws.proofs.Common.{IsPattern, Fills, Equation, Inequality, Solves, Meets, IsPositive, IsPositive-link, hop_at, flag, flag-cases}
 use Rattle.nf_complete_laws.proofs.Common.{exit_tight, IsInterior, IsBare, LeadsToBare, IsSettledPattern, AreGoodSets}
@@ -80,8 +80,8 @@ module _ (net : Network) (sets : Sets) (rate : ℚ) (flows slopes : List ℚ) (p
       (λ (w : LeadsToBare net sets flows slopes e link). led (settled.led e link p n w) w)
       (λ (w : LeadsToBare net sets flows slopes e link → ⊥). ⊎_elim
       (λ (h : 0ℚ <ℚ x e). ⊎_elim
-      (λ (f : Fills link.capacity (x e) (l link.head)). full (settled.full e link p n (above_not_zero (x e) h) f) h f)
-      (λ (f : Fills link.capacity (x e) (l link.head) → ⊥). between (settled.tight e link p n (above_not_zero (x e) h) f)
+      (λ (f : Fills link.capacity (x e) (l link.head)). full (settled.full e link p n (ps_apart (x e) h) f) h f)
+      (λ (f : Fills link.capacity (x e) (l link.head) → ⊥). between (settled.tight e link p n (ps_apart (x e) h) f)
       (record { link = link; is_link = p; needs = n; some = h; not_full = below_full link.capacity _ _ _ (law e link p n) h f }))
       (fills_or_not link.capacity (x e) (l link.head)))
       (λ (z : x e ≡ 0ℚ). empty (settled.zero e link p n z w) z)

@@ -57,7 +57,6 @@ pub use Rattle.nf_rational_laws.proofs.Chains.{≤ℚ_refl, ≤ℚ_trans}
 pub use Rattle.nf_rational_laws.proofs.Entries.{entry, same_entries, slice_get-image}
 pub use Rattle.nf_rational_laws.proofs.Extremes.{min_keeps, min_left, min_right}
 pub use Rattle.nf_rational_laws.proofs.Facts.{
-  above_not_zero,
   less_itself,
   less_some_le,
   moved_by_zero,
@@ -74,6 +73,7 @@ pub use Rattle.nf_rational_laws.proofs.Linear.{eq, eq_times, le, le_times, linea
 pub use Rattle.nf_rational_laws.proofs.Naturals.{before_or_at}
 pub use Rattle.nf_rational_laws.proofs.Order.{less_ps, lt_or_le_ℚ, nn_plus, nn_times, not_both_ℚ, ps_times, ps_whole, ≤ℚ_antisymm, ≤ℚ_of_lt, ≤ℚ_of_same}
 pub use Rattle.nf_rational_laws.proofs.Polynomial.{reading_of}
+pub use Rattle.nf_rational_laws.proofs.Quotient.{ps_apart}
 pub use Rattle.nf_rational_laws.proofs.Results.{Ok_not_Err, not_both, one_Err, or_rest, same_Ok}
 pub use Rattle.nf_thin_laws.proofs.ActiveLinks.{AreSets-sets_at, HoldNoCycle-sets_at, NoneEntersSource-acyclic, Way, no_way_round, none_first, way_more}
 pub use Rattle.nf_thin_laws.proofs.ExitSlopes.{exit_full, exit_resetting, exit_tight, exit_zero}
