@@ -37,7 +37,7 @@ fn with_piece(so_far: Q, piece: &Piece, end: Q) -> Result<Q, PassedAt<Q>>
 }
 
 // Appends the point, unless its time is 0.
-#[tactic(auto, using(crate::proofs::Supplying::after_0, crate::proofs::Supplying::at_0))]
+#[tactic(auto, using(crate::proofs::Supplying::after_0, nf_load_laws::proofs::Cumulative::at_0))]
 fn push_after_0(points: &mut Vec<Point>, time: Q, amount: Q) -> Result<(), AllocError>
     ensures { OnOk result (points.new.items ≡ points.old.items ++ point_if_after_0 time amount) }
 {
