@@ -9,7 +9,7 @@ use Rattle.nf_rational_laws.proofs.Linear.{lt, eq, eq_times, linear_lt, linear_e
 use Rattle.nf_rational_laws.proofs.Quotient.{/ℚ-times, /ℚ-unique, ps_apart}
 use Rattle.nf_model.specs.Entries.{number_at}
 use Rattle.nf_linear_def.specs.Table.{row_at}
-use Rattle.nf_linear_laws.specs.Solution.{left_side, Solves, IsOnlySolution}
+use Rattle.nf_linear_laws.specs.Solution.{left_side, SolvesRows, IsOnlySolution}
 
 -- the two flows add to the rate, and the first times the second capacity is the second times the first
 abbrev pub share_rows : ℚ → ℚ → ℚ → List (List ℚ)
@@ -19,7 +19,7 @@ pub record AreShares (rate first second x y : ℚ) : Type 0 where
   pub whole : x +ℚ y ≡ rate
   pub cross : second *ℚ x ≡ first *ℚ y
 
-shares_of : (rate first second x y : ℚ) → Solves (share_rows rate first second) (x ∷ y ∷ []) → AreShares rate first second x y
+shares_of : (rate first second x y : ℚ) → SolvesRows (share_rows rate first second) (x ∷ y ∷ []) → AreShares rate first second x y
 shares_of rate first second x y s =
     let sum : 1ℚ *ℚ x +ℚ (1ℚ *ℚ y +ℚ 0ℚ) ≡ rate = s.each 0 (omega arith) in
     let same : second *ℚ x +ℚ (neg_ℚ first *ℚ y +ℚ 0ℚ) ≡ 0ℚ = s.each 1 (omega arith) in
@@ -47,7 +47,7 @@ only_flows rate first second xs rows e o =
 pub two_flows : (rate first second : ℚ) (xs : List ℚ) → IsOnlySolution (share_rows rate first second) xs → length xs ≡ 2
 two_flows rate first second xs o = o.solves.count
 
-shares : (rate first second : ℚ) (xs : List ℚ) (x y : ℚ) → Solves (share_rows rate first second) xs → slice_get xs 0 ≡ Some x → slice_get xs 1 ≡ Some y → AreShares rate first second x y
+shares : (rate first second : ℚ) (xs : List ℚ) (x y : ℚ) → SolvesRows (share_rows rate first second) xs → slice_get xs 0 ≡ Some x → slice_get xs 1 ≡ Some y → AreShares rate first second x y
 shares rate first second [] x y s e f = absurd (cc)
 shares rate first second (a ∷ []) x y s e f = absurd (cc)
 shares rate first second (a ∷ b ∷ []) x y s e f =
@@ -75,7 +75,7 @@ module _ (rate first second : ℚ) (above : 0ℚ <ℚ first) (positive : 0ℚ <�
   same : (q : ℚ) → second *ℚ (first *ℚ q) +ℚ (neg_ℚ first *ℚ (second *ℚ q) +ℚ 0ℚ) ≡ 0ℚ
   same q = linear_eq (first ∷ second ∷ q ∷ []) [] (search reading_of depth 24) tt tt
 
-  solved : Solves (share_rows rate first second) (first *ℚ part ∷ second *ℚ part ∷ [])
+  solved : SolvesRows (share_rows rate first second) (first *ℚ part ∷ second *ℚ part ∷ [])
   solved = record { count = refl; each = each }
     where
       each : (i : ℕ) → i < 2 → left_side (row_at (share_rows rate first second) i) (first *ℚ part ∷ second *ℚ part ∷ []) ≡ number_at (row_at (share_rows rate first second) i) 2
@@ -98,7 +98,7 @@ module _ (rate first second : ℚ) (above : 0ℚ <ℚ first) (positive : 0ℚ <�
       ∙ sym (/ℚ-unique (second *ℚ rate) (first +ℚ second) (second *ℚ part) both_apart
       (linear_eq (first ∷ second ∷ part ∷ rate ∷ []) (eq_times second part_is ∷ []) (search reading_of depth 24) tt tt))
 
-  only : (ys : List ℚ) → Solves (share_rows rate first second) ys → ys ≡ first *ℚ part ∷ second *ℚ part ∷ []
+  only : (ys : List ℚ) → SolvesRows (share_rows rate first second) ys → ys ≡ first *ℚ part ∷ second *ℚ part ∷ []
   only [] s = too_few 0 (omega arith) s.count
   only (x ∷ []) s = too_few 1 (omega arith) s.count
   only (x ∷ y ∷ []) s =

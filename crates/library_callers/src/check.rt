@@ -2,7 +2,7 @@
 ghost use Rattle.std.specs.Prelude.{◌≡◌, ◌≢◌, IfOk, MatchBool};
 ghost use Rattle.nf_model.specs.Equilibrium.{Equilibrium};
 ghost use Rattle.nf_check_def.specs.declared.Answer.TheVariants.{Yes};
-ghost use Rattle.nf_curve.specs.Flows.{flow_of};
+ghost use Rattle.nf_curve.specs.Flows.{seen_flow};
 ghost use Rattle.nf_check.specs.Given.{IsGivenFlow};
 
 use nf_check::{Answer, check};
@@ -22,8 +22,8 @@ fn is_yes(answer: Answer) -> bool
 /// its bound, or if an allocation fails.
 pub fn is_equilibrium(alloc: Global, net: &Network, flow: &Flow) -> Result<bool, Halt<Q>>
     requires { IsGivenFlow net.now.net flow.now }
-    ensures { IfOk result (λ yes. MatchBool yes (Equilibrium net.now.net (flow_of flow.now))
-        (Equilibrium net.now.net (flow_of flow.now) → ⊥)) }
+    ensures { IfOk result (λ yes. MatchBool yes (Equilibrium net.now.net (seen_flow flow.now))
+        (Equilibrium net.now.net (seen_flow flow.now) → ⊥)) }
 {
     match check(alloc, net, flow) {
         Ok(answer) => Ok(is_yes(answer)),

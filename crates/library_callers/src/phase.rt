@@ -3,7 +3,7 @@ ghost use Rattle.std.specs.Prelude.{◌≡◌, None, length, IfOk, IfSome};
 ghost use Rattle.nf_rational.specs.Operations.{0ℚ};
 ghost use Rattle.nf_rational.specs.Order.{◌≤ℚ◌};
 ghost use Rattle.nf_model.specs.Equilibrium.{label};
-ghost use Rattle.nf_curve.specs.Flows.{flow_of};
+ghost use Rattle.nf_curve.specs.Flows.{seen_flow};
 ghost use Rattle.nf_phase.specs.Solution.{bounds_of};
 ghost use Rattle.library_callers.specs.Arrivals.{ArrivesAt, StopsBefore};
 
@@ -17,7 +17,7 @@ use std::alloc::Global;
 fn sink_label(net: &Network, flow: &Flow, departure: Q) -> Result<Q, PassedAt<Q>>
     requires labels { length flow.now.labels.items ≡ net.now.net.nodes }
     requires departure { 0ℚ ≤ℚ departure }
-    ensures { IfOk result (λ time. time ≡ label (flow_of flow.now) net.now.net.sink departure) }
+    ensures { IfOk result (λ time. time ≡ label (seen_flow flow.now) net.now.net.sink departure) }
 {
     let place = net.sink().index();
     let curve = &flow.labels[place];

@@ -6,7 +6,7 @@ ghost use Rattle.nf_model.specs.Curve.{Within};
 ghost use Rattle.nf_model.specs.Equilibrium.{Equilibrium, label};
 ghost use Rattle.nf_net_def.specs.Report.{IsWellFormed};
 ghost use Rattle.nf_report_read.specs.Files.{seen_report};
-ghost use Rattle.nf_phase.specs.Solution.{report_in};
+ghost use Rattle.nf_phase.specs.Solution.{solution_report};
 
 use nf_frac::Q;
 use nf_net::Network;
@@ -17,7 +17,7 @@ use std::alloc::Global;
 
 // Returns the report of a solution.
 fn report_to(horizon: Q, solution: Solution) -> Report
-    ensures { seen_report result ≡ report_in horizon solution }
+    ensures { seen_report result ≡ solution_report horizon solution }
 {
     let Solution {
         flow,

@@ -12,7 +12,7 @@ use Rattle.nf_app_answers.specs.declared.outcome.Outcome.{Outcome}
 use Rattle.nf_app_answers.specs.declared.refusal.Refusal.{Refusal}
 use Rattle.nf_app_answers.specs.declared.status.Status.{Status}
 use Rattle.nf_app_answers.specs.Answers.{ProgramAnswer, NoMemory, status_of, out_text, err_text}
-use Rattle.nf_app_answers.specs.Refusals.{answer_of}
+use Rattle.nf_app_answers.specs.Refusals.{refused_answer}
 use Rattle.nf_app_files.specs.Files.{Wanted, Visit, FitsLimit, FetchedNone, FetchedAll, FetchedTo}
 use Rattle.nf_app_files.specs.Fetching.{IsLastText, NetworkReads, AreRead}
 use Rattle.nf_app_files.specs.Sinks.{Took, TookAll, TookText}
@@ -44,7 +44,7 @@ module _ (words : List (List ℕ)) (shelf : Visit) (request : Request) (asks : r
   }
 
   -- there is no network
-  pub refused : (refusal : Refusal) → AreRead shelf file others (Err refusal) → MayAnswer call (answer_of refusal)
+  pub refused : (refusal : Refusal) → AreRead shelf file others (Err refusal) → MayAnswer call (refused_answer refusal)
   refused Refusal.NoMemory (inl none) = inl (inl none)
   refused Refusal.NoMemory (inr h) = inl (inr (h.0, reached h.0 h.1))
   refused Refusal.NoRequest h = absurd h
@@ -111,7 +111,7 @@ module _ (words : List (List ℕ)) (shelf : Visit) (request : Request) (asks : r
     subst (λ (m : Named). HasNetwork (record { words = words; shelf = shelf }) request (Ok m)) (sym same) generated_read,
     subst (λ (l : List Wanted). IfSome (slice_get l 1) (λ other. IsLastText shelf other got.1.items)) (sym no_files) tt,
   )
-  gathered_none (Err refusal) same refused = subst (λ (r : Refusal). MayAnswer (record { words = words; shelf = shelf }) (answer_of r)) (sym refused) (inl (inl untouched))
+  gathered_none (Err refusal) same refused = subst (λ (r : Refusal). MayAnswer (record { words = words; shelf = shelf }) (refused_answer r)) (sym refused) (inl (inl untouched))
 
 -- ---- what a request gives with its network
 module _ (call : Call) (request : Request) (n : Named) (named : IsNamed n) (read : HasNetwork call request (Ok n)) (second : List ℕ)
@@ -131,14 +131,14 @@ module _ (call : Call) (request : Request) (n : Named) (named : IsNamed n) (read
 
   given_with : (r : Result Computed Refusal) → FindsResult n second request r → AnswersCall call (with_net n r)
   given_with (Ok found) g = (computed _ g.0, g.1)
-  given_with (Err refusal) (inl none) = subst (λ (r : Refusal). MayAnswer call (answer_of r)) (sym none) wants_memory
-  given_with (Err refusal) (inr g) = computed (answer_of refusal) g
+  given_with (Err refusal) (inl none) = subst (λ (r : Refusal). MayAnswer call (refused_answer r)) (sym none) wants_memory
+  given_with (Err refusal) (inr g) = computed (refused_answer refusal) g
 
   pub given : (r : Result Computed Refusal) → FindsResult n second request r → (out : Result Outcome Refusal) → out ≡ with_net n r → AnswersCall call out
   given r g out e = subst (λ (o : Result Outcome Refusal). AnswersCall call o) (sym e) (given_with r g)
 
 -- ---- a refusal has no text, so a sink that took nothing took it whole
-pub no_text : (refusal : Refusal) → out_text (answer_of refusal) ≡ []
+pub no_text : (refusal : Refusal) → out_text (refused_answer refusal) ≡ []
 no_text Refusal.NoMemory = refl
 no_text Refusal.NoRequest = refl
 no_text Refusal.ShelfFailed = refl
@@ -153,7 +153,7 @@ no_text Refusal.Unbounded = refl
 no_text Refusal.NotThin = refl
 no_text Refusal.Earlier = refl
 
-pub took_no_text : (took : Option (List ℕ)) (refusal : Refusal) → took ≡ with_more took (out_text (answer_of refusal))
+pub took_no_text : (took : Option (List ℕ)) (refusal : Refusal) → took ≡ with_more took (out_text (refused_answer refusal))
 took_no_text took refusal = nothing_more took ∙ ap (λ (text : List ℕ). with_more took text) (sym (no_text refusal))
 
 pub refused_shown : (answer : ProgramAnswer) (out err : Took) (status : Status) → TookAll out (out_text answer) → out.faults_now ≡ out.faults_before

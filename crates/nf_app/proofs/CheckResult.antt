@@ -19,13 +19,13 @@ use Rattle.nf_report_read.specs.Files.{IfBroken}
 use Rattle.nf_app_answers.specs.declared.refusal.Refusal.{Refusal}
 use Rattle.nf_app_words.specs.Requests.{Check}
 use Rattle.nf_app_answers.specs.Answers.{Checked}
-use Rattle.nf_app_answers.specs.Refusals.{answer_of, refusal_of_report, refusal_of_halt}
+use Rattle.nf_app_answers.specs.Refusals.{refused_answer, refusal_of_report, refusal_of_halt}
 use Rattle.nf_app.specs.Results.{IsResultOf}
 use Rattle.nf_app.proofs.Reports.{a_report, no_report}
 
 module _ (n : Named) (named : IsNamed n) (file name text : List ℕ) where
   abbrev Answers : Refusal → Type 0
-  Answers refusal = (refusal ≡ Refusal.NoMemory) ⊎ IsResultOf n text (Check file name) (answer_of refusal)
+  Answers refusal = (refusal ≡ Refusal.NoMemory) ⊎ IsResultOf n text (Check file name) (refused_answer refusal)
 
   pub report_refused : (fault : FileFault ReportRule) → IfBroken fault (λ broken. report_in n text ≡ Err broken) → Answers (refusal_of_report fault)
   report_refused (FileFault.Broken rule line) e =

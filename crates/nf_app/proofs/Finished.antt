@@ -8,12 +8,12 @@ use Rattle.nf_thin_def.specs.PhaseRun.{Standing, Bounds}
 use Rattle.nf_phase_run_laws.specs.Stops.{NeverNoPattern}
 use Rattle.nf_phase_run_laws.proofs.Stops.{never_on}
 use Rattle.nf_phase.specs.declared.solution.Solution.{Solution}
-use Rattle.nf_phase.specs.Solution.{IsFinished, report_in}
+use Rattle.nf_phase.specs.Solution.{IsFinished, solution_report}
 use Rattle.nf_phase.specs.Stepping.{Reaches}
 use Rattle.nf_phase.proofs.Reached.{Stands-reached}
 
 pub never_finished : (net : Network) (bounds : Bounds) → IsNetwork net → (first : Standing) → Reaches passes_Q net first → {E : Type 0} (result : Result Solution E)
-    → IfOk result (λ s. IsFinished net bounds first s.phases (report_in bounds.horizon s)) → IfOk result (λ s. NeverNoPattern s.stopped)
+    → IfOk result (λ s. IsFinished net bounds first s.phases (solution_report bounds.horizon s)) → IfOk result (λ s. NeverNoPattern s.stopped)
 never_finished net bounds good first reaches (Ok s) is = subst NeverNoPattern (sym (ap (λ (r : Report). r.stop) is.report_is))
     (never_on passes_Q net bounds first is.last is.stop good (Stands-reached passes_Q net good first reaches).well is.runs)
 never_finished net bounds good first reaches (Err x) is = tt

@@ -65,7 +65,7 @@ abbrev pub DepartsGive : Named → QuickFlow → Result (Option ℚ) (PassedAt �
 DepartsGive n flow (Ok departs) answer = (arrival : Arrival) × Arrives n.net departs arrival × (answer ≡ Quickest n flow arrival)
 DepartsGive n flow (Err at) answer = answer ≡ Passes at
 
-abbrev pub FlowGives : Named → ℚ → ℕ → Result quick.QuickAnswer (PassedAt ℚ) → ProgramAnswer → Type 0
+abbrev pub FlowGives : Named → ℚ → ℕ → Result quick.QuickOutcome (PassedAt ℚ) → ProgramAnswer → Type 0
 FlowGives n amount augments (Ok (FoundQuick flow)) answer = DepartsGive n flow (departs_list n.net amount) answer
 FlowGives n amount augments (Ok (Budget walks)) answer = answer ≡ TooManyWalks n augments walks
 FlowGives n amount augments (Err at) answer = answer ≡ Passes at

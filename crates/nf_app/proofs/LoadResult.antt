@@ -21,13 +21,13 @@ use Rattle.nf_report_def.specs.declared.LoadRule.{LoadRule}
 use Rattle.nf_app_answers.specs.declared.refusal.Refusal.{Refusal}
 use Rattle.nf_app_words.specs.Requests.{Load}
 use Rattle.nf_app_answers.specs.Answers.{Loaded}
-use Rattle.nf_app_answers.specs.Refusals.{answer_of, refusal_of_loads, refusal_of_halt}
+use Rattle.nf_app_answers.specs.Refusals.{refused_answer, refusal_of_loads, refusal_of_halt}
 use Rattle.nf_app.specs.Lists.{loading_list}
 use Rattle.nf_app.specs.Results.{IsResultOf}
 
 module _ (n : Named) (file name : List ℕ) (horizon : ℚ) (text : List ℕ) where
   abbrev Answers : Refusal → Type 0
-  Answers refusal = (refusal ≡ Refusal.NoMemory) ⊎ IsResultOf n text (Load file name horizon) (answer_of refusal)
+  Answers refusal = (refusal ≡ Refusal.NoMemory) ⊎ IsResultOf n text (Load file name horizon) (refused_answer refusal)
 
   pub loads_refused : (fault : FileFault LoadRule) → IfBroken fault (λ broken. loads_in n text ≡ Err broken) → Answers (refusal_of_loads fault)
   loads_refused (FileFault.Broken rule line) e = inr (inr (inl (record { rule = rule; line = line }, refl, e)))

@@ -13,7 +13,7 @@ use Rattle.nf_app_files.specs.Files.{Wanted, Visit, FitsLimit, FetchedAll, Fetch
 use Rattle.nf_app_files.specs.Sinks.{Took}
 use Rattle.nf_app_files.specs.Shown.{IsShown, IsShownWhole}
 use Rattle.nf_app_words.specs.Requests.{Request, request_of}
-use Rattle.nf_app.specs.Requests.{files_of, first_of, other_of, generated_by}
+use Rattle.nf_app.specs.Requests.{files_of, network_file, other_of, generated_by}
 use Rattle.nf_app.specs.Runs.{Call, Run, IsRefusedCall, IsComputed, MayAnswer, Ran}
 use Rattle.nf_app.specs.Told.{Texts, second_bytes, IsToldText, AreTold, TextFits, TellsAll, BothFit, TextsGive, too_long, malformed, answered, IsToldAnswer, no_request, by_texts}
 use Rattle.nf_app.specs.Only.{Shows, the_answer, no_memory, shelf_failed, ShowsOnlyThat}
@@ -58,11 +58,11 @@ module _ (shelf : Visit) where
 -- ---- a request whose files are all known
 module _ (call : Call) (request : Request) (asks : request_of call.words ≡ Some request) (known : All (Known call.shelf) (files_of request)) where
   abbrev texts : Texts
-  texts = record { network = text_at call.shelf (first_of request); second = text_at call.shelf (other_of request) }
+  texts = record { network = text_at call.shelf (network_file request); second = text_at call.shelf (other_of request) }
 
   are_told : AreTold call.shelf.told request texts
   are_told = record {
-    network = told_at call.shelf (first_of request) (first_of_all call.shelf (Known call.shelf) (files_of request) known);
+    network = told_at call.shelf (network_file request) (first_of_all call.shelf (Known call.shelf) (files_of request) known);
     second = told_at call.shelf (other_of request) (second_of_all call.shelf (Known call.shelf) (files_of request) known);
   }
 
@@ -71,7 +71,7 @@ module _ (call : Call) (request : Request) (asks : request_of call.words ≡ Som
 
   fit : FetchedAll call.shelf (files_of request) → BothFit request texts
   fit fetched = record {
-    network = fits_at call.shelf (first_of request) (first_of_all call.shelf (FitsLimit call.shelf) (files_of request) fetched.fit);
+    network = fits_at call.shelf (network_file request) (first_of_all call.shelf (FitsLimit call.shelf) (files_of request) fetched.fit);
     second = fits_at call.shelf (other_of request) (second_of_all call.shelf (FitsLimit call.shelf) (files_of request) fetched.fit);
   }
 

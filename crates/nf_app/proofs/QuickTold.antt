@@ -19,7 +19,7 @@ use Rattle.nf_model_laws.proofs.Curves.{EndsAt-value}
 use Rattle.nf_net_def.specs.declared.Cause.{Cause}
 use Rattle.nf_net_def.specs.Named.{Named}
 use Rattle.nf_net_def.specs.Report.{Report}
-use Rattle.nf_thin_def.specs.Ends.{end_of}
+use Rattle.nf_thin_def.specs.Ends.{time_of_last}
 use Rattle.nf_thin_def.specs.ReportCurves.{GrowingCurve}
 use Rattle.nf_thin_def.specs.PhaseRun.{Bounds, Standing, report_of}
 use Rattle.nf_thin_laws.proofs.Ending.{run_ends}
@@ -32,7 +32,7 @@ use Rattle.nf_quick_def.specs.Departures.{IsDeparture}
 use Rattle.nf_quick_def.specs.Quick as lists
 use Rattle.nf_quick.specs.Answered.{HasNoWay, IsAnswered}
 use Rattle.nf_quick.specs.declared.fault.QuickFault.{QuickFault}
-use Rattle.nf_curve.specs.Flows.{flow_of as shown_flow}
+use Rattle.nf_curve.specs.Flows.{seen_flow as shown_flow}
 use Rattle.nf_curve.specs.declared.flow.Flow.{Flow as CodeFlow}
 use Rattle.nf_app_words.specs.Requests.{Quick}
 use Rattle.nf_unique_laws.proofs.Feasible.{quickest-le}
@@ -55,7 +55,7 @@ last_split {A} (x ∷ y ∷ rest) p e =
     (x ∷ h.0, ap (λ (l : List A). x ∷ l) h.1)
 
 -- it ends at its last point, and so has that value from then on
-pub value_at_end : (points : List Point) (p : Point) (time : ℚ) → IsCurve points → slice_get points (length points - 1) ≡ Some p → end_of points ≡ time → value points time ≡ p.1
+pub value_at_end : (points : List Point) (p : Point) (time : ℚ) → IsCurve points → slice_get points (length points - 1) ≡ Some p → time_of_last points ≡ time → value points time ≡ p.1
 value_at_end points p time curve is ends =
     let h = last_split points p is in
     let last : last_or None points ≡ Some p = ap (λ (l : List Point). last_or None l) h.1 ∙ last-append None h.0 p in
@@ -63,8 +63,8 @@ value_at_end points p time curve is ends =
     EndsAt-value points p time (record { front = h.0; same = h.1; curve = curve }) (subst (λ (t : ℚ). p.0 ≤ℚ t) at (≤ℚ_refl p.0))
 
 -- a curve of a run by its number
-ends_there : (curves : List GrowingCurve) (v : ℕ) (time : ℚ) → v < length curves → ((curve : GrowingCurve) → slice_get curves v ≡ Some curve → end_of curve.points ≡ time)
-    → end_of (points_at (map (λ curve. curve.points) curves) v) ≡ time
+ends_there : (curves : List GrowingCurve) (v : ℕ) (time : ℚ) → v < length curves → ((curve : GrowingCurve) → slice_get curves v ≡ Some curve → time_of_last curve.points ≡ time)
+    → time_of_last (points_at (map (λ curve. curve.points) curves) v) ≡ time
 ends_there [] v time h k = absurd (omega arith)
 ends_there (c ∷ curves) zero time h k = k c refl
 ends_there (c ∷ curves) (suc v) time h k = ends_there curves v time (omega arith) k
@@ -96,8 +96,8 @@ module _ (net : Network) (good : IsNetwork net) (bounds : Bounds) (report : Repo
       let same : length report.flow.labels ≡ length last.label_curves = ap length labels_are ∙ length-map last.label_curves (λ curve. curve.points) in
       omega arith
 
-  ends : end_of (points_at report.flow.labels net.sink) ≡ report.flow.reached
-  ends = ap (λ (l : List (List Point)). end_of (points_at l net.sink)) labels_are
+  ends : time_of_last (points_at report.flow.labels net.sink) ≡ report.flow.reached
+  ends = ap (λ (l : List (List Point)). time_of_last (points_at l net.sink)) labels_are
       ∙ ends_there last.label_curves net.sink last.time many ((run_ends passes_Q net good bounds last solution.run.stop solution.run.run).labels net.sink)
       ∙ sym (ap (λ (r : Report). r.flow.reached) report_is)
 

@@ -24,14 +24,14 @@ use Rattle.nf_app_answers.specs.declared.refusal.Refusal.{Refusal}
 use Rattle.nf_app_words.specs.Requests.{Resume}
 use Rattle.nf_app.specs.Requests.{bounds_to}
 use Rattle.nf_app_answers.specs.Answers.{Solved, Checked, Passes, Earlier}
-use Rattle.nf_app_answers.specs.Refusals.{answer_of, refusal_of_report}
+use Rattle.nf_app_answers.specs.Refusals.{refused_answer, refusal_of_report}
 use Rattle.nf_app.specs.Reports.{IsReportText}
 use Rattle.nf_app.specs.Results.{IsResultOf}
 use Rattle.nf_app.proofs.Reports.{no_report}
 
 module _ (n : Named) (file name text : List ℕ) (horizon : ℚ) (phases patterns : ℕ) where
   abbrev Answers : Refusal → Type 0
-  Answers refusal = (refusal ≡ Refusal.NoMemory) ⊎ IsResultOf n text (Resume file name horizon phases patterns) (answer_of refusal)
+  Answers refusal = (refusal ≡ Refusal.NoMemory) ⊎ IsResultOf n text (Resume file name horizon phases patterns) (refused_answer refusal)
 
   pub old_refused : (named : IsNamed n) (fault : FileFault ReportRule) → IfBroken fault (λ broken. report_in n text ≡ Err broken) → Answers (refusal_of_report fault)
   old_refused named (FileFault.Broken rule line) e =

@@ -19,13 +19,13 @@ use Rattle.nf_routes_def.specs.declared.RoutesRule.{RoutesRule}
 use Rattle.nf_app_answers.specs.declared.refusal.Refusal.{Refusal}
 use Rattle.nf_app_words.specs.Requests.{Routes}
 use Rattle.nf_app_answers.specs.Answers.{Distributed}
-use Rattle.nf_app_answers.specs.Refusals.{answer_of, refusal_of_routes, refusal_of_halt}
+use Rattle.nf_app_answers.specs.Refusals.{refused_answer, refusal_of_routes, refusal_of_halt}
 use Rattle.nf_app.specs.Lists.{by_route_list}
 use Rattle.nf_app.specs.Results.{IsResultOf}
 
 module _ (n : Named) (file name : List ℕ) (horizon : ℚ) (text : List ℕ) where
   abbrev Answers : Refusal → Type 0
-  Answers refusal = (refusal ≡ Refusal.NoMemory) ⊎ IsResultOf n text (Routes file name horizon) (answer_of refusal)
+  Answers refusal = (refusal ≡ Refusal.NoMemory) ⊎ IsResultOf n text (Routes file name horizon) (refused_answer refusal)
 
   pub routes_refused : (fault : FileFault RoutesRule) → IfBroken fault (λ broken. ReadsRoutes n text (Err broken)) → Answers (refusal_of_routes fault)
   routes_refused (FileFault.Broken rule line) e = inr (inr (inl (record { rule = rule; line = line }, refl, e)))

@@ -13,13 +13,13 @@ use Rattle.nf_complete_def.specs.declared.FlowsRule.{FlowsRule}
 use Rattle.nf_app_answers.specs.declared.refusal.Refusal.{Refusal}
 use Rattle.nf_app_words.specs.Requests.{Settle}
 use Rattle.nf_app_answers.specs.Answers.{Settled, NotThin}
-use Rattle.nf_app_answers.specs.Refusals.{answer_of, refusal_of_flows, refusal_of_halt}
+use Rattle.nf_app_answers.specs.Refusals.{refused_answer, refusal_of_flows, refusal_of_halt}
 use Rattle.nf_app.specs.SettlingSteps.{SettlesAtStart}
 use Rattle.nf_app.specs.Results.{IsResultOf}
 
 module _ (n : Named) (file name : List ℕ) (text : List ℕ) where
   abbrev Answers : Refusal → Type 0
-  Answers refusal = (refusal ≡ Refusal.NoMemory) ⊎ IsResultOf n text (Settle file name) (answer_of refusal)
+  Answers refusal = (refusal ≡ Refusal.NoMemory) ⊎ IsResultOf n text (Settle file name) (refused_answer refusal)
 
   pub flows_refused : (fault : FileFault FlowsRule) → IfBroken fault (λ broken. flows_in n text ≡ Err broken) → Answers (refusal_of_flows fault)
   flows_refused (FileFault.Broken rule line) e = inr (inr (inl (record { rule = rule; line = line }, refl, e)))

@@ -47,7 +47,7 @@ use Rattle.nf_app_files.specs.Files.{Wanted}
 use Rattle.nf_app_words.specs.Requests.{Request, Solve, SolveForever, Show, Load, Check, Quick, Gen, Settle, Resume, Routes, request_of}
 use Rattle.nf_app_answers.specs.declared.arrival.Arrival.{Arrival}
 use Rattle.nf_app_answers.specs.Answers.{ProgramAnswer, Solved, SolvedForever, Quickest, Generated, Settled, Passes, Malformed}
-use Rattle.nf_app.specs.Requests.{first_of, other_of, generated_by, bounds_to, usual_budgets}
+use Rattle.nf_app.specs.Requests.{network_file, other_of, generated_by, bounds_to, usual_budgets}
 use Rattle.nf_app.specs.Lists.{flow_list, departs_list}
 use Rattle.nf_app.specs.Arrivals.{arrival_of}
 use Rattle.nf_app.specs.Refused.{IsUnbounded}
@@ -69,7 +69,7 @@ one_departing : (n : Named) (flow : QuickFlow) (r : Result (Option ℚ) (PassedA
 one_departing n flow (Ok departs) a b g h = g.2 ∙ ap (Quickest n flow) (one_arrival n.net departs g.0 h.0 g.1 h.1) ∙ sym h.2
 one_departing n flow (Err at) a b g h = g ∙ sym h
 
-one_flow : (n : Named) (amount : ℚ) (augments : ℕ) (r : Result quick.QuickAnswer (PassedAt ℚ)) (a b : ProgramAnswer) → FlowGives n amount augments r a
+one_flow : (n : Named) (amount : ℚ) (augments : ℕ) (r : Result quick.QuickOutcome (PassedAt ℚ)) (a b : ProgramAnswer) → FlowGives n amount augments r a
     → FlowGives n amount augments r b → a ≡ b
 one_flow n amount augments (Ok (FoundQuick flow)) a b g h = one_departing n flow (departs_list n.net amount) a b g h
 one_flow n amount augments (Ok (Budget walks)) a b g h = g ∙ sym h
@@ -254,7 +254,7 @@ same_texts a b h k = ap (λ (t : Option (List ℕ)). record { network = t; secon
 
 one_told_texts : (telling : Telling) (request : Request) (a b : Texts) → AreTold telling request a → AreTold telling request b → a ≡ b
 one_told_texts telling request a b h k =
-    same_texts a b (one_text telling (first_of request) a.network b.network h.network k.network) (one_text telling (other_of request) a.second b.second h.second k.second)
+    same_texts a b (one_text telling (network_file request) a.network b.network h.network k.network) (one_text telling (other_of request) a.second b.second h.second k.second)
 
 pub one_told : (words : List (List ℕ)) (telling : Telling) (a b : ProgramAnswer) → IsToldAnswer words telling a → IsToldAnswer words telling b → a ≡ b
 one_told words telling _ _ (no_request e) (no_request f) = refl

@@ -31,16 +31,16 @@ module _ (n : Named) (text : List ℕ) (answer : ProgramAnswer) where
   quick_so : (file : List ℕ) (amount : ℚ) (augments : ℕ) → IsResultOf n text (Quick file amount augments) answer → Gives n text (Quick file amount augments) answer
   quick_so file amount augments (inl g) = inr (
     g.bounded,
-    subst (λ (r : Result quick.QuickAnswer (PassedAt ℚ)). FlowGives n amount augments r answer) (sym g.computed)
+    subst (λ (r : Result quick.QuickOutcome (PassedAt ℚ)). FlowGives n amount augments r answer) (sym g.computed)
         (subst (λ (r : Result (Option ℚ) (PassedAt ℚ)). DepartsGive n g.quick r answer) (sym g.departs_computed) (g.arrival, arrives_so n.net g.departs g.arrival g.arrives, g.is)),
   )
-  quick_so file amount augments (inr (inl g)) = inr (g.2.no_way, subst (λ (r : Result quick.QuickAnswer (PassedAt ℚ)). FlowGives n amount augments r answer) (sym g.2.computed) g.1)
+  quick_so file amount augments (inr (inl g)) = inr (g.2.no_way, subst (λ (r : Result quick.QuickOutcome (PassedAt ℚ)). FlowGives n amount augments r answer) (sym g.2.computed) g.1)
   quick_so file amount augments (inr (inr (inl g))) = inr (g.2.no_way, by g.2.passes)
     where
       by : ((flow_list n.net amount augments ≡ Err g.0) ⊎ ((flow : QuickFlow) × (flow_list n.net amount augments ≡ Ok (quick.FoundQuick flow)) × (departs_list n.net amount ≡ Err g.0)))
           → FlowGives n amount augments (flow_list n.net amount augments) answer
-      by (inl e) = subst (λ (r : Result quick.QuickAnswer (PassedAt ℚ)). FlowGives n amount augments r answer) (sym e) g.1
-      by (inr h) = subst (λ (r : Result quick.QuickAnswer (PassedAt ℚ)). FlowGives n amount augments r answer) (sym h.1)
+      by (inl e) = subst (λ (r : Result quick.QuickOutcome (PassedAt ℚ)). FlowGives n amount augments r answer) (sym e) g.1
+      by (inr h) = subst (λ (r : Result quick.QuickOutcome (PassedAt ℚ)). FlowGives n amount augments r answer) (sym h.1)
           (subst (λ (r : Result (Option ℚ) (PassedAt ℚ)). DepartsGive n h.0 r answer) (sym h.2) g.1)
   quick_so file amount augments (inr (inr (inr g))) = inl (g.1, g.0)
 

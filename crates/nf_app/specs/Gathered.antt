@@ -2,7 +2,7 @@
 use Rattle.std.specs.Prelude.{ℕ, ◌≤◌, List, length, IfSome, Result, Ok, Err}
 use Rattle.nf_net_def.specs.Named.{Named}
 use Rattle.nf_app_answers.specs.declared.refusal.Refusal.{Refusal}
-use Rattle.nf_app_answers.specs.Refusals.{answer_of}
+use Rattle.nf_app_answers.specs.Refusals.{refused_answer}
 use Rattle.nf_app_words.specs.Requests.{Request}
 use Rattle.nf_app.specs.Requests.{other_of, OtherIsText}
 use Rattle.nf_app.specs.Runs.{Call, HasNetwork, MayAnswer}
@@ -14,4 +14,4 @@ OtherFits request text = IfSome (other_of request) (λ file. length text ≤ fil
 -- the network and the bytes of the second file, once all files are fetched; or a refusal with which the call may answer
 abbrev pub IsGathered : Call → Request → Result (Named × List ℕ) Refusal → Type 0
 IsGathered call request (Ok got) = HasNetwork call request (Ok got.0) × OtherIsText call.shelf request got.1
-IsGathered call request (Err refusal) = MayAnswer call (answer_of refusal)
+IsGathered call request (Err refusal) = MayAnswer call (refused_answer refusal)

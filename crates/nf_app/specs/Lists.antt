@@ -21,7 +21,7 @@ abbrev pub loading_list : Named → List (List Piece) → ℚ → Result (List L
 loading_list n pieces horizon = at_part LoadPart (load_list passes_Q n.net.links pieces horizon)
 
 -- `quick`: a quickest flow
-abbrev pub flow_list : Network → ℚ → ℕ → Result lists.QuickAnswer (PassedAt ℚ)
+abbrev pub flow_list : Network → ℚ → ℕ → Result lists.QuickOutcome (PassedAt ℚ)
 flow_list net amount augments = at_part QuickPart (quickest_list passes_Q net amount augments)
 
 -- `quick`: the departure by which the amount is supplied

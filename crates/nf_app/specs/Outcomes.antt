@@ -4,7 +4,7 @@ use Rattle.nf_net_def.specs.Named.{Named}
 use Rattle.nf_app_answers.specs.declared.outcome.Computed.{Computed}
 use Rattle.nf_app_answers.specs.declared.outcome.Outcome.{Outcome}
 use Rattle.nf_app_answers.specs.declared.refusal.Refusal.{Refusal}
-use Rattle.nf_app_answers.specs.Refusals.{answer_of}
+use Rattle.nf_app_answers.specs.Refusals.{refused_answer}
 use Rattle.nf_app_answers.specs.Outcomes.{answer_with, HasTextWith, answer_in, HasText}
 use Rattle.nf_app_words.specs.Requests.{Request}
 use Rattle.nf_app.specs.Results.{IsResultOf}
@@ -14,7 +14,7 @@ use Rattle.nf_app.specs.Runs.{Call, MayAnswer}
 -- result, or an allocation failed.
 abbrev pub FindsResult : Named → List ℕ → Request → Result Computed Refusal → Type 0
 FindsResult n text request (Ok found) = IsResultOf n text request (answer_with n found) × HasTextWith n found
-FindsResult n text request (Err refusal) = (refusal ≡ Refusal.NoMemory) ⊎ IsResultOf n text request (answer_of refusal)
+FindsResult n text request (Err refusal) = (refusal ≡ Refusal.NoMemory) ⊎ IsResultOf n text request (refused_answer refusal)
 
 -- what was found, with its network
 abbrev pub with_net : Named → Result Computed Refusal → Result Outcome Refusal
@@ -24,4 +24,4 @@ with_net n (Err refusal) = Err refusal
 -- The outcome is an answer that the call may give, and has its text. Or the refusal is such an answer.
 abbrev pub AnswersCall : Call → Result Outcome Refusal → Type 0
 AnswersCall call (Ok outcome) = MayAnswer call (answer_in outcome) × HasText outcome
-AnswersCall call (Err refusal) = MayAnswer call (answer_of refusal)
+AnswersCall call (Err refusal) = MayAnswer call (refused_answer refusal)

@@ -25,8 +25,8 @@ files_of (Resume file report horizon phases patterns) = input_file file ∷ repo
 files_of (Routes file routes horizon) = input_file file ∷ input_file routes ∷ []
 
 -- the network's file, if one is wanted
-abbrev pub first_of : Request → Option Wanted
-first_of request = slice_get (files_of request) 0
+abbrev pub network_file : Request → Option Wanted
+network_file request = slice_get (files_of request) 0
 
 -- the file that is wanted beside the network's, if there is one
 abbrev pub other_of : Request → Option Wanted

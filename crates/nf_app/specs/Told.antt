@@ -7,7 +7,7 @@ use Rattle.nf_net_def.specs.NetFile.{Reads}
 use Rattle.nf_app_files.specs.Files.{Wanted}
 use Rattle.nf_app_words.specs.Requests.{Request, request_of}
 use Rattle.nf_app_answers.specs.Answers.{ProgramAnswer, NoRequest, ShelfTooLong, Malformed}
-use Rattle.nf_app.specs.Requests.{files_of, first_of, other_of, generated_by}
+use Rattle.nf_app.specs.Requests.{files_of, network_file, other_of, generated_by}
 use Rattle.nf_app.specs.Results.{IsResultOf}
 
 -- ---- the known bytes of files
@@ -36,7 +36,7 @@ IsToldText telling (Some file) text = IsSomeAnd text (λ bytes. telling file.nam
 
 -- the texts of the files that a request wants, and no other text
 pub record AreTold (telling : Telling) (request : Request) (texts : Texts) : Type 0 where
-  pub network : IsToldText telling (first_of request) texts.network
+  pub network : IsToldText telling (network_file request) texts.network
   pub second : IsToldText telling (other_of request) texts.second
 
 -- a text is at most as long as its file may be
@@ -44,7 +44,7 @@ abbrev pub TextFits : Option Wanted → Option (List ℕ) → Type 0
 TextFits wanted text = IfSome wanted (λ file. IfSome text (λ bytes. length bytes ≤ file.limit))
 
 pub record BothFit (request : Request) (texts : Texts) : Type 0 where
-  pub network : TextFits (first_of request) texts.network
+  pub network : TextFits (network_file request) texts.network
   pub second : TextFits (other_of request) texts.second
 
 -- the network is the generated one, or what the text reads as

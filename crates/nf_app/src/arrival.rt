@@ -3,7 +3,7 @@ ghost use Rattle.std.specs.Prelude.{◌≡◌, ◌<◌, ◌-◌, length, slice_g
 ghost use Rattle.nf_rational.specs.Operations.{0ℚ};
 ghost use Rattle.nf_rational.specs.Order.{◌≤ℚ◌};
 ghost use Rattle.nf_model.specs.Equilibrium.{points_at};
-ghost use Rattle.nf_curve.specs.Flows.{flow_of};
+ghost use Rattle.nf_curve.specs.Flows.{seen_flow};
 ghost use Rattle.nf_app.specs.Requests.{usual_budgets};
 ghost use Rattle.nf_app.specs.Arrivals.{IsArrivalOf, ArrivesIn};
 
@@ -25,8 +25,8 @@ fn last_point(curve: &Curve) -> (Q, Q)
 /// Returns the last point of the label curve of a node.
 pub(crate) fn last_label(flow: &Flow, node: NodeId) -> (Q, Q)
     requires { node < length flow.now.labels.items }
-    ensures { slice_get (points_at (flow_of flow.now).labels node)
-        (length (points_at (flow_of flow.now).labels node) - 1) ≡ Some result }
+    ensures { slice_get (points_at (seen_flow flow.now).labels node)
+        (length (points_at (seen_flow flow.now).labels node) - 1) ≡ Some result }
 {
     let place = node.index();
     let label = &flow.labels[place];

@@ -22,7 +22,7 @@ use Rattle.nf_routes_def.specs.RoutesList.{Routed}
 use Rattle.nf_routes_def.specs.RoutesText.{routed_text}
 use Rattle.nf_forever_def.specs.ForeverRun.{Forever}
 use Rattle.nf_forever_def.specs.ForeverText.{forever_text}
-use Rattle.nf_app_answers.specs.ErrorLines.{memory_line, usage_text, shelf_failed_line, shelf_too_long_line, network_line, loads_line, flows_line, routes_line, report_line, stopped_line, passed_line, no_equilibrium_line, augments_line, unbounded_line, no_thin_flow_line, earlier_line}
+use Rattle.nf_app_answers.specs.ErrorLines.{memory_line, usage_text, shelf_failed_line, shelf_too_long_line, network_line, loads_line, flows_line, routes_line, report_fault_line, stopped_line, passed_line, no_equilibrium_line, augments_line, unbounded_line, no_thin_flow_line, earlier_line}
 use Rattle.nf_app_answers.specs.QuickText.{quick_text, augments_text}
 use Rattle.nf_app_answers.specs.GenText.{gen_text}
 use Rattle.nf_app_answers.specs.declared.arrival.Arrival.{Arrival}
@@ -69,23 +69,23 @@ pub data ProgramAnswer : Type 0 where
   Earlier : ProgramAnswer
 
 -- ---- the status
-abbrev pub number_of : Status → ℕ
-number_of Status.Ok = 0
-number_of Status.Memory = 1
-number_of Status.Usage = 2
-number_of Status.Shelf = 3
-number_of Status.Malformed = 4
-number_of Status.Phases = 5
-number_of Status.Patterns = 6
-number_of Status.Passed = 7
-number_of Status.NoPattern = 8
-number_of Status.Output = 9
-number_of Status.NotEquilibrium = 10
-number_of Status.Augments = 11
-number_of Status.Events = 12
-number_of Status.Unbounded = 14
-number_of Status.NotThin = 15
-number_of Status.Earlier = 16
+abbrev pub status_number : Status → ℕ
+status_number Status.Ok = 0
+status_number Status.Memory = 1
+status_number Status.Usage = 2
+status_number Status.Shelf = 3
+status_number Status.Malformed = 4
+status_number Status.Phases = 5
+status_number Status.Patterns = 6
+status_number Status.Passed = 7
+status_number Status.NoPattern = 8
+status_number Status.Output = 9
+status_number Status.NotEquilibrium = 10
+status_number Status.Augments = 11
+status_number Status.Events = 12
+status_number Status.Unbounded = 14
+status_number Status.NotThin = 15
+status_number Status.Earlier = 16
 
 abbrev pub status_of_cause : Cause ℚ → Status
 status_of_cause (Cause.Phases made) = Status.Phases
@@ -189,7 +189,7 @@ err_text (Malformed broken) = network_line broken
 err_text (MalformedLoads broken) = loads_line broken
 err_text (MalformedFlows broken) = flows_line broken
 err_text (MalformedRoutes broken) = routes_line broken
-err_text (MalformedReport broken) = report_line broken
+err_text (MalformedReport broken) = report_fault_line broken
 err_text (Passes at) = passed_line at
 err_text Unbounded = unbounded_line
 err_text NotThin = no_thin_flow_line

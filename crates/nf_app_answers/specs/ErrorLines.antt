@@ -85,8 +85,8 @@ flows_line broken = broken_line (codes "flows") broken.line (flows_rule_word bro
 abbrev pub routes_line : RoutesBroken → List ℕ
 routes_line broken = broken_line (codes "routes") broken.line (routes_rule_word broken.rule)
 
-abbrev pub report_line : ReportBroken → List ℕ
-report_line broken = broken_line (codes "report") broken.line (report_rule_word broken.rule)
+abbrev pub report_fault_line : ReportBroken → List ℕ
+report_fault_line broken = broken_line (codes "report") broken.line (report_rule_word broken.rule)
 
 -- the line of a run that stopped
 abbrev pub stopped_line : Cause ℚ → List ℕ

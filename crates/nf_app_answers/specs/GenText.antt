@@ -23,8 +23,8 @@ abbrev pub run_lines : ℕ → ℚ → List (List (List ℕ))
 run_lines made reached = (codes "phases" ∷ digits_of made ∷ []) ∷ (codes "reached" ∷ printed reached ∷ []) ∷ []
 
 -- the cause of the run's end, and the arrival of the last departure at the sink
-abbrev pub end_lines : Option (Cause ℚ) → ℚ → List (List (List ℕ))
-end_lines stop arrival = (codes "cause" ∷ cause_words stop) ∷ (codes "arrival" ∷ printed arrival ∷ []) ∷ []
+abbrev pub run_end_lines : Option (Cause ℚ) → ℚ → List (List (List ℕ))
+run_end_lines stop arrival = (codes "cause" ∷ cause_words stop) ∷ (codes "arrival" ∷ printed arrival ∷ []) ∷ []
 
 -- the label of the sink at the departure reached
 abbrev pub last_arrival : Named → Report → ℚ
@@ -32,4 +32,4 @@ last_arrival n report = label report.flow n.net.sink report.flow.reached
 
 abbrev pub gen_text : ℕ → ℕ → Named → ℕ → Report → List ℕ
 gen_text number rungs n made report = flat_map line_of_words (
-    ladder_lines number rungs ++ size_lines n ++ run_lines made report.flow.reached ++ end_lines report.stop (last_arrival n report))
+    ladder_lines number rungs ++ size_lines n ++ run_lines made report.flow.reached ++ run_end_lines report.stop (last_arrival n report))

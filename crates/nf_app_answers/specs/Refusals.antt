@@ -13,20 +13,20 @@ use Rattle.nf_routes_def.specs.declared.RoutesRule.{RoutesRule}
 use Rattle.nf_app_answers.specs.declared.refusal.Refusal.{Refusal}
 use Rattle.nf_app_answers.specs.Answers.{ProgramAnswer, NoMemory, NoRequest, ShelfFailed, ShelfTooLong, Malformed, MalformedLoads, MalformedFlows, MalformedRoutes, MalformedReport, Passes, Unbounded, NotThin, Earlier}
 
-abbrev pub answer_of : Refusal → ProgramAnswer
-answer_of Refusal.NoMemory = NoMemory
-answer_of Refusal.NoRequest = NoRequest
-answer_of Refusal.ShelfFailed = ShelfFailed
-answer_of Refusal.ShelfTooLong = ShelfTooLong
-answer_of (Refusal.Malformed rule line) = Malformed (record { rule = rule; line = line })
-answer_of (Refusal.MalformedLoads rule line) = MalformedLoads (record { rule = rule; line = line })
-answer_of (Refusal.MalformedFlows rule line) = MalformedFlows (record { rule = rule; line = line })
-answer_of (Refusal.MalformedRoutes rule line) = MalformedRoutes (record { rule = rule; line = line })
-answer_of (Refusal.MalformedReport rule line) = MalformedReport (record { rule = rule; line = line })
-answer_of (Refusal.Passes at) = Passes at
-answer_of Refusal.Unbounded = Unbounded
-answer_of Refusal.NotThin = NotThin
-answer_of Refusal.Earlier = Earlier
+abbrev pub refused_answer : Refusal → ProgramAnswer
+refused_answer Refusal.NoMemory = NoMemory
+refused_answer Refusal.NoRequest = NoRequest
+refused_answer Refusal.ShelfFailed = ShelfFailed
+refused_answer Refusal.ShelfTooLong = ShelfTooLong
+refused_answer (Refusal.Malformed rule line) = Malformed (record { rule = rule; line = line })
+refused_answer (Refusal.MalformedLoads rule line) = MalformedLoads (record { rule = rule; line = line })
+refused_answer (Refusal.MalformedFlows rule line) = MalformedFlows (record { rule = rule; line = line })
+refused_answer (Refusal.MalformedRoutes rule line) = MalformedRoutes (record { rule = rule; line = line })
+refused_answer (Refusal.MalformedReport rule line) = MalformedReport (record { rule = rule; line = line })
+refused_answer (Refusal.Passes at) = Passes at
+refused_answer Refusal.Unbounded = Unbounded
+refused_answer Refusal.NotThin = NotThin
+refused_answer Refusal.Earlier = Earlier
 
 abbrev pub refusal_of_fetch : FetchFault → Refusal
 refusal_of_fetch Failed = Refusal.ShelfFailed

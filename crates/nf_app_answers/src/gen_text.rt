@@ -6,9 +6,9 @@ ghost use Rattle.nf_frac_words.specs.Digits.{digits_of};
 ghost use Rattle.nf_frac_words.specs.Printed.{printed};
 ghost use Rattle.nf_edge.specs.Writing.{state_of, Wrote};
 ghost use Rattle.nf_net_def.specs.Causes.{cause_words};
-ghost use Rattle.nf_phase.specs.Solution.{report_in};
+ghost use Rattle.nf_phase.specs.Solution.{solution_report};
 ghost use Rattle.nf_report_pages.specs.Written.{WroteLines};
-ghost use Rattle.nf_app_answers.specs.GenText.{ladder_lines, size_lines, run_lines, end_lines, last_arrival, gen_text};
+ghost use Rattle.nf_app_answers.specs.GenText.{ladder_lines, size_lines, run_lines, run_end_lines, last_arrival, gen_text};
 
 use nf_curve::Stop;
 use nf_edge::{Sink, SinkFault};
@@ -89,7 +89,7 @@ fn write_cause<O: Sink>(out: &mut O, stop: Option<&Stop>) -> Result<(), SinkFaul
 // Writes the cause of the run's end, and the arrival of the last departure.
 fn write_end<O: Sink>(out: &mut O, stop: Option<&Stop>, arrival: Q) -> Result<(), SinkFault>
     ensures { WroteLines (state_of O.Sink out.old) (state_of O.Sink out.new)
-        (end_lines (option_copied stop.entry) arrival) result }
+        (run_end_lines (option_copied stop.entry) arrival) result }
 {
     write_cause(out, stop)?;
     write_number(out, b"arrival", arrival)
@@ -107,15 +107,15 @@ pub fn write_summary<O: Sink>(
     solution: &Solution,
     arrival: Q,
 ) -> Result<(), SinkFault>
-    ensures text { (horizon : ℚ) → arrival ≡ last_arrival net.now (report_in horizon solution.now)
+    ensures text { (horizon : ℚ) → arrival ≡ last_arrival net.now (solution_report horizon solution.now)
         → Wrote (state_of O.Sink out.old) (state_of O.Sink out.new) (gen_text ladder.number
-        ladder.rungs net.now solution.now.phases (report_in horizon solution.now)) result }
+        ladder.rungs net.now solution.now.phases (solution_report horizon solution.now)) result }
 
     // `lines` states the same for any `arrival`, line by line.
     ensures lines { WroteLines (state_of O.Sink out.old)
         (state_of O.Sink out.new) (ladder_lines ladder.number ladder.rungs ++ size_lines net.now
         ++ run_lines solution.now.phases solution.now.flow.reached
-        ++ end_lines solution.now.stopped arrival) result }
+        ++ run_end_lines solution.now.stopped arrival) result }
 {
     write_ladder(out, ladder)?;
     write_size(out, net)?;

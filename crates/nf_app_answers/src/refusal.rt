@@ -1,7 +1,7 @@
 // Refusals: runs without a text for the output.
 ghost use Rattle.std.specs.Prelude.{◌≡◌};
 ghost use Rattle.nf_app_answers.specs.Answers.{status_of};
-ghost use Rattle.nf_app_answers.specs.Refusals.{answer_of, refusal_of_fetch, refusal_of_net, refusal_of_loads, refusal_of_flows, refusal_of_routes, refusal_of_report, refusal_of_halt};
+ghost use Rattle.nf_app_answers.specs.Refusals.{refused_answer, refusal_of_fetch, refusal_of_net, refusal_of_loads, refusal_of_flows, refusal_of_routes, refusal_of_report, refusal_of_halt};
 ghost use Rattle.nf_app_answers.specs.declared.refusal.Refusal.TheVariants as Refusal;
 
 use crate::status::Status;
@@ -48,7 +48,7 @@ pub enum Refusal {
 impl Refusal {
     /// Returns the status with which the program ends.
     pub fn status(&self) -> Status
-        ensures { result ≡ status_of (answer_of self.now) }
+        ensures { result ≡ status_of (refused_answer self.now) }
     {
         match self {
             Refusal::NoMemory => Status::Memory,

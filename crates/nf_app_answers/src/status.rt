@@ -39,11 +39,11 @@ pub enum Status {
 }
 
 impl Status {
-    ghost use Rattle.nf_app_answers.specs.Answers.{number_of};
+    ghost use Rattle.nf_app_answers.specs.Answers.{status_number};
 
     /// Returns the exit status of the process.
     pub fn number(self) -> u8
-        ensures { result ≡ number_of self }
+        ensures { result ≡ status_number self }
     {
         match self {
             Status::Ok => 0,

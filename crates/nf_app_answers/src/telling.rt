@@ -6,7 +6,7 @@ ghost use Rattle.nf_complete_def.specs.RuleWords.{flows_rule_word};
 ghost use Rattle.nf_routes_def.specs.RuleWords.{routes_rule_word};
 ghost use Rattle.nf_app_answers.specs.ErrorLines.{rule_word, broken_line, stopped_line, passed_line, augments_line};
 ghost use Rattle.nf_app_answers.specs.Answers.{err_text};
-ghost use Rattle.nf_app_answers.specs.Refusals.{answer_of};
+ghost use Rattle.nf_app_answers.specs.Refusals.{refused_answer};
 
 use crate::refusal::Refusal;
 use nf_complete_read::FlowsRule;
@@ -190,7 +190,7 @@ fn write_passed<E: Sink>(err: &mut E, at: &PassedAt<Q>) -> Result<(), SinkFault>
 /// The first fault ends the writing; the sink then took a proper prefix of the text.
 pub fn write_refusal<E: Sink>(err: &mut E, refusal: &Refusal) -> Result<(), SinkFault>
     ensures { Wrote (state_of E.Sink err.old) (state_of E.Sink err.new)
-        (err_text (answer_of refusal.now)) result }
+        (err_text (refused_answer refusal.now)) result }
 {
     match refusal {
         Refusal::NoMemory => write_text(err, b"nfot: memory\n"),

@@ -9,7 +9,7 @@ use Rattle.nf_edge.specs.Faults.{Rose}
 use Rattle.nf_edge.specs.declared.FetchFault.{FetchFault}
 use Rattle.nf_edge.specs.declared.FetchFault.TheVariants.{Failed as ShelfFails, TooLong, Memory}
 use Rattle.nf_app_answers.specs.declared.refusal.Refusal.{Refusal}
-use Rattle.nf_app_files.specs.Files.{Wanted, Visit, names_of, FitsLimit, FetchedNone, FetchedAll, FetchedTo}
+use Rattle.nf_app_files.specs.Files.{Wanted, Visit, wanted_names, FitsLimit, FetchedNone, FetchedAll, FetchedTo}
 use Rattle.nf_app_answers.specs.Refusals.{refusal_of_fetch}
 use Rattle.nf_app_files.specs.Fetching.{IsTextOf, IsLastText, AreMissing, AreFetched}
 
@@ -131,7 +131,7 @@ module _ (one other : Visit) (f g : Wanted) (follows : Follows one other) (first
     first = f ∷ h.first;
     behind = h.behind;
     files_are = ap (λ (l : List Wanted). f ∷ l) h.files_are;
-    asked = asked_more (names_of (h.first ++ last ∷ [])) h.asked;
+    asked = asked_more (wanted_names (h.first ++ last ∷ [])) h.asked;
     fit = All-cons (FitsLimit both) f h.first first_fits (λ k d within. fits _ (h.fit k d within));
   }
 

@@ -11,7 +11,7 @@ use Rattle.nf_net_def.specs.NetFile.{Reads}
 use Rattle.nf_net_file.specs.Contents.{IfBroken}
 use Rattle.nf_app_answers.specs.declared.refusal.Refusal.{Refusal}
 use Rattle.nf_app_answers.specs.Refusals.{refusal_of_net}
-use Rattle.nf_app_files.specs.Files.{Wanted, Visit, names_of, FitsLimit, FetchedAll, FetchedTo}
+use Rattle.nf_app_files.specs.Files.{Wanted, Visit, wanted_names, FitsLimit, FetchedAll, FetchedTo}
 use Rattle.nf_app_files.specs.Fetching.{AreTexts, NetworkReads, AreMissing, AreFetched, AreRead}
 use Rattle.nf_app_files.proofs.Fetched.{missing_cases}
 
@@ -39,7 +39,7 @@ all_reached shelf file others h =
         first = e.first;
         behind = [];
         files_are = e.is;
-        asked = h.asked ∙ ap (λ (l : List Wanted). shelf.asked_before ++ names_of l) e.is;
+        asked = h.asked ∙ ap (λ (l : List Wanted). shelf.asked_before ++ wanted_names l) e.is;
         fit = first_fit (FitsLimit shelf) e.first (e.last ∷ []) (subst (λ (l : List Wanted). All (FitsLimit shelf) l) e.is h.fit);
       },
     )

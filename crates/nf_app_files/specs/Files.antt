@@ -24,8 +24,8 @@ input_file name = record { name = name; limit = input_limit }
 abbrev pub report_file : List ℕ → Wanted
 report_file name = record { name = name; limit = report_limit }
 
-abbrev pub names_of : List Wanted → List (List ℕ)
-names_of files = map (λ file. file.name) files
+abbrev pub wanted_names : List Wanted → List (List ℕ)
+wanted_names files = map (λ file. file.name) files
 
 -- what a shelf had before a call, and did in it
 pub record Visit : Type 0 where
@@ -57,7 +57,7 @@ FetchedNone shelf = shelf.asked_now ≡ shelf.asked_before
 
 -- the files were fetched, each once and in order, and no other; none has too many bytes
 pub record FetchedAll (shelf : Visit) (files : List Wanted) : Type 0 where
-  pub asked : shelf.asked_now ≡ shelf.asked_before ++ names_of files
+  pub asked : shelf.asked_now ≡ shelf.asked_before ++ wanted_names files
   pub fit : All (FitsLimit shelf) files
   pub taken : IfSome (last_or None files) (λ last. shelf.taken ≤ last.limit)
 
@@ -66,7 +66,7 @@ pub record FetchedTo (shelf : Visit) (files : List Wanted) (last : Wanted) : Typ
   pub first : List Wanted
   pub behind : List Wanted
   pub files_are : files ≡ first ++ last ∷ behind
-  pub asked : shelf.asked_now ≡ shelf.asked_before ++ names_of (first ++ last ∷ [])
+  pub asked : shelf.asked_now ≡ shelf.asked_before ++ wanted_names (first ++ last ∷ [])
   pub fit : All (FitsLimit shelf) first
 
 -- the shelf failed at this file

@@ -5,7 +5,7 @@ ghost use Rattle.nf_edge.specs.Writing.{state_of, Wrote};
 ghost use Rattle.nf_net_def.specs.Named.{Named};
 ghost use Rattle.nf_app_answers.specs.Answers.{status_of, status_of_cause, status_of_stop, status_of_forever, status_of_verdict, err_text, text_of_stop, text_of_verdict};
 ghost use Rattle.nf_app_answers.specs.QuickText.{arrival_text};
-ghost use Rattle.nf_app_answers.specs.Refusals.{answer_of};
+ghost use Rattle.nf_app_answers.specs.Refusals.{refused_answer};
 ghost use Rattle.nf_app_answers.specs.Outcomes.{answer_in, answer_with, text_with, HasText, HasTextWith};
 ghost use Rattle.nf_app_files.specs.Sinks.{took_of, TookText};
 ghost use Rattle.nf_app_files.specs.Shown.{IsShown};
@@ -162,8 +162,8 @@ pub fn give<O: Sink, E: Sink>(outcome: &Outcome, out: &mut O, err: &mut E) -> St
 
 /// Writes to `err` why there is no answer, and returns the status of the run. A fault of `err` doesn't change the status.
 pub fn refuse<E: Sink>(refusal: &Refusal, err: &mut E) -> Status
-    ensures status { result ≡ status_of (answer_of refusal.now) }
-    ensures told { TookText (took_of E.Sink err.old err.new) (err_text (answer_of refusal.now)) }
+    ensures status { result ≡ status_of (refused_answer refusal.now) }
+    ensures told { TookText (took_of E.Sink err.old err.new) (err_text (refused_answer refusal.now)) }
     ensures never_falls { E.faults err.old ≤ E.faults err.new }
 {
     let _ = write_refusal(err, refusal);

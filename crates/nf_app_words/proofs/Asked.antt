@@ -13,9 +13,9 @@ use Rattle.nf_app_words.specs.declared.commands.Task.{Task}
 use Rattle.nf_app_words.specs.declared.commands.Task.TheVariants as task
 use Rattle.nf_app_words.specs.declared.request.Request as code
 use Rattle.nf_app_words.specs.CommandLine.{word_in, matches_on, file_in}
-use Rattle.nf_app_words.specs.Numbers.{to_not_negative, not_negative_of, not_negative_in, count_of, usual_or_count_in, most_phases, most_patterns, most_augments, most_rungs, most_number}
+use Rattle.nf_app_words.specs.Numbers.{to_not_negative, not_negative_of, not_negative_in, count_between, usual_or_count_in, most_phases, most_patterns, most_augments, most_rungs, most_number}
 use Rattle.nf_app_words.specs.Commands.{commands, first_task}
-use Rattle.nf_app_words.specs.Requests.{Request, Show, IsCountWithin, CanBeAsked, solve_request, forever_request, load_request, check_request, quick_request, gen_request, settle_request, resume_request, routes_request, horizon_in, phases_in, patterns_in, amount_in, augments_in, number_in, rungs_in, asked, request_in, request_of}
+use Rattle.nf_app_words.specs.Requests.{Request, Show, IsCountWithin, CanBeAsked, solve_request, forever_request, load_request, check_request, quick_request, gen_request, settle_request, resume_request, routes_request, horizon_in, phases_in, patterns_in, amount_in, augments_in, number_asked, rungs_in, asked, request_in, request_of}
 use Rattle.nf_app_words.specs.RequestViews.{requested}
 use Rattle.nf_app_words.proofs.Counts.{count_within}
 
@@ -46,7 +46,7 @@ not_negative : (name : Text) (rows : List Row) → IfSome (not_negative_in name 
 not_negative name rows = given (λ q. 0ℚ ≤ℚ q) not_negative_of (λ word. at_least_0 (number_of (bound_of 127) word)) (word_in name rows)
 
 budget : (usual most : ℕ) → IsCountWithin most usual → (name : Text) (rows : List Row) → IfSome (usual_or_count_in usual most name rows) (IsCountWithin most)
-budget usual most fine name rows = given_or (IsCountWithin most) (count_of 1 most) (count_within 1 most) usual fine (word_in name rows)
+budget usual most fine name rows = given_or (IsCountWithin most) (count_between 1 most) (count_within 1 most) usual fine (word_in name rows)
 
 horizon : (rows : List Row) → IfSome (horizon_in rows) (λ q. 0ℚ ≤ℚ q)
 unfolding horizon_in
@@ -68,13 +68,13 @@ augments : (rows : List Row) → IfSome (augments_in rows) (IsCountWithin most_a
 unfolding augments_in
 augments rows = budget 10000 most_augments (lit≤ tt, lit≤ tt) (codes "augments") rows
 
-number : (rows : List Row) → IfSome (number_in rows) (λ n. (0 ≤ n) × (n ≤ most_number))
-unfolding number_in
-number rows = given (λ n. (0 ≤ n) × (n ≤ most_number)) (count_of 0 most_number) (count_within 0 most_number) (word_in (codes "number") rows)
+number : (rows : List Row) → IfSome (number_asked rows) (λ n. (0 ≤ n) × (n ≤ most_number))
+unfolding number_asked
+number rows = given (λ n. (0 ≤ n) × (n ≤ most_number)) (count_between 0 most_number) (count_within 0 most_number) (word_in (codes "number") rows)
 
 rungs : (rows : List Row) → IfSome (rungs_in rows) (IsCountWithin most_rungs)
 unfolding rungs_in
-rungs rows = given (IsCountWithin most_rungs) (count_of 1 most_rungs) (count_within 1 most_rungs) (word_in (codes "rungs") rows)
+rungs rows = given (IsCountWithin most_rungs) (count_between 1 most_rungs) (count_within 1 most_rungs) (word_in (codes "rungs") rows)
 
 -- ---- each command
 solve_can : (file : Option Text) (h : Option ℚ) (p q : Option ℕ) → IfSome h (λ x. 0ℚ ≤ℚ x) → IfSome p (IsCountWithin most_phases) → IfSome q (IsCountWithin most_patterns)
@@ -149,7 +149,7 @@ each_can task.Load rows = load_can (file_in 0 rows) (file_in 1 rows) (horizon_in
 each_can task.Check rows = check_can (file_in 0 rows) (file_in 1 rows)
 each_can task.Quick rows = quick_can (file_in 0 rows) (amount_in rows) (augments_in rows) (amount rows) (augments rows)
 each_can task.Gen rows =
-    gen_can (number_in rows) (rungs_in rows) (horizon_in rows) (phases_in rows) (patterns_in rows) (number rows) (rungs rows) (horizon rows) (phases rows) (patterns rows)
+    gen_can (number_asked rows) (rungs_in rows) (horizon_in rows) (phases_in rows) (patterns_in rows) (number rows) (rungs rows) (horizon rows) (phases rows) (patterns rows)
 each_can task.Settle rows = settle_can (file_in 0 rows) (file_in 1 rows)
 each_can task.Resume rows =
     resume_can (file_in 0 rows) (file_in 1 rows) (horizon_in rows) (phases_in rows) (patterns_in rows) (horizon rows) (phases rows) (patterns rows)

@@ -6,7 +6,7 @@ use Rattle.std.proofs.lemmas.Bool.{and_parts, and_from, and_left, and_right, le-
 use Rattle.std.proofs.lemmas.Str.Parse.{IsDigitsTest, FoldsDigits, IsNumeralModel, numerals_by_fold, parse_digits}
 use Rattle.nf_frac_words.specs.Digits.{are_digits, value_after, value_of}
 use Rattle.nf_frac_words.proofs.Digits.{digit_range}
-use Rattle.nf_app_words.specs.Numbers.{is_whole, is_between, count_of}
+use Rattle.nf_app_words.specs.Numbers.{is_whole, is_between, count_between}
 
 -- ---- digits, and their value
 tells : IsDigitsTest (λ ds. are_digits ds ≡ true)
@@ -37,28 +37,28 @@ whole word e =
 
 -- ---- the count of a word
 module _ (least most : ℕ) (word : List ℕ) where
-  pub not_whole : is_whole word ≡ false → None ≡ count_of least most word
-  unfolding count_of
+  pub not_whole : is_whole word ≡ false → None ≡ count_between least most word
+  unfolding count_between
   not_whole e = sym (cond-false _ _ _ (and_left _ _ e))
 
   module _ (is : is_whole word ≡ true) where
     reads : (n : ℕ) → ParsesUnsigned {E = ℕ} 64 10 word (Ok n) → n ≡ value_of word
     reads n parsed = (parse_digits own {E = ℕ} 64 word (Ok n) parsed (whole word is).digits).1
 
-    pub count_read : (n : ℕ) → ParsesUnsigned {E = ℕ} 64 10 word (Ok n) → is_between least most n ≡ true → Some n ≡ count_of least most word
-    unfolding count_of
+    pub count_read : (n : ℕ) → ParsesUnsigned {E = ℕ} 64 10 word (Ok n) → is_between least most n ≡ true → Some n ≡ count_between least most word
+    unfolding count_between
     count_read n parsed between =
         let same = reads n parsed in
         ap Some same ∙ sym (cond-true _ _ _ (and_from _ _ is (subst (λ (v : ℕ). is_between least most v ≡ true) same between)))
 
-    pub not_between : (n : ℕ) → ParsesUnsigned {E = ℕ} 64 10 word (Ok n) → is_between least most n ≡ false → None ≡ count_of least most word
-    unfolding count_of
+    pub not_between : (n : ℕ) → ParsesUnsigned {E = ℕ} 64 10 word (Ok n) → is_between least most n ≡ false → None ≡ count_between least most word
+    unfolding count_between
     not_between n parsed outside =
         let same = reads n parsed in
         sym (cond-false _ _ _ (and_right (is_whole word) _ (subst (λ (v : ℕ). is_between least most v ≡ false) same outside)))
 
-    pub too_wide : most < 2 ^ 64 → ParsesUnsigned {E = ℕ} 64 10 word (Err 0) → None ≡ count_of least most word
-    unfolding count_of
+    pub too_wide : most < 2 ^ 64 → ParsesUnsigned {E = ℕ} 64 10 word (Err 0) → None ≡ count_between least most word
+    unfolding count_between
     too_wide below parsed =
         let facts = whole word is in
         let never = parse_digits own {E = ℕ} 64 word (Err 0) parsed facts.digits in
@@ -71,6 +71,6 @@ some_within least most n true true e = let p = and_parts _ _ e in (leb-true _ _ 
 some_within least most n true false e = tt
 some_within least most n false between e = tt
 
-pub count_within : (least most : ℕ) (word : List ℕ) → IfSome (count_of least most word) (λ m. (least ≤ m) × (m ≤ most))
-unfolding count_of
+pub count_within : (least most : ℕ) (word : List ℕ) → IfSome (count_between least most word) (λ m. (least ≤ m) × (m ≤ most))
+unfolding count_between
 count_within least most word = some_within least most (value_of word) (is_whole word) (is_between least most (value_of word)) refl

@@ -32,16 +32,16 @@ abbrev pub is_between : ℕ → ℕ → ℕ → Bool
 is_between least most count = nat_le least count && nat_le count most
 
 -- the count that a word writes, if it is between `least` and `most`
-unfoldable pub count_of : ℕ → ℕ → Text → Option ℕ
-count_of least most word = if is_whole word && is_between least most (value_of word) then Some (value_of word) else None
+unfoldable pub count_between : ℕ → ℕ → Text → Option ℕ
+count_between least most word = if is_whole word && is_between least most (value_of word) then Some (value_of word) else None
 
 -- the count of an option, if it is given and between `least` and `most`
 abbrev pub count_in : ℕ → ℕ → Text → List Row → Option ℕ
-count_in least most name rows = option_and_then (count_of least most) (word_in name rows)
+count_in least most name rows = option_and_then (count_between least most) (word_in name rows)
 
 -- the count of an option, if it is between 1 and `most`; the default is `usual`
 abbrev pub usual_or_count_in : ℕ → ℕ → Text → List Row → Option ℕ
-usual_or_count_in usual most name rows = option_map_or (count_of 1 most) (word_in name rows) (Some usual)
+usual_or_count_in usual most name rows = option_map_or (count_between 1 most) (word_in name rows) (Some usual)
 
 -- ---- limits
 -- the greatest and the default number of phases

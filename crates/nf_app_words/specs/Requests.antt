@@ -94,8 +94,8 @@ amount_in rows = not_negative_in (codes "amount") rows
 unfoldable pub augments_in : List Row → Option ℕ
 augments_in rows = usual_or_count_in usual_augments most_augments (codes "augments") rows
 
-unfoldable pub number_in : List Row → Option ℕ
-number_in rows = count_in 0 most_number (codes "number") rows
+unfoldable pub number_asked : List Row → Option ℕ
+number_asked rows = count_in 0 most_number (codes "number") rows
 
 unfoldable pub rungs_in : List Row → Option ℕ
 rungs_in rows = count_in 1 most_rungs (codes "rungs") rows
@@ -107,7 +107,7 @@ asked task.Show rows = option_map (λ file. Show file) (file_in 0 rows)
 asked task.Load rows = load_request (file_in 0 rows) (file_in 1 rows) (horizon_in rows)
 asked task.Check rows = check_request (file_in 0 rows) (file_in 1 rows)
 asked task.Quick rows = quick_request (file_in 0 rows) (amount_in rows) (augments_in rows)
-asked task.Gen rows = gen_request (number_in rows) (rungs_in rows) (horizon_in rows) (phases_in rows) (patterns_in rows)
+asked task.Gen rows = gen_request (number_asked rows) (rungs_in rows) (horizon_in rows) (phases_in rows) (patterns_in rows)
 asked task.Settle rows = settle_request (file_in 0 rows) (file_in 1 rows)
 asked task.Resume rows = resume_request (file_in 0 rows) (file_in 1 rows) (horizon_in rows) (phases_in rows) (patterns_in rows)
 asked task.Routes rows = routes_request (file_in 0 rows) (file_in 1 rows) (horizon_in rows)

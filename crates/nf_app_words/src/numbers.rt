@@ -2,8 +2,8 @@
 ghost use Rattle.std.specs.Prelude.{◌≡◌, ◌≤◌, IfSome};
 ghost use Rattle.nf_frac_words.specs.Digits.{are_digits};
 ghost use Rattle.nf_app_words.specs.MatchViews.{rows_in};
-ghost use Rattle.nf_app_words.specs.Numbers.{count_in, count_of, is_between, is_whole, not_negative_in, not_negative_of, usual_or_count_in};
-ghost use Rattle.nf_app_words.specs.Requests.{amount_in, augments_in, horizon_in, number_in, patterns_in, phases_in, rungs_in};
+ghost use Rattle.nf_app_words.specs.Numbers.{count_in, count_between, is_between, is_whole, not_negative_in, not_negative_of, usual_or_count_in};
+ghost use Rattle.nf_app_words.specs.Requests.{amount_in, augments_in, horizon_in, number_asked, patterns_in, phases_in, rungs_in};
 
 use crate::given::word_of;
 use clap::ArgMatches;
@@ -70,7 +70,7 @@ fn is_between(least: u64, most: u64, count: u64) -> bool
 
 // Returns the count that a word writes, if it is between `least` and `most`. Leading zeros are allowed.
 fn read_count(word: &str, least: u64, most: u64) -> Option<u64>
-    ensures value { result ≡ count_of least most word.now }
+    ensures value { result ≡ count_between least most word.now }
     ensures most { IfSome result (λ count. count ≤ most) }
 {
     if !is_whole(word.as_bytes()) {
@@ -142,9 +142,9 @@ pub(crate) fn augments_of(matches: &ArgMatches) -> Option<u64>
 }
 
 /// Returns the number of a ladder.
-#[tactic(auto, unfolding(crate::specs::Requests::number_in))]
+#[tactic(auto, unfolding(crate::specs::Requests::number_asked))]
 pub(crate) fn number_of(matches: &ArgMatches) -> Option<u64>
-    ensures { result ≡ number_in (rows_in matches.now) }
+    ensures { result ≡ number_asked (rows_in matches.now) }
 {
     count_of(matches, "number", 0, u64::MAX)
 }

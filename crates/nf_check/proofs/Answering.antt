@@ -24,12 +24,12 @@ use Rattle.nf_check_laws.proofs.Holding.{Equilibrium-holding, AllHold-equilibriu
 use Rattle.nf_check_laws.proofs.Broken.{not-broken}
 use Rattle.nf_check_laws.proofs.Checking.{check_list-checks}
 use Rattle.nf_curve.specs.Points.{Grown}
-use Rattle.nf_curve.specs.Flows.{trace_of, flow_of}
+use Rattle.nf_curve.specs.Flows.{seen_trace, seen_flow}
 use Rattle.nf_curve.specs.declared.flow.Flow as code
 use Rattle.nf_curve.specs.declared.flow.Trace as code_trace
 use Rattle.nf_check.specs.Answers.{IsExact}
 use Rattle.nf_check.specs.Given.{IsGivenFlow}
-use Rattle.nf_check_rules.specs.Kept.{curves_of}
+use Rattle.nf_check_rules.specs.Kept.{points_of_each}
 use Rattle.nf_check_rules.specs.Trials.{done}
 
 answer_done : {A : Type 0} (r : Trial A) → answer_of (done r) ≡ answer_of r
@@ -63,25 +63,25 @@ module _ (passes : Passing) (net : Network) (flow : Flow) (given : CanBeChecked 
 
 -- ---- preconditions
 are_curves : (n : ℕ) (curves : List Grown) (all : List Grown) → curves ≡ all → length all ≡ n
-    → ((i : ℕ) → i < length curves → IsCurve (points_at (curves_of curves) i)) → AreCurves n (curves_of all)
+    → ((i : ℕ) → i < length curves → IsCurve (points_at (points_of_each curves) i)) → AreCurves n (points_of_each all)
 are_curves n curves all e count known = record {
   count = length-map all (λ (c : Grown). c.points) ∙ count;
-  each = λ i h. subst (λ (l : List Grown). IsCurve (points_at (curves_of l) i)) e (known i (subst (λ (k : ℕ). i < k) (sym (ap length e ∙ count)) h));
+  each = λ i h. subst (λ (l : List Grown). IsCurve (points_at (points_of_each l) i)) e (known i (subst (λ (k : ℕ). i < k) (sym (ap length e ∙ count)) h));
 }
 
 are_traces : (n : ℕ) (traces : List code_trace.Trace) (all : List code_trace.Trace) → traces ≡ all → length all ≡ n
-    → ((i : ℕ) → i < length traces → IsCurve (points_at (points_of (map trace_of traces)) i)) → AreCurves n (points_of (map trace_of all))
+    → ((i : ℕ) → i < length traces → IsCurve (points_at (points_of (map seen_trace traces)) i)) → AreCurves n (points_of (map seen_trace all))
 are_traces n traces all e count known = record {
-  count = length-map (map trace_of all) (λ (t : model.Trace). t.points) ∙ length-map all trace_of ∙ count;
-  each = λ i h. subst (λ (l : List code_trace.Trace). IsCurve (points_at (points_of (map trace_of l)) i)) e (known i (subst (λ (k : ℕ). i < k) (sym (ap length e ∙ count)) h));
+  count = length-map (map seen_trace all) (λ (t : model.Trace). t.points) ∙ length-map all seen_trace ∙ count;
+  each = λ i h. subst (λ (l : List code_trace.Trace). IsCurve (points_at (points_of (map seen_trace l)) i)) e (known i (subst (λ (k : ℕ). i < k) (sym (ap length e ∙ count)) h));
 }
 
 pub given_by : (net : Network) (flow : code.Flow) → IsNetwork net → (labels : length flow.labels.items ≡ net.nodes) (inflows : length flow.inflows.items ≡ length net.links)
-    (outflows : length flow.outflows.items ≡ length net.links) (queues : length flow.queues.items ≡ length net.links) → HaveRates (flow_of flow).inflows
-    → HaveRates (flow_of flow).outflows → 0ℚ ≤ℚ flow.reached
+    (outflows : length flow.outflows.items ≡ length net.links) (queues : length flow.queues.items ≡ length net.links) → HaveRates (seen_flow flow).inflows
+    → HaveRates (seen_flow flow).outflows → 0ℚ ≤ℚ flow.reached
     → (ls qs : List Grown) (is os : List code_trace.Trace) → ls ≡ flow.labels.items → is ≡ flow.inflows.items → os ≡ flow.outflows.items → qs ≡ flow.queues.items
-    → ((i : ℕ) → i < length ls → IsCurve (points_at (curves_of ls) i)) → ((i : ℕ) → i < length is → IsCurve (points_at (points_of (map trace_of is)) i))
-    → ((i : ℕ) → i < length os → IsCurve (points_at (points_of (map trace_of os)) i)) → ((i : ℕ) → i < length qs → IsCurve (points_at (curves_of qs) i)) → IsGivenFlow net flow
+    → ((i : ℕ) → i < length ls → IsCurve (points_at (points_of_each ls) i)) → ((i : ℕ) → i < length is → IsCurve (points_at (points_of (map seen_trace is)) i))
+    → ((i : ℕ) → i < length os → IsCurve (points_at (points_of (map seen_trace os)) i)) → ((i : ℕ) → i < length qs → IsCurve (points_at (points_of_each qs) i)) → IsGivenFlow net flow
 given_by net flow good labels inflows outflows queues in_rates out_rates reached ls qs is os e f g h a b c d = record {
   labels = labels;
   inflows = inflows;

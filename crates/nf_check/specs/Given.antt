@@ -6,12 +6,12 @@ use Rattle.nf_frac_def.specs.Checked.{each}
 use Rattle.nf_model.specs.Network.{Network}
 use Rattle.nf_model.specs.Equilibrium.{points_at}
 use Rattle.nf_curve_def.specs.Values.{checked_cut}
-use Rattle.nf_check_def.specs.Rules.{all_nodes}
+use Rattle.nf_check_def.specs.Rules.{numbers_of_nodes}
 use Rattle.nf_check_def.specs.CheckList.{label_cut}
 use Rattle.nf_check_laws.specs.Laws.{CanBeChecked}
-use Rattle.nf_check_rules.specs.Kept.{curves_of}
+use Rattle.nf_check_rules.specs.Kept.{points_of_each}
 use Rattle.nf_curve.specs.Points.{Grown}
-use Rattle.nf_curve.specs.Flows.{flow_of}
+use Rattle.nf_curve.specs.Flows.{seen_flow}
 use Rattle.nf_curve.specs.declared.flow.Flow.{Flow}
 
 -- one label per node, one curve of each other kind per link, and the conditions of `CanBeChecked`
@@ -20,12 +20,12 @@ pub record IsGivenFlow (net : Network) (flow : Flow) : Type 0 where
   pub inflows : length flow.inflows.items ≡ length net.links
   pub outflows : length flow.outflows.items ≡ length net.links
   pub queues : length flow.queues.items ≡ length net.links
-  pub checked : CanBeChecked net (flow_of flow)
+  pub checked : CanBeChecked net (seen_flow flow)
 
 -- each curve is its own cut at the time `last`
 abbrev pub AreWhole : List Grown → ℚ → Type 0
-AreWhole curves last = (v : ℕ) → v < length curves → checked_cut passes_Q (points_at (curves_of curves) v) last ≡ Ok (points_at (curves_of curves) v)
+AreWhole curves last = (v : ℕ) → v < length curves → checked_cut passes_Q (points_at (points_of_each curves) v) last ≡ Ok (points_at (points_of_each curves) v)
 
 -- the labels cut at the departure reached, none of which breaks C1
 abbrev pub AreCut : Network → Flow → List Grown → Type 0
-AreCut net flow labels = each (label_cut passes_Q net (flow_of flow)) (all_nodes net) ≡ Ok (curves_of labels)
+AreCut net flow labels = each (label_cut passes_Q net (seen_flow flow)) (numbers_of_nodes net) ≡ Ok (points_of_each labels)

@@ -3,7 +3,7 @@ ghost use Rattle.std.specs.Prelude.{◌<◌, OnOk};
 ghost use Rattle.nf_frac_def.specs.Checked.{each};
 ghost use Rattle.nf_check_def.specs.Rules.{nodes_but};
 ghost use Rattle.nf_check_def.specs.CheckList.{arrivals};
-ghost use Rattle.nf_check_rules.specs.Exits.{AreKept};
+ghost use Rattle.nf_check_rules.specs.Exits.{AreStored};
 ghost use Rattle.nf_check_rules.specs.Views.{network_in, in_view};
 ghost use Rattle.nf_check_rules.specs.Steps.{arrivals_list};
 ghost use Rattle.nf_check_rules.specs.Trials.{Tries, done};
@@ -22,9 +22,9 @@ fn check_arrival(
     exits: &mut Exits,
 ) -> Result<(), Ended>
     requires node { node < (network_in worked.now).nodes }
-    requires kept { AreKept worked.now exits.old }
+    requires kept { AreStored worked.now exits.old }
     ensures tries { Tries (λ _. tt) result (in_view arrivals worked.now node) }
-    ensures kept { OnOk result (AreKept worked.now exits.new) }
+    ensures kept { OnOk result (AreStored worked.now exits.new) }
 {
     let least = least_exits(alloc, worked, node, exits)?;
     match &least {
@@ -44,11 +44,11 @@ fn check_arrival(
 
 // Tests C3 for the labels of all nodes except the source.
 fn check_arrivals_at(alloc: Global, worked: &Worked, exits: &mut Exits) -> Result<(), Ended>
-    requires { AreKept worked.now exits.old }
+    requires { AreStored worked.now exits.old }
     ensures tries { Tries (λ _. tt) result
         (done (each (in_view arrivals worked.now)
         (nodes_but (network_in worked.now).source (network_in worked.now)))) }
-    ensures kept { OnOk result (AreKept worked.now exits.new) }
+    ensures kept { OnOk result (AreStored worked.now exits.new) }
 {
     for number in 0..worked.net.node_count() {
         let node = NodeId(number);
@@ -61,9 +61,9 @@ fn check_arrivals_at(alloc: Global, worked: &Worked, exits: &mut Exits) -> Resul
 
 /// Tests C3: the label of the source is the departure, and each other label is the least exit. Stores the exits it computes in `exits`.
 pub(crate) fn check_arrivals(alloc: Global, worked: &Worked, exits: &mut Exits) -> Result<(), Ended>
-    requires { AreKept worked.now exits.old }
+    requires { AreStored worked.now exits.old }
     ensures tries { Tries (λ _. tt) result (in_view arrivals_list worked.now) }
-    ensures kept { OnOk result (AreKept worked.now exits.new) }
+    ensures kept { OnOk result (AreStored worked.now exits.new) }
 {
     let source = worked.net.source();
     let line = Curve::identity(alloc, worked.flow.reached)?;

@@ -9,10 +9,10 @@ ghost use Rattle.nf_model.specs.Equilibrium.{points_at, points_of};
 ghost use Rattle.nf_net_def.specs.Report.{HaveRates};
 ghost use Rattle.nf_check_def.specs.Rules.{Checks};
 ghost use Rattle.nf_check_def.specs.CheckList.{trial, check_list};
-ghost use Rattle.nf_curve.specs.Flows.{trace_of, flow_of};
+ghost use Rattle.nf_curve.specs.Flows.{seen_trace, seen_flow};
 ghost use Rattle.nf_check.specs.Answers.{IsExact};
 ghost use Rattle.nf_check.specs.Given.{IsGivenFlow, AreCut};
-ghost use Rattle.nf_check_rules.specs.Kept.{curves_of, loadings_of};
+ghost use Rattle.nf_check_rules.specs.Kept.{points_of_each, loadings_of};
 ghost use Rattle.nf_check_rules.specs.Views.{in_view};
 ghost use Rattle.nf_check_rules.specs.Steps.{worked_list, told_list, compared_list};
 ghost use Rattle.nf_check_rules.specs.Trials.{Tries, done};
@@ -40,8 +40,8 @@ fn load_tested(
 ) -> Result<Vec<Loaded>, Ended>
     requires given { IsGivenFlow net.now.net flow.now }
     requires labels { AreCut net.now.net flow.now labels.now }
-    ensures list { Tries (λ loaded. (curves_of labels.now, loadings_of loaded.items)) result
-        (worked_list passes_Q net.now.net (flow_of flow.now)) }
+    ensures list { Tries (λ loaded. (points_of_each labels.now, loadings_of loaded.items)) result
+        (worked_list passes_Q net.now.net (seen_flow flow.now)) }
     ensures count { IfOk result (λ loaded. length loaded.items ≡ length net.now.net.links) }
 {
     check_inflows(net, flow)?;
@@ -74,7 +74,7 @@ fn compare_all(alloc: Global, worked: &Worked) -> Result<(), Ended>
 fn test_with(alloc: Global, net: &Network, flow: &Flow, labels: &[Curve]) -> Result<(), Ended>
     requires given { IsGivenFlow net.now.net flow.now }
     requires labels { AreCut net.now.net flow.now labels.now }
-    ensures { Tries (λ _. tt) result (done (trial passes_Q net.now.net (flow_of flow.now))) }
+    ensures { Tries (λ _. tt) result (done (trial passes_Q net.now.net (seen_flow flow.now))) }
 {
     let loaded = load_tested(alloc, net, flow, labels)?;
     let worked = Worked {
@@ -89,7 +89,7 @@ fn test_with(alloc: Global, net: &Network, flow: &Flow, labels: &[Curve]) -> Res
 // Tests all rules, in order. Borrows the labels if each ends at the departure reached. Otherwise cuts copies of them there.
 fn test_all(alloc: Global, net: &Network, flow: &Flow) -> Result<(), Ended>
     requires { IsGivenFlow net.now.net flow.now }
-    ensures { Tries (λ _. tt) result (done (trial passes_Q net.now.net (flow_of flow.now))) }
+    ensures { Tries (λ _. tt) result (done (trial passes_Q net.now.net (seen_flow flow.now))) }
 {
     if are_whole(&flow.labels, flow.reached) {
         check_labels(net, flow)?;
@@ -101,7 +101,7 @@ fn test_all(alloc: Global, net: &Network, flow: &Flow) -> Result<(), Ended>
 
 // Does nothing. Proof: the points of each curve are a curve.
 fn know_curves(curves: &[Curve])
-    ensures { (i : ℕ) → i < length curves.now → IsCurve (points_at (curves_of curves.now) i) }
+    ensures { (i : ℕ) → i < length curves.now → IsCurve (points_at (points_of_each curves.now) i) }
 {
     for curve in curves {
         curve.recall();
@@ -111,7 +111,7 @@ fn know_curves(curves: &[Curve])
 // Does nothing. Proof: the points of each trace are a curve.
 fn know_traces(traces: &[Trace])
     ensures { (i : ℕ) → i < length traces.now
-        → IsCurve (points_at (points_of (map trace_of traces.now)) i) }
+        → IsCurve (points_at (points_of (map seen_trace traces.now)) i) }
 {
     for trace in traces {
         trace.curve.recall();
@@ -132,13 +132,13 @@ pub fn check(alloc: Global, net: &Network, flow: &Flow) -> Result<Answer, Halt<Q
     requires inflows { length flow.now.inflows.items ≡ length net.now.net.links }
     requires outflows { length flow.now.outflows.items ≡ length net.now.net.links }
     requires queues { length flow.now.queues.items ≡ length net.now.net.links }
-    requires inflow_rates { HaveRates (flow_of flow.now).inflows }
-    requires outflow_rates { HaveRates (flow_of flow.now).outflows }
+    requires inflow_rates { HaveRates (seen_flow flow.now).inflows }
+    requires outflow_rates { HaveRates (seen_flow flow.now).outflows }
     requires reached { 0ℚ ≤ℚ flow.now.reached }
     ensures list { Gives (λ answer. answer) (λ q. q) result
-        (check_list passes_Q net.now.net (flow_of flow.now)) }
-    ensures rules { IfOk result (λ answer. Checks net.now.net (flow_of flow.now) answer) }
-    ensures exact { IfOk result (λ answer. IsExact net.now.net (flow_of flow.now) answer) }
+        (check_list passes_Q net.now.net (seen_flow flow.now)) }
+    ensures rules { IfOk result (λ answer. Checks net.now.net (seen_flow flow.now) answer) }
+    ensures exact { IfOk result (λ answer. IsExact net.now.net (seen_flow flow.now) answer) }
 {
     // Proof: the network is well formed, and the points of the flow are curves.
     net.recall();

@@ -7,12 +7,12 @@ ghost use Rattle.nf_frac_def.specs.Checked.{each};
 ghost use Rattle.nf_model.specs.Equilibrium.{points_at};
 ghost use Rattle.nf_model.specs.Network.{Network as SeenNetwork};
 ghost use Rattle.nf_check_def.specs.PointRules.{negative_point as negative_by};
-ghost use Rattle.nf_check_def.specs.Rules.{all_nodes};
+ghost use Rattle.nf_check_def.specs.Rules.{numbers_of_nodes};
 ghost use Rattle.nf_check_def.specs.CheckList.{label_cut};
 ghost use Rattle.nf_curve.specs.Differences.{difference_of};
-ghost use Rattle.nf_curve.specs.Flows.{flow_of};
+ghost use Rattle.nf_curve.specs.Flows.{seen_flow};
 ghost use Rattle.nf_check.specs.Given.{AreWhole};
-ghost use Rattle.nf_check_rules.specs.Kept.{curves_of};
+ghost use Rattle.nf_check_rules.specs.Kept.{points_of_each};
 ghost use Rattle.nf_check_rules.specs.Trials.{Tries};
 
 use nf_check_def::CheckRule;
@@ -57,8 +57,8 @@ pub(crate) fn are_whole(labels: &[Curve], last: Q) -> bool
 fn check_label(flow: &Flow, node: NodeId) -> Result<(), Ended>
     requires node { node < length flow.now.labels.items }
     requires whole { AreWhole flow.now.labels.items flow.now.reached }
-    ensures { (net : SeenNetwork) → Tries (λ _. points_at (flow_of flow.now).labels node) result
-        (label_cut passes_Q net (flow_of flow.now) node) }
+    ensures { (net : SeenNetwork) → Tries (λ _. points_at (seen_flow flow.now).labels node) result
+        (label_cut passes_Q net (seen_flow flow.now) node) }
 {
     let label = curve_at(&flow.labels, node.index());
     unless(CheckRule::C1, Subject::Node(node), negative_point(label))
@@ -68,8 +68,8 @@ fn check_label(flow: &Flow, node: NodeId) -> Result<(), Ended>
 pub(crate) fn check_labels(net: &Network, flow: &Flow) -> Result<(), Ended>
     requires labels { length flow.now.labels.items ≡ net.now.net.nodes }
     requires whole { AreWhole flow.now.labels.items flow.now.reached }
-    ensures { Tries (λ _. curves_of flow.now.labels.items) result
-        (each (label_cut passes_Q net.now.net (flow_of flow.now)) (all_nodes net.now.net)) }
+    ensures { Tries (λ _. points_of_each flow.now.labels.items) result
+        (each (label_cut passes_Q net.now.net (seen_flow flow.now)) (numbers_of_nodes net.now.net)) }
 {
     for number in 0..net.node_count() {
         check_label(flow, NodeId(number))?;
@@ -82,7 +82,7 @@ fn cut_label(alloc: Global, flow: &Flow, node: NodeId) -> Result<Curve, Ended>
     requires node { node < length flow.now.labels.items }
     requires reached { 0ℚ ≤ℚ flow.now.reached }
     ensures { (net : SeenNetwork)
-        → Tries (λ c. c.points) result (label_cut passes_Q net (flow_of flow.now) node) }
+        → Tries (λ c. c.points) result (label_cut passes_Q net (seen_flow flow.now) node) }
 {
     let label = curve_at(&flow.labels, node.index());
     let cut = label.cut(alloc, flow.reached, Part::Check)?;
@@ -94,8 +94,8 @@ fn cut_label(alloc: Global, flow: &Flow, node: NodeId) -> Result<Curve, Ended>
 pub(crate) fn cut_labels(alloc: Global, net: &Network, flow: &Flow) -> Result<Vec<Curve>, Ended>
     requires labels { length flow.now.labels.items ≡ net.now.net.nodes }
     requires reached { 0ℚ ≤ℚ flow.now.reached }
-    ensures { Tries (λ labels. curves_of labels.items) result
-        (each (label_cut passes_Q net.now.net (flow_of flow.now)) (all_nodes net.now.net)) }
+    ensures { Tries (λ labels. points_of_each labels.items) result
+        (each (label_cut passes_Q net.now.net (seen_flow flow.now)) (numbers_of_nodes net.now.net)) }
 {
     let mut labels = Vec::with_capacity(alloc, net.node_count() as usize)?;
     for number in 0..net.node_count() {

@@ -22,7 +22,7 @@ use Rattle.nf_check_def.specs.declared.CheckRule.TheVariants.{C1, C3, C4, C5, C6
 use Rattle.nf_check_def.specs.declared.Subject.{Subject}
 use Rattle.nf_check_def.specs.declared.Subject.TheVariants.{Node, Link as OfLink}
 use Rattle.nf_check_def.specs.declared.Answer.{Answer}
-use Rattle.nf_check_def.specs.Rules.{all_nodes, all_links, nodes_but}
+use Rattle.nf_check_def.specs.Rules.{numbers_of_nodes, numbers_of_links, nodes_but}
 use Rattle.nf_check_def.specs.Trial.{Trial, in_part, unless, answer_of}
 use Rattle.nf_check_def.specs.PointRules.{negative_point, inflow_fault, rates_list}
 use Rattle.nf_check_def.specs.Curves.{greatest_value, last_value, departures, loaded_at, least_exits, total_in, total_out}
@@ -115,9 +115,9 @@ module _ (passes : Passing) (net : Network) (flow : Flow) where
   -- ---- the whole check
   unfoldable pub trial : Trial (List (Unit {0}))
   trial = do
-    labels ← each label_cut (all_nodes net)
-    _ ← each inflow_rule (all_links net)
-    _ ← each link_rates (all_links net)
+    labels ← each label_cut (numbers_of_nodes net)
+    _ ← each inflow_rule (numbers_of_links net)
+    _ ← each link_rates (numbers_of_links net)
     loaded ← each (loading labels) (enumerate_from 0 net.links)
     _ ← compared C3 (Node net.source) (points_at labels net.source) (departures flow.reached) flow.reached
     _ ← each (arrivals labels loaded) (nodes_but net.source net)

@@ -87,32 +87,32 @@ group_of SinkAfter = 7
 group_of (Route e) = 8
 
 -- a link's inflow rates precede its outflow rates; the source is the first of the arrivals
-abbrev pub number_of : Network → Test → ℕ
-number_of net (Label v) = v
-number_of net (Inflow e) = e
-number_of net (InflowRates e) = 2 * e
-number_of net (OutflowRates e) = 2 * e + 1
-number_of net (Arrivals v) = if v == net.source then 0 else suc v
-number_of net (Outflow e) = e
-number_of net (Queue e) = e
-number_of net (Balance v) = v
-number_of net SinkBefore = 0
-number_of net SinkAfter = 1
-number_of net (Route e) = e
+abbrev pub test_number : Network → Test → ℕ
+test_number net (Label v) = v
+test_number net (Inflow e) = e
+test_number net (InflowRates e) = 2 * e
+test_number net (OutflowRates e) = 2 * e + 1
+test_number net (Arrivals v) = if v == net.source then 0 else suc v
+test_number net (Outflow e) = e
+test_number net (Queue e) = e
+test_number net (Balance v) = v
+test_number net SinkBefore = 0
+test_number net SinkAfter = 1
+test_number net (Route e) = e
 
 abbrev pub ComesBefore : Network → Test → Test → Type 0
 ComesBefore net test other = (group_of test < group_of other)
-    ⊎ ((group_of test ≡ group_of other) × (number_of net test < number_of net other))
+    ⊎ ((group_of test ≡ group_of other) × (test_number net test < test_number net other))
 
 -- ---- nodes and links in order
-abbrev pub all_nodes : Network → List ℕ
-all_nodes net = range_with_len 0 net.nodes
+abbrev pub numbers_of_nodes : Network → List ℕ
+numbers_of_nodes net = range_with_len 0 net.nodes
 
-abbrev pub all_links : Network → List ℕ
-all_links net = range_with_len 0 (length net.links)
+abbrev pub numbers_of_links : Network → List ℕ
+numbers_of_links net = range_with_len 0 (length net.links)
 
 abbrev pub nodes_but : ℕ → Network → List ℕ
-nodes_but v net = filter (λ w. not (w == v)) (all_nodes net)
+nodes_but v net = filter (λ w. not (w == v)) (numbers_of_nodes net)
 
 -- ---- the values that break a test: a time, and two values there that differ
 -- the first point with a negative value, of a curve cut at the time `last`
@@ -199,7 +199,7 @@ pub record IsArrival (net : Network) (flow : Flow) (v : ℕ) (departure arrival 
   pub other : v ≢ net.source → IsLeastExit net flow v departure arrival
 
 -- the sum of the outflows of the links into a node by a time, plus `extra`
-pub record IsIn (net : Network) (flow : Flow) (v : ℕ) (time extra sum : ℚ) : Type 0 where
+pub record IsInflowSum (net : Network) (flow : Flow) (v : ℕ) (time extra sum : ℚ) : Type 0 where
   pub outs : ℕ → ℚ
   pub outflows : (e : ℕ) (link : Link) → IsLink net e link → link.head ≡ v
       → IsOutflow link.transit link.capacity (inflow flow e) time (outs e)
@@ -215,7 +215,7 @@ pub record IsExtra (net : Network) (v : ℕ) (time extra : ℚ) : Type 0 where
   pub other : v ≢ net.source → extra ≡ 0ℚ
 
 abbrev pub IsInWithSupply : Network → Flow → ℕ → ℚ → ℚ → Type 0
-IsInWithSupply net flow v time sum = (extra : ℚ) × IsExtra net v time extra × IsIn net flow v time extra sum
+IsInWithSupply net flow v time sum = (extra : ℚ) × IsExtra net v time extra × IsInflowSum net flow v time extra sum
 
 -- ---- intervals of departures between consecutive corners of three curves
 abbrev pub IsStretch : List (List (ℚ × ℚ)) → ℚ → ℚ → ℚ → Type 0
@@ -271,10 +271,10 @@ Breaks net flow (Queue e) sides = (link : Link) × IsLink net e link
 Breaks net flow (Balance v) sides = DifferFirstBy (IsInWithSupply net flow v) (λ time sum. IsOut net flow v time 0ℚ sum)
     (end_at net flow v) sides
 Breaks net flow SinkBefore sides =
-    DifferFirstBy (λ time sum. IsIn net flow net.sink time 0ℚ sum) (λ time sum. IsOut net flow net.sink time 0ℚ sum)
+    DifferFirstBy (λ time sum. IsInflowSum net flow net.sink time 0ℚ sum) (λ time sum. IsOut net flow net.sink time 0ℚ sum)
     (label flow net.sink 0ℚ) sides
 Breaks net flow SinkAfter sides =
-    DifferFirstBy (λ departure sum. IsIn net flow net.sink (label flow net.sink departure) 0ℚ sum)
+    DifferFirstBy (λ departure sum. IsInflowSum net flow net.sink (label flow net.sink departure) 0ℚ sum)
     (λ departure sum. IsOut net flow net.sink (label flow net.sink departure) (supply net departure) sum) flow.reached sides
 Breaks net flow (Route e) sides = (link : Link) × IsLink net e link × TakesDetour flow e link sides
 

@@ -10,34 +10,34 @@ use Rattle.nf_load_def.specs.Loading as lists
 use Rattle.nf_check_def.specs.Curves.{loaded_at}
 use Rattle.nf_check_def.specs.CheckList as lists_of_check
 use Rattle.nf_curve.specs.Points.{Grown}
-use Rattle.nf_curve.specs.Flows.{trace_of}
+use Rattle.nf_curve.specs.Flows.{seen_trace}
 use Rattle.nf_curve.specs.declared.flow.Trace.{Trace}
 use Rattle.nf_load.specs.Loadings.{loaded_of}
 use Rattle.nf_load.specs.declared.loading.Loaded.{Loaded}
 use Rattle.nf_rational_laws.proofs.Entries.{slice_get-image}
-use Rattle.nf_check_rules.specs.Kept.{curves_of, loadings_of}
+use Rattle.nf_check_rules.specs.Kept.{points_of_each, loadings_of}
 
 module _ (curves : List Grown) (k : ℕ) (curve : Grown) (is : slice_get curves k ≡ Some curve) where
-  pub curve_there : curve.points ≡ points_at (curves_of curves) k
+  pub curve_there : curve.points ≡ points_at (points_of_each curves) k
   curve_there = sym (ap (λ (o : Option (List Point)). unwrap_or o []) (slice_get-image (λ (c : Grown). c.points) curves k curve is))
 
 -- one more of the first curves
 pub curves_more : (curves : List Grown) (k : ℕ) (curve : Grown) → slice_get curves k ≡ Some curve
-    → take (k + 1) (curves_of curves) ≡ take k (curves_of curves) ++ points_at (curves_of curves) k ∷ []
+    → take (k + 1) (points_of_each curves) ≡ take k (points_of_each curves) ++ points_at (points_of_each curves) k ∷ []
 curves_more curves k curve is =
-    let there : slice_get (curves_of curves) k ≡ Some curve.points = slice_get-image (λ (c : Grown). c.points) curves k curve is in
-    take_more (curves_of curves) k [] (slice_get_within (curves_of curves) k curve.points there)
-    ∙ ap (λ (x : List Point). take k (curves_of curves) ++ x ∷ []) (get_or_from_slice_get (curves_of curves) k curve.points [] there ∙ curve_there curves k curve is)
+    let there : slice_get (points_of_each curves) k ≡ Some curve.points = slice_get-image (λ (c : Grown). c.points) curves k curve is in
+    take_more (points_of_each curves) k [] (slice_get_within (points_of_each curves) k curve.points there)
+    ∙ ap (λ (x : List Point). take k (points_of_each curves) ++ x ∷ []) (get_or_from_slice_get (points_of_each curves) k curve.points [] there ∙ curve_there curves k curve is)
 
 module _ (traces : List Trace) (k : ℕ) (trace : Trace) (is : slice_get traces k ≡ Some trace) where
-  pub trace_there : slice_get (map trace_of traces) k ≡ Some (trace_of trace)
-  trace_there = slice_get-image trace_of traces k trace is
+  pub trace_there : slice_get (map seen_trace traces) k ≡ Some (seen_trace trace)
+  trace_there = slice_get-image seen_trace traces k trace is
 
-  pub trace_same : trace_of trace ≡ lists_of_check.trace_of (map trace_of traces) k
+  pub trace_same : seen_trace trace ≡ lists_of_check.trace_of (map seen_trace traces) k
   trace_same = sym (ap (λ (o : Option model.Trace). unwrap_or o (record { points = []; rates = [] })) trace_there)
 
-  pub trace_points : trace.curve.points ≡ points_at (points_of (map trace_of traces)) k
-  trace_points = sym (ap (λ (o : Option (List Point)). unwrap_or o []) (slice_get-image (λ (t : model.Trace). t.points) (map trace_of traces) k (trace_of trace) trace_there))
+  pub trace_points : trace.curve.points ≡ points_at (points_of (map seen_trace traces)) k
+  trace_points = sym (ap (λ (o : Option (List Point)). unwrap_or o []) (slice_get-image (λ (t : model.Trace). t.points) (map seen_trace traces) k (seen_trace trace) trace_there))
 
 module _ (loaded : List Loaded) (k : ℕ) (one : Loaded) (is : slice_get loaded k ≡ Some one) where
   pub loaded_there : loaded_of one ≡ loaded_at (loadings_of loaded) k
@@ -51,13 +51,13 @@ one_more P i all here k h = ⊎_elim
     (eqb_tells k i)
 
 pub next_curve : (P : List Point → Type 0) (curves : List Grown) (i : ℕ) (curve : Grown) → i < length curves → curve ≡ get_or curves i curve
-    → P curve.points → ((k : ℕ) → k < i → P (points_at (curves_of curves) k))
-    → (k : ℕ) → k < i + 1 → P (points_at (curves_of curves) k)
-next_curve P curves i curve h is c all = one_more (λ k. P (points_at (curves_of curves) k)) i all
+    → P curve.points → ((k : ℕ) → k < i → P (points_at (points_of_each curves) k))
+    → (k : ℕ) → k < i + 1 → P (points_at (points_of_each curves) k)
+next_curve P curves i curve h is c all = one_more (λ k. P (points_at (points_of_each curves) k)) i all
     (subst P (curve_there curves i curve (slice_get_read curves _ i curve refl h is)) c)
 
 pub next_trace : (traces : List Trace) (i : ℕ) (trace : Trace) → i < length traces → trace ≡ get_or traces i trace → IsCurve trace.curve.points
-    → ((k : ℕ) → k < i → IsCurve (points_at (points_of (map trace_of traces)) k))
-    → (k : ℕ) → k < i + 1 → IsCurve (points_at (points_of (map trace_of traces)) k)
-next_trace traces i trace h is c all = one_more (λ k. IsCurve (points_at (points_of (map trace_of traces)) k)) i all
+    → ((k : ℕ) → k < i → IsCurve (points_at (points_of (map seen_trace traces)) k))
+    → (k : ℕ) → k < i + 1 → IsCurve (points_at (points_of (map seen_trace traces)) k)
+next_trace traces i trace h is c all = one_more (λ k. IsCurve (points_at (points_of (map seen_trace traces)) k)) i all
     (subst (λ (l : List Point). IsCurve l) (trace_points traces i trace (slice_get_read traces _ i trace refl h is)) c)

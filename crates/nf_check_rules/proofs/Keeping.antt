@@ -26,7 +26,7 @@ use Rattle.nf_curve.proofs.Exits.{was_ok}
 use Rattle.nf_rational_laws.proofs.Entries.{set_cases}
 use Rattle.nf_check_rules.specs.declared.exits.Exits.{Exits}
 use Rattle.nf_check_rules.specs.declared.worked.Worked.{Worked}
-use Rattle.nf_check_rules.specs.Exits.{AreKept, Keeps, exits_along}
+use Rattle.nf_check_rules.specs.Exits.{AreStored, KeepsExits, exits_by_departure}
 use Rattle.nf_check_rules.specs.Sent.{short_exits, sent_list, known_list}
 use Rattle.nf_check_rules.specs.Views.{network_in, labels_in, loaded_in}
 use Rattle.nf_check_rules.specs.Trials.{of_halt, EndsAs}
@@ -37,7 +37,7 @@ pub same_some : {A : Type 0} (x y : A) → Some x ≡ Some y → x ≡ y
 same_some x y e = cc
 
 -- ---- exits that are kept
-pub none_kept : (worked : Worked) (exits : Exits) → exits.kept.items ≡ replicate (length (network_in worked).links) None → AreKept worked exits
+pub none_kept : (worked : Worked) (exits : Exits) → exits.kept.items ≡ replicate (length (network_in worked).links) None → AreStored worked exits
 none_kept worked exits is = record {
   count = ap (λ (l : List (Option Grown)). length l) is ∙ length-replicate (length (network_in worked).links) None;
   kept = λ e link curve there at. absurd (nothing (length (network_in worked).links) e curve (sym (ap (λ (l : List (Option Grown)). slice_get l e) is) ∙ at));
@@ -48,11 +48,11 @@ none_kept worked exits is = record {
     nothing (suc n) zero curve at = cc
     nothing (suc n) (suc e) curve at = nothing n e curve at
 
-module _ (worked : Worked) (old new : Exits) (before : AreKept worked old) (e : ℕ) where
+module _ (worked : Worked) (old new : Exits) (before : AreStored worked old) (e : ℕ) where
   module _ (link : Link) (there : IsLink (network_in worked) e link) where
     pub keep_kept : (points : List Point) → at_part Check (checked_composed passes_Q (loaded_at (loaded_in worked) e).exit
-        (points_at (labels_in worked) link.tail) worked.flow.now.reached) ≡ Ok points → Keeps e points old new
-        → AreKept worked new
+        (points_at (labels_in worked) link.tail) worked.flow.now.reached) ≡ Ok points → KeepsExits e points old new
+        → AreStored worked new
     keep_kept points came (inl same) = record {
       count = ap (λ (l : List (Option Grown)). length l) same ∙ before.count;
       kept = λ f other curve is at. before.kept f other curve is (sym (ap (λ (l : List (Option Grown)). slice_get l f) same) ∙ at);
@@ -62,31 +62,31 @@ module _ (worked : Worked) (old new : Exits) (before : AreKept worked old) (e : 
       kept = λ f other curve is at. by_place f other curve is (set_cases old.kept.items e f (Some w.0) (Some curve) (sym (ap (λ (l : List (Option Grown)). slice_get l f) w.1) ∙ at));
     }
       where
-        here : exits_along worked e link ≡ Ok w.0.points
+        here : exits_by_departure worked e link ≡ Ok w.0.points
         here = ap (λ (r : Checked (List Point)). r >>= λ exits. checked_short passes_Q exits)
             (was_ok Check (checked_composed passes_Q (loaded_at (loaded_in worked) e).exit (points_at (labels_in worked) link.tail) worked.flow.now.reached)
             points came) ∙ w.2
 
         by_place : (f : ℕ) (other : Link) (curve : Grown) → IsLink (network_in worked) f other
-            → ((f ≡ e) × (Some curve ≡ Some w.0)) ⊎ (slice_get old.kept.items f ≡ Some (Some curve)) → exits_along worked f other ≡ Ok curve.points
+            → ((f ≡ e) × (Some curve ≡ Some w.0)) ⊎ (slice_get old.kept.items f ≡ Some (Some curve)) → exits_by_departure worked f other ≡ Ok curve.points
         by_place f other curve is (inl d) =
             let one : link ≡ other = same_some link other (sym there ∙ ap (λ (k : ℕ). slice_get (network_in worked).links k) (sym d.0) ∙ is) in
-            ap (λ (k : ℕ). exits_along worked k other) d.0 ∙ ap (λ (l : Link). exits_along worked e l) (sym one) ∙ here ∙ ap (λ (c : Grown). Ok c.points) (sym (same_some curve w.0 d.1))
+            ap (λ (k : ℕ). exits_by_departure worked k other) d.0 ∙ ap (λ (l : Link). exits_by_departure worked e l) (sym one) ∙ here ∙ ap (λ (c : Grown). Ok c.points) (sym (same_some curve w.0 d.1))
         by_place f other curve is (inr d) = before.kept f other curve is d
 
     -- those of a link, if they are kept
-    pub known_kept : (kept : Option Grown) → slice_get old.kept.items e ≡ Some kept → IfSome kept (λ exits. exits_along worked e link ≡ Ok exits.points)
+    pub known_kept : (kept : Option Grown) → slice_get old.kept.items e ≡ Some kept → IfSome kept (λ exits. exits_by_departure worked e link ≡ Ok exits.points)
     known_kept None at = tt
     known_kept (Some curve) at = before.kept e link curve there at
 
-  pub take_kept : new.kept.items ≡ set old.kept.items e None → AreKept worked new
+  pub take_kept : new.kept.items ≡ set old.kept.items e None → AreStored worked new
   take_kept gone = record {
     count = ap (λ (l : List (Option Grown)). length l) gone ∙ length-set old.kept.items e None ∙ before.count;
     kept = λ f other curve is at. by_place f other curve is (set_cases old.kept.items e f None (Some curve) (sym (ap (λ (l : List (Option Grown)). slice_get l f) gone) ∙ at));
   }
     where
       by_place : (f : ℕ) (other : Link) (curve : Grown) → IsLink (network_in worked) f other
-          → ((f ≡ e) × (Some curve ≡ None)) ⊎ (slice_get old.kept.items f ≡ Some (Some curve)) → exits_along worked f other ≡ Ok curve.points
+          → ((f ≡ e) × (Some curve ≡ None)) ⊎ (slice_get old.kept.items f ≡ Some (Some curve)) → exits_by_departure worked f other ≡ Ok curve.points
       by_place f other curve is (inl d) = let no = d.1 in absurd (cc)
       by_place f other curve is (inr d) = before.kept f other curve is d
 

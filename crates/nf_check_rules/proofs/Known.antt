@@ -19,19 +19,19 @@ use Rattle.nf_check_def.specs.declared.CheckRule.{CheckRule}
 use Rattle.nf_check_def.specs.declared.CheckRule.TheVariants.{C1}
 use Rattle.nf_check_def.specs.declared.Subject.{Subject}
 use Rattle.nf_check_def.specs.declared.Subject.TheVariants.{Node, Link as OfLink}
-use Rattle.nf_check_def.specs.Rules.{Inflow, Holds, all_nodes, all_links}
+use Rattle.nf_check_def.specs.Rules.{Inflow, Holds, numbers_of_nodes, numbers_of_links}
 use Rattle.nf_check_def.specs.Trial.{Trial, in_part, unless}
 use Rattle.nf_check_def.specs.PointRules.{negative_point, inflow_fault}
 use Rattle.nf_check_def.specs.CheckList.{label_cut, inflow_rule, loading}
 use Rattle.nf_check_laws.specs.Laws.{CanBeChecked}
 use Rattle.nf_check_laws.proofs.Points.{IsLabel, cut_of, label-cut, negative-none, decides-inflow, value_from_all}
 use Rattle.nf_curve.specs.Points.{Grown}
-use Rattle.nf_curve.specs.Flows.{flow_of, trace_of}
+use Rattle.nf_curve.specs.Flows.{seen_flow, seen_trace}
 use Rattle.nf_curve.specs.declared.flow.Flow as code
 use Rattle.nf_load.specs.Loadings.{loaded_of}
 use Rattle.nf_load.specs.declared.loading.Loaded.{Loaded}
 use Rattle.nf_rational_laws.proofs.Results.{same_Ok}
-use Rattle.nf_check_rules.specs.Kept.{IsFromZero, IsWorked, curves_of, loadings_of}
+use Rattle.nf_check_rules.specs.Kept.{IsFromZero, IsWorked, points_of_each, loadings_of}
 use Rattle.nf_check_rules.specs.Trials.{done}
 use Rattle.nf_check_rules.proofs.PointByPoint.{all_from_0}
 use Rattle.nf_check_rules.proofs.Trying.{Came, done_came, goes_on}
@@ -116,17 +116,17 @@ module _ (passes : Passing) (net : Network) (flow : Flow) (given : CanBeChecked 
       let l : IsLabel net flow given v (cut_of net flow given v) = label-cut net flow given v h (subst (λ (c : List Point). negative_point c ≡ None) exact none) in
       subst (λ (c : List Point). IsFromZero c) is (record { curve = subst (λ (c : List Point). IsCurve c) (sym exact) l.curve; none_negative = negative-none w.first none })
 
-  pub labels_known : (labels : List (List Point)) → each (label_cut passes net flow) (all_nodes net) ≡ Ok labels → (v : ℕ) → v < net.nodes → IsFromZero (points_at labels v)
+  pub labels_known : (labels : List (List Point)) → each (label_cut passes net flow) (numbers_of_nodes net) ≡ Ok labels → (v : ℕ) → v < net.nodes → IsFromZero (points_at labels v)
   labels_known labels e v h = cut_came v (points_at labels v) h
       (subst (λ (j : ℕ). label_cut passes net flow j ≡ Ok (points_at labels v)) (from_0 v) (each_at (label_cut passes net flow) [] net.nodes 0 v labels e h))
 
-  pub labels_many : (labels : List (List Point)) → each (label_cut passes net flow) (all_nodes net) ≡ Ok labels → length labels ≡ net.nodes
+  pub labels_many : (labels : List (List Point)) → each (label_cut passes net flow) (numbers_of_nodes net) ≡ Ok labels → length labels ≡ net.nodes
   labels_many labels e = each_many (label_cut passes net flow) net.nodes 0 labels e
 
   -- ---- the inflows
-  pub inflows_known : done (each (inflow_rule passes net flow) (all_links net)) ≡ Ok tt → (e : ℕ) → e < length net.links → Holds net flow (Inflow e)
+  pub inflows_known : done (each (inflow_rule passes net flow) (numbers_of_links net)) ≡ Ok tt → (e : ℕ) → e < length net.links → Holds net flow (Inflow e)
   inflows_known d e h =
-      let w = done_came (each (inflow_rule passes net flow) (all_links net)) d in
+      let w = done_came (each (inflow_rule passes net flow) (numbers_of_links net)) d in
       let v : Came (inflow_rule passes net flow e) = subst (λ (j : ℕ). Came (inflow_rule passes net flow j)) (from_0 e)
       (each_came (inflow_rule passes net flow) (length net.links) 0 e w.value w.is h) in
       (decides-inflow net flow given e h).holds (unless_came C1 (OfLink e) (inflow_fault (points_at (points_of flow.inflows) e)) v.value v.is)
@@ -140,8 +140,8 @@ never_negative [] k t h = absurd k.curve
 never_negative (p ∷ rest) k t h = value_from_all 0ℚ p rest t k.curve.1 k.none_negative (subst (λ (z : ℚ). z ≤ℚ t) (sym k.curve.0) h)
 
 pub labels_in_number : (passes : Passing) (net : Network) (flow : Flow) → CanBeChecked net flow → (labels : List Grown)
-    → each (label_cut passes net flow) (all_nodes net) ≡ Ok (curves_of labels) → length labels ≡ net.nodes
-labels_in_number passes net flow given labels e = sym (length-map labels (λ (c : Grown). c.points)) ∙ labels_many passes net flow given (curves_of labels) e
+    → each (label_cut passes net flow) (numbers_of_nodes net) ≡ Ok (points_of_each labels) → length labels ≡ net.nodes
+labels_in_number passes net flow given labels e = sym (length-map labels (λ (c : Grown). c.points)) ∙ labels_many passes net flow given (points_of_each labels) e
 
 -- such a label is cut without an operation, and C1 is tested for it
 pub label_cut_whole : (passes : Passing) (net : Network) (flow : Flow) (v : ℕ) (label : List Point) → label ≡ points_at flow.labels v → checked_cut passes label flow.reached ≡ Ok label
@@ -157,15 +157,15 @@ pub loaded_in_number : (passes : Passing) (net : Network) (flow : Flow) (labels 
 loaded_in_number passes net flow labels loaded e = sym (length-map loaded loaded_of) ∙ loaded_many (loading passes net flow labels) net.links (loadings_of loaded) e
 
 -- ---- what was worked out
-pub worked_known : (passes : Passing) (net : Network) (flow : code.Flow) (given : CanBeChecked net (flow_of flow)) (labels : List Grown)
-    (loaded : List Loaded) → each (label_cut passes net (flow_of flow)) (all_nodes net) ≡ Ok (curves_of labels)
+pub worked_known : (passes : Passing) (net : Network) (flow : code.Flow) (given : CanBeChecked net (seen_flow flow)) (labels : List Grown)
+    (loaded : List Loaded) → each (label_cut passes net (seen_flow flow)) (numbers_of_nodes net) ≡ Ok (points_of_each labels)
     → length loaded ≡ length net.links → IsWorked net flow labels loaded
 worked_known passes net flow given labels loaded e links = record {
   reached = given.reached;
-  nodes = labels_in_number passes net (flow_of flow) given labels e;
-  labels = λ v h i p at. all_from_0 (points_at (curves_of labels) v) i p at (labels_known passes net (flow_of flow) given (curves_of labels) e v h).none_negative;
-  inflows = sym (length-map flow.inflows.items trace_of) ∙ sym (length-map (map trace_of flow.inflows.items) (λ (t : Trace). t.points)) ∙ given.shape.inflows.count;
-  outflows = sym (length-map flow.outflows.items trace_of) ∙ sym (length-map (map trace_of flow.outflows.items) (λ (t : Trace). t.points)) ∙ given.shape.outflows.count;
+  nodes = labels_in_number passes net (seen_flow flow) given labels e;
+  labels = λ v h i p at. all_from_0 (points_at (points_of_each labels) v) i p at (labels_known passes net (seen_flow flow) given (points_of_each labels) e v h).none_negative;
+  inflows = sym (length-map flow.inflows.items seen_trace) ∙ sym (length-map (map seen_trace flow.inflows.items) (λ (t : Trace). t.points)) ∙ given.shape.inflows.count;
+  outflows = sym (length-map flow.outflows.items seen_trace) ∙ sym (length-map (map seen_trace flow.outflows.items) (λ (t : Trace). t.points)) ∙ given.shape.outflows.count;
   queues = sym (length-map flow.queues.items (λ (c : Grown). c.points)) ∙ given.shape.queues.count;
   links = links;
 }

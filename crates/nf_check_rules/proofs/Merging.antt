@@ -12,11 +12,11 @@ use Rattle.nf_rational_laws.proofs.Extremes.{min_is_left, min_is_right}
 use Rattle.nf_model.specs.Curve.{Point, TimesRise, IsCurve}
 use Rattle.nf_curve_def.specs.Times.{merged, merged_from, times_of}
 use Rattle.nf_curve_laws.proofs.Times.{merged_from-cases}
-use Rattle.nf_curve.specs.Places.{place_of, later, earlier_of}
+use Rattle.nf_curve.specs.Places.{count_until, points_after, earlier_of}
 use Rattle.nf_curve.proofs.Placing.{curve-rises, place-rises}
-use Rattle.nf_curve.proofs.Walking.{head_of, place-head, later-steps, later-none, later-first, earlier-left, earlier-right, time-first}
+use Rattle.nf_curve.proofs.Walking.{head_of, place-head, points_after-steps, points_after-none, points_after-first, earlier-left, earlier-right, time-first}
 use Rattle.nf_check_def.specs.Routes.{three_times}
-use Rattle.nf_check_rules.specs.Sent.{AreCurves, ArePlaces, first_time, three_after}
+use Rattle.nf_check_rules.specs.Sent.{AreSentCurves, ArePlaces, first_time, three_after}
 use Rattle.nf_check_rules.specs.declared.sent.Sent.{Sent}
 use Rattle.nf_check_rules.specs.declared.sent.Places.{Places}
 
@@ -65,17 +65,17 @@ module _ (time : ℚ) where
       (lt_ℚ_cases time x)
 
   module _ (now : ℚ) (points : List Point) (r : TimesRise points) (after : now <ℚ time) where
-    curve-leaves : (rest : List Point) → later now points ≡ rest → IfSome (head_of rest) (λ x. time ≤ℚ x)
-        → Leaves time (is_first (head_of rest)) (times_of rest) (times_of (later time points))
+    curve-leaves : (rest : List Point) → points_after now points ≡ rest → IfSome (head_of rest) (λ x. time ≤ℚ x)
+        → Leaves time (is_first (head_of rest)) (times_of rest) (times_of (points_after time points))
     unfolding is_first
-    curve-leaves [] e h = subst (λ (l : List Point). Leaves time false [] (times_of l)) (sym (later-none now time points e (≤ℚ_of_lt _ _ after))) none
+    curve-leaves [] e h = subst (λ (l : List Point). Leaves time false [] (times_of l)) (sym (points_after-none now time points e (≤ℚ_of_lt _ _ after))) none
     curve-leaves (p ∷ rest) e h =
-        let s = later-steps now points p rest r e in
+        let s = points_after-steps now points p rest r e in
         ⊎_elim
-        (λ (w : (lt_ℚ time p.0 ≡ true) × (time <ℚ p.0)). subst (λ (b : Bool). Leaves time (not b) (p.0 ∷ times_of rest) (times_of (later time points))) (sym w.0)
+        (λ (w : (lt_ℚ time p.0 ≡ true) × (time <ℚ p.0)). subst (λ (b : Bool). Leaves time (not b) (p.0 ∷ times_of rest) (times_of (points_after time points))) (sym w.0)
         (subst (λ (l : List Point). Leaves time false (p.0 ∷ times_of rest) (times_of l)) (sym (s.stays time (≤ℚ_of_lt _ _ after) w.1)) (waits p.0 (times_of rest) w.1)))
-        (λ (w : (lt_ℚ time p.0 ≡ false) × (p.0 ≤ℚ time)). subst (λ (b : Bool). Leaves time (not b) (p.0 ∷ times_of rest) (times_of (later time points))) (sym w.0)
-        (subst (λ (l : List Point). Leaves time true (p.0 ∷ times_of rest) (times_of l)) (sym (ap (λ (t : ℚ). later t points) (≤ℚ_antisymm time p.0 h w.1) ∙ s.next))
+        (λ (w : (lt_ℚ time p.0 ≡ false) × (p.0 ≤ℚ time)). subst (λ (b : Bool). Leaves time (not b) (p.0 ∷ times_of rest) (times_of (points_after time points))) (sym w.0)
+        (subst (λ (l : List Point). Leaves time true (p.0 ∷ times_of rest) (times_of l)) (sym (ap (λ (t : ℚ). points_after t points) (≤ℚ_antisymm time p.0 h w.1) ∙ s.next))
         (leaves p.0 (times_of rest) (≤ℚ_antisymm time p.0 h w.1))))
         (lt_ℚ_cases time p.0)
 
@@ -109,15 +109,15 @@ head_none (p ∷ rest) e = absurd (cc)
 -- ---- the times of three curves after a time
 module _ (taken exits labels : List Point) (c : TimesRise taken) (d : TimesRise exits) (e : TimesRise labels) (now : ℚ) where
   abbrev first_of : List Point → Option ℚ
-  first_of points = head_of (later now points)
+  first_of points = head_of (points_after now points)
 
   pub three-end : earlier_of (earlier_of (first_of taken) (first_of exits)) (first_of labels) ≡ None → three_after now taken exits labels ≡ []
   three-end h =
       let w = two_ended (earlier_of (first_of taken) (first_of exits)) (first_of labels) h in
       let v = two_ended (first_of taken) (first_of exits) w.0 in
-      ap (λ (l : List Point). merged (merged (times_of l) (times_of (later now exits))) (times_of (later now labels))) (head_none (later now taken) v.0)
-      ∙ ap (λ (l : List Point). merged (times_of l) (times_of (later now labels))) (head_none (later now exits) v.1)
-      ∙ ap times_of (head_none (later now labels) w.1)
+      ap (λ (l : List Point). merged (merged (times_of l) (times_of (points_after now exits))) (times_of (points_after now labels))) (head_none (points_after now taken) v.0)
+      ∙ ap (λ (l : List Point). merged (times_of l) (times_of (points_after now labels))) (head_none (points_after now exits) v.1)
+      ∙ ap times_of (head_none (points_after now labels) w.1)
 
   -- the earliest of the three comes next
   pub record Next (time : ℚ) : Type 0 where
@@ -144,16 +144,16 @@ module _ (taken exits labels : List Point) (c : TimesRise taken) (d : TimesRise 
         (λ (w : first_of labels ≡ Some time). inr (inr w))
         (one_of_two (earlier_of (first_of taken) (first_of exits)) (first_of labels) time h)
 
-    by_curve : (points rest : List Point) → TimesRise points → later now points ≡ rest → head_of rest ≡ Some time → now <ℚ time
+    by_curve : (points rest : List Point) → TimesRise points → points_after now points ≡ rest → head_of rest ≡ Some time → now <ℚ time
     by_curve points [] r f g = absurd (cc)
-    by_curve points (p ∷ rest) r f g = subst (λ (t : ℚ). now <ℚ t) (same_Some _ _ g) (later-steps now points p rest r f).after
+    by_curve points (p ∷ rest) r f g = subst (λ (t : ℚ). now <ℚ t) (same_Some _ _ g) (points_after-steps now points p rest r f).after
 
     is_later : now <ℚ time
     is_later = ⊎_elim
-        (λ (w : first_of taken ≡ Some time). by_curve taken (later now taken) c refl w)
+        (λ (w : first_of taken ≡ Some time). by_curve taken (points_after now taken) c refl w)
         (λ (w : (first_of exits ≡ Some time) ⊎ (first_of labels ≡ Some time)). ⊎_elim
-        (λ (v : first_of exits ≡ Some time). by_curve exits (later now exits) d refl v)
-        (λ (v : first_of labels ≡ Some time). by_curve labels (later now labels) e refl v) w)
+        (λ (v : first_of exits ≡ Some time). by_curve exits (points_after now exits) d refl v)
+        (λ (v : first_of labels ≡ Some time). by_curve labels (points_after now labels) e refl v) w)
         one_of_three
 
     found : (o : Option ℚ) → o ≡ Some time → is_first time o ≡ true
@@ -177,8 +177,8 @@ module _ (taken exits labels : List Point) (c : TimesRise taken) (d : TimesRise 
     all_leave : Leaves time ((is_first time (first_of taken) || is_first time (first_of exits)) || is_first time (first_of labels))
         (three_after now taken exits labels) (three_after time taken exits labels)
     all_leave = merged-leaves time
-        (merged-leaves time (curve-leaves time now taken c is_later (later now taken) refl at_each.0) (curve-leaves time now exits d is_later (later now exits) refl at_each.1))
-        (curve-leaves time now labels e is_later (later now labels) refl at_labels)
+        (merged-leaves time (curve-leaves time now taken c is_later (points_after now taken) refl at_each.0) (curve-leaves time now exits d is_later (points_after now exits) refl at_each.1))
+        (curve-leaves time now labels e is_later (points_after now labels) refl at_labels)
 
     pub three-goes : Next time
     three-goes = record {
@@ -195,30 +195,30 @@ pub three-begin : (taken exits labels : List Point) → IsCurve taken → IsCurv
 three-begin taken exits labels c d e = left_first 0ℚ
     (merged-leaves 0ℚ (merged-leaves 0ℚ (starts taken c) (starts exits d)) (starts labels e))
   where
-    starts : (points : List Point) → IsCurve points → Leaves 0ℚ true (times_of points) (times_of (later 0ℚ points))
+    starts : (points : List Point) → IsCurve points → Leaves 0ℚ true (times_of points) (times_of (points_after 0ℚ points))
     starts [] c = absurd c
     starts (p ∷ rest) c = subst (λ (l : List Point). Leaves 0ℚ true (p.0 ∷ times_of rest) (times_of l))
-        (sym (ap (λ (t : ℚ). later t (p ∷ rest)) (sym c.0) ∙ later-first p rest c.1)) (leaves p.0 (times_of rest) (sym c.0))
+        (sym (ap (λ (t : ℚ). points_after t (p ∷ rest)) (sym c.0) ∙ points_after-first p rest c.1)) (leaves p.0 (times_of rest) (sym c.0))
 
 -- ---- the next time, by the point counts of a departure
-module _ (sent : Sent) (curves : AreCurves sent) (places : Places) (now : ℚ) (there : ArePlaces sent now places) where
+module _ (sent : Sent) (curves : AreSentCurves sent) (places : Places) (now : ℚ) (there : ArePlaces sent now places) where
   abbrev NextOf : ℚ → Type 0
   NextOf time =
       Next sent.taken.points sent.exits.points sent.labels.points (curve-rises sent.taken.points curves.taken) (curve-rises sent.exits.points curves.exits)
       (curve-rises sent.labels.points curves.labels) now time
 
-  at_place : (points : List Point) (k : ℕ) → k ≡ place_of now points → option_map (λ (p : Point). p.0) (slice_get points k) ≡ head_of (later now points)
+  at_place : (points : List Point) (k : ℕ) → k ≡ count_until now points → option_map (λ (p : Point). p.0) (slice_get points k) ≡ head_of (points_after now points)
   at_place points k e = ap (λ (n : ℕ). option_map (λ (p : Point). p.0) (slice_get points n)) e ∙ place-head now points
 
-  first_is_earliest : first_time sent places ≡ earlier_of (earlier_of (head_of (later now sent.taken.points)) (head_of (later now sent.exits.points)))
-      (head_of (later now sent.labels.points))
+  first_is_earliest : first_time sent places ≡ earlier_of (earlier_of (head_of (points_after now sent.taken.points)) (head_of (points_after now sent.exits.points)))
+      (head_of (points_after now sent.labels.points))
   first_is_earliest =
       let all : Option ℚ → Option ℚ → Option ℚ → Option ℚ = λ s t u. earlier_of (earlier_of s t) u in
       ap (λ (o : Option ℚ). all o (option_map (λ (p : Point). p.0) (slice_get sent.exits.points places.exits))
       (option_map (λ (p : Point). p.0) (slice_get sent.labels.points places.labels))) (at_place sent.taken.points places.taken there.taken)
-      ∙ ap (λ (o : Option ℚ). all (head_of (later now sent.taken.points)) o (option_map (λ (p : Point). p.0) (slice_get sent.labels.points places.labels)))
+      ∙ ap (λ (o : Option ℚ). all (head_of (points_after now sent.taken.points)) o (option_map (λ (p : Point). p.0) (slice_get sent.labels.points places.labels)))
       (at_place sent.exits.points places.exits there.exits)
-      ∙ ap (λ (o : Option ℚ). all (head_of (later now sent.taken.points)) (head_of (later now sent.exits.points)) o) (at_place sent.labels.points places.labels there.labels)
+      ∙ ap (λ (o : Option ℚ). all (head_of (points_after now sent.taken.points)) (head_of (points_after now sent.exits.points)) o) (at_place sent.labels.points places.labels there.labels)
 
   pub none_next : first_time sent places ≡ None → three_after now sent.taken.points sent.exits.points sent.labels.points ≡ []
   none_next e =
@@ -231,12 +231,12 @@ module _ (sent : Sent) (curves : AreCurves sent) (places : Places) (now : ℚ) (
       (curve-rises sent.exits.points curves.exits) (curve-rises sent.labels.points curves.labels) now time (sym first_is_earliest ∙ e)
 
   -- what moving on to the next time asks of each curve
-  pub next_from : (time : ℚ) (points : List Point) (k : ℕ) → k ≡ place_of now points → now <ℚ time → k ≤ place_of time points
+  pub next_from : (time : ℚ) (points : List Point) (k : ℕ) → k ≡ count_until now points → now <ℚ time → k ≤ count_until time points
   next_from time points k e h = let w = place-rises now time points (≤ℚ_of_lt _ _ h) in omega arith
 
-  pub next_there : (time : ℚ) (points : List Point) (k : ℕ) → k ≡ place_of now points → IfSome (head_of (later now points)) (λ x. time ≤ℚ x)
+  pub next_there : (time : ℚ) (points : List Point) (k : ℕ) → k ≡ count_until now points → IfSome (head_of (points_after now points)) (λ x. time ≤ℚ x)
       → IfSome (slice_get points k) (λ p. time ≤ℚ p.0)
-  next_there time points k e h = time-first points k (head_of (later now points)) time (sym (at_place points k e)) h
+  next_there time points k e h = time-first points k (head_of (points_after now points)) time (sym (at_place points k e)) h
 
 -- ---- each step leaves fewer times
 pub fewer_after : (times rest : List ℚ) (next : ℚ) → times ≡ next ∷ rest → length rest < length times

@@ -25,10 +25,10 @@ use Rattle.nf_curve.proofs.Exits.{after_err, after_ok, was_ok}
 use Rattle.nf_check_def.specs.Routes.{three_times, checked_middle, on_rising, on_stretch, or_later, stretches_from, all_stretches, detour_list}
 use Rattle.nf_curve.specs.Differences.{difference_of}
 use Rattle.nf_curve.specs.declared.curve.Difference.{Difference}
-use Rattle.nf_check_rules.specs.Sent.{ArePlaces, AreWithin, sent_list}
+use Rattle.nf_check_rules.specs.Sent.{ArePlaces, ArePlacesWithin, sent_list}
 use Rattle.nf_curve.proofs.Placing.{place_within}
 use Rattle.nf_check_rules.specs.declared.sent.Places.{Places}
-use Rattle.nf_check_rules.specs.Departures.{IsDeparture}
+use Rattle.nf_check_rules.specs.Departures.{IsSentDeparture}
 use Rattle.nf_check_rules.specs.declared.sent.Sent.{Sent}
 use Rattle.nf_check_rules.specs.declared.stretches.Departure.{Departure}
 
@@ -160,10 +160,10 @@ middle_from passes first next time h k e =
     over first next time sum h k e f = linear_le (first ∷ next ∷ time ∷ sum ∷ []) (le h ∷ le k ∷ eq e ∷ eq f ∷ []) (search reading_of depth 12) tt
 
 -- ---- a departure whose sides are known then
-pub with_sides : (sent : Sent) (there now : Departure) → IsDeparture sent there → (sides : Difference)
+pub with_sides : (sent : Sent) (there now : Departure) → IsSentDeparture sent there → (sides : Difference)
     → at_part Check (sides_at passes_Q sent.exits.points sent.labels.points there.time) ≡ Ok (difference_of sides)
-    → now ≡ record there { sides = Some sides } → IsDeparture sent now
-with_sides sent there now known sides e is = subst (λ (d : Departure). IsDeparture sent d) (sym is) (record {
+    → now ≡ record there { sides = Some sides } → IsSentDeparture sent now
+with_sides sent there now known sides e is = subst (λ (d : Departure). IsSentDeparture sent d) (sym is) (record {
   from_zero = known.from_zero;
   places = known.places;
   within = known.within;
@@ -185,7 +185,7 @@ pub no_sides : {P : Type 0} (sides : Difference) → None ≡ Some sides → P
 no_sides sides e = absurd (cc)
 
 -- point counts never exceed the curves' lengths
-pub places-within : (sent : Sent) (places : Places) (time : ℚ) → ArePlaces sent time places → AreWithin sent places
+pub places-within : (sent : Sent) (places : Places) (time : ℚ) → ArePlaces sent time places → ArePlacesWithin sent places
 places-within sent places time there =
     let a = place_within time sent.taken.points in
     let b = place_within time sent.exits.points in

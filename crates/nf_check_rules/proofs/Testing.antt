@@ -15,7 +15,7 @@ use Rattle.nf_model.specs.Equilibrium.{Flow, points_at, points_of}
 use Rattle.nf_load_def.specs.Cumulative.{checked_cumulative}
 use Rattle.nf_check_def.specs.declared.CheckRule.TheVariants.{C3, C7}
 use Rattle.nf_check_def.specs.declared.Subject.TheVariants.{Node}
-use Rattle.nf_check_def.specs.Rules.{all_nodes, all_links, nodes_but}
+use Rattle.nf_check_def.specs.Rules.{numbers_of_nodes, numbers_of_links, nodes_but}
 use Rattle.nf_check_def.specs.Trial.{Trial, in_part}
 use Rattle.nf_check_def.specs.Curves.{departures, total_in, total_out}
 use Rattle.nf_check_def.specs.CheckList.{compared, label_cut, inflow_rule, link_rates, loading, arrivals, outflow_rule, queue_rule, balance, sink_rules, route, trial}
@@ -64,12 +64,12 @@ abbrev Pair : Type 0
 Pair = List (List Point) × List Loaded
 
 worked_is : (passes : Passing) (net : Network) (flow : Flow) → worked_list passes net flow
-    ≡ (each (label_cut passes net flow) (all_nodes net) >>= λ labels. done (each (inflow_rule passes net flow) (all_links net)) >>= λ _. done
-    (each (link_rates passes net flow) (all_links net)) >>= λ _. beside labels (each (loading passes net flow labels) (enumerate_from 0 net.links)))
+    ≡ (each (label_cut passes net flow) (numbers_of_nodes net) >>= λ labels. done (each (inflow_rule passes net flow) (numbers_of_links net)) >>= λ _. done
+    (each (link_rates passes net flow) (numbers_of_links net)) >>= λ _. beside labels (each (loading passes net flow labels) (enumerate_from 0 net.links)))
 unfolding worked_list
 worked_is passes net flow =
-    go (each (label_cut passes net flow) (all_nodes net)) (done (each (inflow_rule passes net flow) (all_links net)))
-    (done (each (link_rates passes net flow) (all_links net)))
+    go (each (label_cut passes net flow) (numbers_of_nodes net)) (done (each (inflow_rule passes net flow) (numbers_of_links net)))
+    (done (each (link_rates passes net flow) (numbers_of_links net)))
   where
     one : (labels : List (List Point)) (r : Trial (List Loaded)) → (r >>= λ loaded. let both : Pair = (labels, loaded) in Ok both) ≡ beside labels r
     one labels (Ok loaded) = refl
@@ -86,8 +86,8 @@ worked_is passes net flow =
 pub tested-is : (passes : Passing) (net : Network) (flow : Flow) → done (trial passes net flow) ≡ tested_list passes net flow
 unfolding trial tested_list compared_list arrivals_list told_list balances_list
 tested-is passes net flow =
-    worked_same (each (label_cut passes net flow) (all_nodes net)) (each (inflow_rule passes net flow) (all_links net))
-    (each (link_rates passes net flow) (all_links net))
+    worked_same (each (label_cut passes net flow) (numbers_of_nodes net)) (each (inflow_rule passes net flow) (numbers_of_links net))
+    (each (link_rates passes net flow) (numbers_of_links net))
     (λ labels. each (loading passes net flow labels) (enumerate_from 0 net.links)) _ (λ labels loaded. compared_list passes net flow labels loaded)
     (λ labels loaded. compared_same (compared passes net flow C3 (Node net.source) (points_at labels net.source) (departures flow.reached) flow.reached)
     (each (arrivals passes net flow labels loaded) (nodes_but net.source net)) (each (outflow_rule passes net flow labels loaded) (enumerate_from 0 net.links))
@@ -97,11 +97,11 @@ tested-is passes net flow =
     ∙ sym (ap (λ (r : Trial Pair). r >>= λ w. compared_list passes net flow w.0 w.1) (worked_is passes net flow))
 
 -- a label that ends the check
-pub labels_end : (passes : Passing) (net : Network) (flow : Flow) (e : Ended) → EndsAs e (each (label_cut passes net flow) (all_nodes net)) → EndsAs e (done (trial passes net flow))
+pub labels_end : (passes : Passing) (net : Network) (flow : Flow) (e : Ended) → EndsAs e (each (label_cut passes net flow) (numbers_of_nodes net)) → EndsAs e (done (trial passes net flow))
 unfolding tested_list worked_list
 labels_end passes net flow e h =
     ends_as e (done (trial passes net flow)) (tested_list passes net flow) (tested-is passes net flow)
-    (ends e (worked_list passes net flow) (λ worked. compared_list passes net flow worked.0 worked.1) (ends e (each (label_cut passes net flow) (all_nodes net)) _ h))
+    (ends e (worked_list passes net flow) (λ worked. compared_list passes net flow worked.0 worked.1) (ends e (each (label_cut passes net flow) (numbers_of_nodes net)) _ h))
 
 -- ---- the labels at the source, however they are named
 pub arrivals-is : (passes : Passing) (net : Network) (flow : Flow) (labels : List (List Point)) (loaded : List Loaded) (source : ℕ) (label line : List Point) → source ≡ net.source

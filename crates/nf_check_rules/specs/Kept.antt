@@ -12,8 +12,8 @@ use Rattle.nf_curve.specs.declared.flow.Flow.{Flow}
 use Rattle.nf_load.specs.Loadings.{loaded_of}
 use Rattle.nf_load.specs.declared.loading.Loaded.{Loaded}
 
-abbrev pub curves_of : List Grown → List (List Point)
-curves_of curves = map (λ c. c.points) curves
+abbrev pub points_of_each : List Grown → List (List Point)
+points_of_each curves = map (λ c. c.points) curves
 
 abbrev pub loadings_of : List Loaded → List lists.Loaded
 loadings_of loaded = map loaded_of loaded
@@ -27,7 +27,7 @@ pub record IsFromZero (points : List Point) : Type 0 where
 pub record IsWorked (net : Network) (flow : Flow) (curves : List Grown) (loaded : List Loaded) : Type 0 where
   pub reached : 0ℚ ≤ℚ flow.reached
   pub nodes : length curves ≡ net.nodes
-  pub labels : (v : ℕ) → v < net.nodes → (i : ℕ) (p : Point) → slice_get (points_at (curves_of curves) v) i ≡ Some p → 0ℚ ≤ℚ p.1
+  pub labels : (v : ℕ) → v < net.nodes → (i : ℕ) (p : Point) → slice_get (points_at (points_of_each curves) v) i ≡ Some p → 0ℚ ≤ℚ p.1
   pub inflows : length flow.inflows.items ≡ length net.links
   pub outflows : length flow.outflows.items ≡ length net.links
   pub queues : length flow.queues.items ≡ length net.links

@@ -9,35 +9,35 @@ use Rattle.nf_curve_def.specs.Short.{checked_short}
 use Rattle.nf_curve_def.specs.Composed.{checked_composed}
 use Rattle.nf_check_def.specs.Routes.{three_times, all_stretches, detour_list}
 use Rattle.nf_curve_def.specs.Times.{merged, times_of}
-use Rattle.nf_curve.specs.Places.{place_of, later, earlier_of}
-use Rattle.nf_curve.specs.Slopes.{Keeps}
+use Rattle.nf_curve.specs.Places.{count_until, points_after, earlier_of}
+use Rattle.nf_curve.specs.Slopes.{KeepsSlope}
 use Rattle.nf_check_rules.specs.declared.link_curves.LinkCurves.{LinkCurves}
 use Rattle.nf_check_rules.specs.declared.sent.Sent.{Sent}
 use Rattle.nf_check_rules.specs.declared.sent.Places.{Places}
 use Rattle.nf_check_rules.specs.declared.sent.SentSlopes.{SentSlopes}
 
-pub record AreCurves (sent : Sent) : Type 0 where
+pub record AreSentCurves (sent : Sent) : Type 0 where
   pub taken : IsCurve sent.taken.points
   pub exits : IsCurve sent.exits.points
   pub labels : IsCurve sent.labels.points
 
 -- the number of points of each of the three curves at or before a departure
 pub record ArePlaces (sent : Sent) (time : ℚ) (places : Places) : Type 0 where
-  pub taken : places.taken ≡ place_of time sent.taken.points
-  pub exits : places.exits ≡ place_of time sent.exits.points
-  pub labels : places.labels ≡ place_of time sent.labels.points
+  pub taken : places.taken ≡ count_until time sent.taken.points
+  pub exits : places.exits ≡ count_until time sent.exits.points
+  pub labels : places.labels ≡ count_until time sent.labels.points
 
 -- point counts that do not exceed the curves' lengths
-pub record AreWithin (sent : Sent) (places : Places) : Type 0 where
+pub record ArePlacesWithin (sent : Sent) (places : Places) : Type 0 where
   pub taken : places.taken ≤ length sent.taken.points
   pub exits : places.exits ≤ length sent.exits.points
   pub labels : places.labels ≤ length sent.labels.points
 
 -- the slopes kept of the three curves
 pub record KeepSlopes (sent : Sent) (kept : SentSlopes) : Type 0 where
-  pub taken : Keeps sent.taken.points kept.taken
-  pub exits : Keeps sent.exits.points kept.exits
-  pub labels : Keeps sent.labels.points kept.labels
+  pub taken : KeepsSlope sent.taken.points kept.taken
+  pub exits : KeepsSlope sent.exits.points kept.exits
+  pub labels : KeepsSlope sent.labels.points kept.labels
 
 -- the earliest time of the points at these counts
 abbrev pub first_time : Sent → Places → Option ℚ
@@ -47,7 +47,7 @@ first_time sent places = earlier_of
 
 -- the times of the points of three curves after a time, in rising order
 abbrev pub three_after : ℚ → List Point → List Point → List Point → List ℚ
-three_after time taken exits labels = merged (merged (times_of (later time taken)) (times_of (later time exits))) (times_of (later time labels))
+three_after time taken exits labels = merged (merged (times_of (points_after time taken)) (times_of (points_after time exits))) (times_of (points_after time labels))
 
 -- the test of the three curves
 abbrev pub stretches_of : Sent → Checked (Option Sides)
@@ -82,11 +82,11 @@ known_list passes inflow exits tail_label head_label last = do
   Ok (short_taken, exits, short_labels)
 
 -- the same of the curves of a link
-abbrev pub sent_by : LinkCurves → Checked (List Point × List Point × List Point)
-sent_by link = sent_list passes_Q link.inflow.now.points link.exit.now.points link.tail_label.now.points link.head_label.now.points link.last
+abbrev pub sent_on_link : LinkCurves → Checked (List Point × List Point × List Point)
+sent_on_link link = sent_list passes_Q link.inflow.now.points link.exit.now.points link.tail_label.now.points link.head_label.now.points link.last
 
-abbrev pub known_by : LinkCurves → List Point → Checked (List Point × List Point × List Point)
-known_by link exits = known_list passes_Q link.inflow.now.points exits link.tail_label.now.points link.head_label.now.points link.last
+abbrev pub known_on_link : LinkCurves → List Point → Checked (List Point × List Point × List Point)
+known_on_link link exits = known_list passes_Q link.inflow.now.points exits link.tail_label.now.points link.head_label.now.points link.last
 
 abbrev pub exits_of : LinkCurves → Checked (List Point)
 exits_of link = short_exits passes_Q link.exit.now.points link.tail_label.now.points link.last

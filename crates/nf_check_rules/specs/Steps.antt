@@ -17,7 +17,7 @@ use Rattle.nf_check_def.specs.declared.CheckRule.{CheckRule}
 use Rattle.nf_check_def.specs.declared.CheckRule.TheVariants.{C3, C7}
 use Rattle.nf_check_def.specs.declared.Subject.{Subject}
 use Rattle.nf_check_def.specs.declared.Subject.TheVariants.{Node}
-use Rattle.nf_check_def.specs.Rules.{all_nodes, all_links, nodes_but}
+use Rattle.nf_check_def.specs.Rules.{numbers_of_nodes, numbers_of_links, nodes_but}
 use Rattle.nf_check_def.specs.Trial.{Trial, in_part, unless}
 use Rattle.nf_check_def.specs.Curves.{departures}
 use Rattle.nf_check_def.specs.CheckList.{compared, label_cut, inflow_rule, link_rates, loading, arrivals, outflow_rule, queue_rule, balance, sink_rules, route}
@@ -45,9 +45,9 @@ module _ (passes : Passing) (net : Network) (flow : Flow) where
   -- the labels up to the departure reached, and the loadings; C1 and C2, which need only points, are tested first
   unfoldable pub worked_list : Trial (List (List Point) × List Loaded)
   worked_list = do
-    labels ← each (label_cut passes net flow) (all_nodes net)
-    _ ← done (each (inflow_rule passes net flow) (all_links net))
-    _ ← done (each (link_rates passes net flow) (all_links net))
+    labels ← each (label_cut passes net flow) (numbers_of_nodes net)
+    _ ← done (each (inflow_rule passes net flow) (numbers_of_links net))
+    _ ← done (each (link_rates passes net flow) (numbers_of_links net))
     loaded ← each (loading passes net flow labels) (enumerate_from 0 net.links)
     Ok (labels, loaded)
 

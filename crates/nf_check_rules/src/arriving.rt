@@ -7,7 +7,7 @@ ghost use Rattle.nf_model.specs.Network.{Link, IsLink};
 ghost use Rattle.nf_model.specs.Equilibrium.{points_at};
 ghost use Rattle.nf_curve_def.specs.Composed.{checked_composed};
 ghost use Rattle.nf_check_def.specs.Curves.{loaded_at as loaded_by, least_so_far as lesser_by, with_exit as with_exit_by, least_exits as least_by};
-ghost use Rattle.nf_check_rules.specs.Exits.{AreKept};
+ghost use Rattle.nf_check_rules.specs.Exits.{AreStored};
 ghost use Rattle.nf_check_rules.specs.Views.{network_in, labels_in, loaded_in};
 
 use crate::exits::Exits;
@@ -53,13 +53,13 @@ fn with_exit(
     exits: &mut Exits,
 ) -> Result<Option<Curve>, Halt<Q>>
     requires link { link < length (network_in worked.now).links }
-    requires kept { AreKept worked.now exits.old }
+    requires kept { AreStored worked.now exits.old }
     ensures list { (here : Link) → IsLink (network_in worked.now) link here
         → Gives (λ o. option_map (λ c. c.points) o) (λ q. q) result
         (at_part Check (with_exit_by passes_Q (labels_in worked.now)
         (loaded_in worked.now) worked.now.flow.now.reached node
         (option_map (λ c. c.points) so_far) (link, here))) }
-    ensures kept { AreKept worked.now exits.new }
+    ensures kept { AreStored worked.now exits.new }
 {
     if worked.net.link(link).head != node {
         return Ok(so_far);
@@ -78,12 +78,12 @@ pub fn least_exits(
     node: NodeId,
     exits: &mut Exits,
 ) -> Result<Option<Curve>, Halt<Q>>
-    requires { AreKept worked.now exits.old }
+    requires { AreStored worked.now exits.old }
     ensures list { Gives (λ o. option_map (λ c. c.points) o) (λ q. q) result
         (at_part Check
         (least_by passes_Q (labels_in worked.now) (loaded_in worked.now) worked.now.flow.now.reached
         (network_in worked.now).links node)) }
-    ensures kept { AreKept worked.now exits.new }
+    ensures kept { AreStored worked.now exits.new }
 {
     let mut least = None;
     for number in 0..worked.net.link_count() {

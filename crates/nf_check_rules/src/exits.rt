@@ -1,6 +1,6 @@
 // Exits of links by departure, in short form. C3 computes them, and C8 reuses them.
 ghost use Rattle.std.specs.Prelude.{◌≡◌, ◌<◌, length, replicate, set, slice_get, Some, None, IfOk, OnOk, OnErr};
-ghost use Rattle.nf_check_rules.specs.Exits.{Keeps};
+ghost use Rattle.nf_check_rules.specs.Exits.{KeepsExits};
 
 use nf_curve::Curve;
 use nf_frac::{Halt, Part};
@@ -44,7 +44,7 @@ impl Exits {
         exit: &Curve,
     ) -> Result<(), AllocError>
         requires { link < length self.old.kept.items }
-        ensures keeps { OnOk result (Keeps link exit.now.points self.old self.new) }
+        ensures keeps { OnOk result (KeepsExits link exit.now.points self.old self.new) }
         ensures as_it_was { OnErr result (self.new ≡ self.old) }
     {
         match Curve::short(alloc, exit, Part::Check) {

@@ -4,10 +4,10 @@ ghost use Rattle.nf_frac_def.specs.Passing.{passes_Q};
 ghost use Rattle.nf_frac_def.specs.Checked.{each};
 ghost use Rattle.nf_model.specs.Network.{Network as SeenNetwork};
 ghost use Rattle.nf_check_def.specs.PointRules.{inflow_fault as fault_by};
-ghost use Rattle.nf_check_def.specs.Rules.{all_links};
+ghost use Rattle.nf_check_def.specs.Rules.{numbers_of_links};
 ghost use Rattle.nf_check_def.specs.CheckList.{inflow_rule};
 ghost use Rattle.nf_curve.specs.Differences.{difference_of};
-ghost use Rattle.nf_curve.specs.Flows.{flow_of};
+ghost use Rattle.nf_curve.specs.Flows.{seen_flow};
 ghost use Rattle.nf_check_rules.specs.Points.{first_fall as first_fall_by};
 ghost use Rattle.nf_check_rules.specs.Trials.{Tries, done};
 
@@ -60,7 +60,7 @@ fn inflow_fault(curve: &Curve) -> Option<Difference>
 fn check_inflow(flow: &Flow, link: LinkId) -> Result<(), Ended>
     requires { link < length flow.now.inflows.items }
     ensures { (net : SeenNetwork)
-        → Tries (λ _. tt) result (inflow_rule passes_Q net (flow_of flow.now) link) }
+        → Tries (λ _. tt) result (inflow_rule passes_Q net (seen_flow flow.now) link) }
 {
     let inflow = trace_at(&flow.inflows, link);
     unless(
@@ -74,7 +74,7 @@ fn check_inflow(flow: &Flow, link: LinkId) -> Result<(), Ended>
 pub fn check_inflows(net: &Network, flow: &Flow) -> Result<(), Ended>
     requires { length flow.now.inflows.items ≡ length net.now.net.links }
     ensures { Tries (λ _. tt) result (done
-        (each (inflow_rule passes_Q net.now.net (flow_of flow.now)) (all_links net.now.net))) }
+        (each (inflow_rule passes_Q net.now.net (seen_flow flow.now)) (numbers_of_links net.now.net))) }
 {
     for number in 0..net.link_count() {
         check_inflow(flow, LinkId(number))?;

@@ -6,9 +6,9 @@ ghost use Rattle.std.specs.List.{enumerate_from};
 ghost use Rattle.nf_model.specs.Network.{Link, IsLink, IsNetwork};
 ghost use Rattle.nf_check_def.specs.Rules.{Inflow, Holds};
 ghost use Rattle.nf_check_def.specs.CheckList.{loading};
-ghost use Rattle.nf_curve.specs.Flows.{flow_of};
+ghost use Rattle.nf_curve.specs.Flows.{seen_flow};
 ghost use Rattle.nf_load.specs.Loadings.{loaded_of};
-ghost use Rattle.nf_check_rules.specs.Kept.{curves_of, loadings_of};
+ghost use Rattle.nf_check_rules.specs.Kept.{points_of_each, loadings_of};
 ghost use Rattle.nf_check_rules.specs.Trials.{Tries};
 
 use crate::ended::Ended;
@@ -31,10 +31,10 @@ fn load(
     requires link { link < length net.now.net.links }
     requires inflows { length flow.now.inflows.items ≡ length net.now.net.links }
     requires labels { length labels.now ≡ net.now.net.nodes }
-    requires inflow { Holds net.now.net (flow_of flow.now) (Inflow link) }
+    requires inflow { Holds net.now.net (seen_flow flow.now) (Inflow link) }
     ensures { (here : Link) → IsLink net.now.net link here
         → Tries loaded_of result
-        (loading passes_Q net.now.net (flow_of flow.now) (curves_of labels.now) (link, here)) }
+        (loading passes_Q net.now.net (seen_flow flow.now) (points_of_each labels.now) (link, here)) }
 {
     let here = net.link(link);
     let tail = greatest_value(curve_at(labels, here.tail.index()));
@@ -60,9 +60,9 @@ pub fn load_links(
     requires inflows { length flow.now.inflows.items ≡ length net.now.net.links }
     requires labels { length labels.now ≡ net.now.net.nodes }
     requires hold { (e : ℕ) → e < length net.now.net.links
-        → Holds net.now.net (flow_of flow.now) (Inflow e) }
+        → Holds net.now.net (seen_flow flow.now) (Inflow e) }
     ensures list { Tries (λ loaded. loadings_of loaded.items) result
-        (each (loading passes_Q net.now.net (flow_of flow.now) (curves_of labels.now))
+        (each (loading passes_Q net.now.net (seen_flow flow.now) (points_of_each labels.now))
         (enumerate_from 0 net.now.net.links)) }
     ensures count { IfOk result (λ loaded. length loaded.items ≡ length net.now.net.links) }
 {

@@ -6,10 +6,10 @@ ghost use Rattle.nf_model.specs.Network.{Network as SeenNetwork};
 ghost use Rattle.nf_net_def.specs.Report.{HaveRates};
 ghost use Rattle.nf_check_def.specs.declared.Subject.TheVariants.{Link as OfLink};
 ghost use Rattle.nf_check_def.specs.PointRules.{if_other, rates_list};
-ghost use Rattle.nf_check_def.specs.Rules.{all_links};
+ghost use Rattle.nf_check_def.specs.Rules.{numbers_of_links};
 ghost use Rattle.nf_check_def.specs.CheckList.{link_rates};
 ghost use Rattle.nf_curve.specs.Differences.{difference_of};
-ghost use Rattle.nf_curve.specs.Flows.{flow_of};
+ghost use Rattle.nf_curve.specs.Flows.{seen_flow};
 ghost use Rattle.nf_check_rules.specs.Trials.{Tries, done};
 
 use crate::ended::{Ended, unless};
@@ -61,10 +61,10 @@ fn check_trace(link: LinkId, trace: &Trace) -> Result<(), Ended>
 fn check_link_rates(flow: &Flow, link: LinkId) -> Result<(), Ended>
     requires inflow { link < length flow.now.inflows.items }
     requires outflow { link < length flow.now.outflows.items }
-    requires inflow_rates { HaveRates (flow_of flow.now).inflows }
-    requires outflow_rates { HaveRates (flow_of flow.now).outflows }
+    requires inflow_rates { HaveRates (seen_flow flow.now).inflows }
+    requires outflow_rates { HaveRates (seen_flow flow.now).outflows }
     ensures { (net : SeenNetwork)
-        → Tries (λ _. tt) result (link_rates passes_Q net (flow_of flow.now) link) }
+        → Tries (λ _. tt) result (link_rates passes_Q net (seen_flow flow.now) link) }
 {
     check_trace(link, trace_at(&flow.inflows, link))?;
     check_trace(link, trace_at(&flow.outflows, link))
@@ -74,10 +74,10 @@ fn check_link_rates(flow: &Flow, link: LinkId) -> Result<(), Ended>
 pub fn check_rates(net: &Network, flow: &Flow) -> Result<(), Ended>
     requires inflows { length flow.now.inflows.items ≡ length net.now.net.links }
     requires outflows { length flow.now.outflows.items ≡ length net.now.net.links }
-    requires inflow_rates { HaveRates (flow_of flow.now).inflows }
-    requires outflow_rates { HaveRates (flow_of flow.now).outflows }
+    requires inflow_rates { HaveRates (seen_flow flow.now).inflows }
+    requires outflow_rates { HaveRates (seen_flow flow.now).outflows }
     ensures { Tries (λ _. tt) result
-        (done (each (link_rates passes_Q net.now.net (flow_of flow.now)) (all_links net.now.net))) }
+        (done (each (link_rates passes_Q net.now.net (seen_flow flow.now)) (numbers_of_links net.now.net))) }
 {
     for number in 0..net.link_count() {
         check_link_rates(flow, LinkId(number))?;

@@ -6,7 +6,7 @@ ghost use Rattle.nf_frac_def.specs.Checked.{at_part, each, Gives};
 ghost use Rattle.nf_model.specs.Network.{Link, IsLink};
 ghost use Rattle.nf_check_def.specs.CheckList.{route};
 ghost use Rattle.nf_curve.specs.Differences.{difference_of};
-ghost use Rattle.nf_check_rules.specs.Exits.{AreKept, IsKept};
+ghost use Rattle.nf_check_rules.specs.Exits.{AreStored, IsKept};
 ghost use Rattle.nf_check_rules.specs.Sent.{exits_of, detours_of};
 ghost use Rattle.nf_check_rules.specs.Views.{network_in, in_view};
 ghost use Rattle.nf_check_rules.specs.Trials.{Tries, done};
@@ -64,13 +64,13 @@ fn check_route(
     unless(CheckRule::C8, Subject::Link(link), detour)
 }
 
-/// Tests C8 for all links, in order. Removes each link's stored exits before its test. The exits still stored satisfy `AreKept`, even after
-/// a refusal.
+/// Tests C8 for all links, in order. Removes each link's stored exits before its test. The exits still stored satisfy `AreStored`, even
+/// after a refusal.
 pub fn check_routes(alloc: Global, worked: &Worked, exits: &mut Exits) -> Result<(), Ended>
-    requires { AreKept worked.now exits.old }
+    requires { AreStored worked.now exits.old }
     ensures tries { Tries (λ _. tt) result
         (done (each (in_view route worked.now) (enumerate_from 0 (network_in worked.now).links))) }
-    ensures kept { AreKept worked.now exits.new }
+    ensures kept { AreStored worked.now exits.new }
 {
     for number in 0..worked.net.link_count() {
         let link = LinkId(number);

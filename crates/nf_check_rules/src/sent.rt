@@ -7,7 +7,7 @@ ghost use Rattle.nf_frac_def.specs.Passing.{passes_Q};
 ghost use Rattle.nf_frac_def.specs.Checked.{at_part, seen_at, Gives};
 ghost use Rattle.nf_curve_def.specs.Sums.{sides_at as sides_by};
 ghost use Rattle.nf_curve.specs.Differences.{difference_of};
-ghost use Rattle.nf_check_rules.specs.Sent.{AreCurves, ArePlaces, AreWithin, KeepSlopes, first_time, points_in, sent_by, known_by, exits_of};
+ghost use Rattle.nf_check_rules.specs.Sent.{AreSentCurves, ArePlaces, ArePlacesWithin, KeepSlopes, first_time, points_in, sent_on_link, known_on_link, exits_of};
 ghost use Rattle.nf_check_rules.specs.declared.sent.Sent.{Sent as SeenSent};
 
 use crate::link_curves::LinkCurves;
@@ -57,8 +57,8 @@ impl Sent {
     // Computes the three curves of a link, for departures up to its `last`.
     #[tactic(auto, unfolding(crate::specs::Sent::sent_list))]
     fn by_exit(alloc: Global, link: &LinkCurves) -> Result<Sent, Halt<Q>>
-        ensures list { Gives points_in (λ q. q) result (at_part Check (sent_by link.now)) }
-        ensures curves { IfOk result AreCurves }
+        ensures list { Gives points_in (λ q. q) result (at_part Check (sent_on_link link.now)) }
+        ensures curves { IfOk result AreSentCurves }
     {
         let all_taken = link.by_departure(alloc, link.inflow)?;
         let all_exits = link.by_departure(alloc, link.exit)?;
@@ -76,8 +76,8 @@ impl Sent {
     #[tactic(auto, unfolding(crate::specs::Sent::known_list))]
     fn by_exits(alloc: Global, link: &LinkCurves, exits: Curve) -> Result<Sent, Halt<Q>>
         ensures list { Gives points_in (λ q. q) result
-            (at_part Check (known_by link.now exits.points)) }
-        ensures curves { IfOk result AreCurves }
+            (at_part Check (known_on_link link.now exits.points)) }
+        ensures curves { IfOk result AreSentCurves }
     {
         // Proof: the exits are a curve.
         exits.recall();
@@ -99,8 +99,8 @@ impl Sent {
         kept: Option<Curve>,
     ) -> Result<Sent, Halt<Q>>
         requires { IfSome kept (λ exits. exits_of link.now ≡ Ok exits.points) }
-        ensures list { Gives points_in (λ q. q) result (at_part Check (sent_by link.now)) }
-        ensures curves { IfOk result AreCurves }
+        ensures list { Gives points_in (λ q. q) result (at_part Check (sent_on_link link.now)) }
+        ensures curves { IfOk result AreSentCurves }
     {
         match kept {
             Some(exits) => Sent::by_exits(alloc, link, exits),
@@ -120,9 +120,9 @@ impl Sent {
 
     /// Returns the point counts of a departure. The search starts at the counts `from`.
     pub(crate) fn places_near(&self, from: &Places, time: Q) -> Places
-        requires { AreWithin self.now from.now }
+        requires { ArePlacesWithin self.now from.now }
         ensures places { ArePlaces self.now time result }
-        ensures within { AreWithin self.now result }
+        ensures within { ArePlacesWithin self.now result }
     {
         Places {
             taken: place_near(self.taken.as_points(), from.taken, time),

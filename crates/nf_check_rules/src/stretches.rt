@@ -10,8 +10,8 @@ ghost use Rattle.nf_curve_def.specs.Sums.{sides_at as sides_by};
 ghost use Rattle.nf_curve_def.specs.Differences.{do_differ as do_differ_by};
 ghost use Rattle.nf_check_def.specs.Routes.{checked_middle, at_middle as at_middle_by, on_stretch as on_stretch_by};
 ghost use Rattle.nf_curve.specs.Differences.{difference_of};
-ghost use Rattle.nf_check_rules.specs.Departures.{IsDeparture};
-ghost use Rattle.nf_check_rules.specs.Sent.{AreCurves, ArePlaces, AreWithin, KeepSlopes, first_time, stretches_of};
+ghost use Rattle.nf_check_rules.specs.Departures.{IsSentDeparture};
+ghost use Rattle.nf_check_rules.specs.Sent.{AreSentCurves, ArePlaces, ArePlacesWithin, KeepSlopes, first_time, stretches_of};
 
 use crate::sent::{Places, Sent, SentSlopes};
 use nf_curve::{Difference, place_next, value_with};
@@ -53,8 +53,8 @@ struct Departure {
 
 // Returns the departure at time 0. The first amount needs no operation.
 fn first_departure(sent: &Sent) -> Departure
-    requires { AreCurves sent.now }
-    ensures there { IsDeparture sent.now result }
+    requires { AreSentCurves sent.now }
+    ensures there { IsSentDeparture sent.now result }
     ensures time { result.time ≡ 0ℚ }
 {
     let time = Q::zero();
@@ -74,8 +74,8 @@ fn first_departure(sent: &Sent) -> Departure
 
 // Returns the point counts at the next time of the curves' points.
 fn places_next(sent: &Sent, here: &Departure, time: Q) -> Places
-    requires curves { AreCurves sent.now }
-    requires here { IsDeparture sent.now here.now }
+    requires curves { AreSentCurves sent.now }
+    requires here { IsSentDeparture sent.now here.now }
     requires next { first_time sent.now here.now.places ≡ Some time }
     ensures { ArePlaces sent.now time result }
 {
@@ -99,7 +99,7 @@ fn departure_at(
     requires kept { KeepSlopes sent.now kept.old }
     ensures taken { seen_at (λ d. d.taken) (λ q. q) result
         ≡ at_part Check (checked_value passes_Q sent.now.taken.points time) }
-    ensures there { IfOk result (IsDeparture sent.now) }
+    ensures there { IfOk result (IsSentDeparture sent.now) }
     ensures time { IfOk result (λ d. d.time ≡ time) }
     ensures kept { KeepSlopes sent.now kept.new }
 {
@@ -115,7 +115,7 @@ fn departure_at(
 
 // Returns exit and head label at a departure. Reuses the stored values if they are there.
 fn sides_of(sent: &Sent, here: &Departure, kept: &mut SentSlopes) -> Result<Difference, PassedAt<Q>>
-    requires here { IsDeparture sent.now here.now }
+    requires here { IsSentDeparture sent.now here.now }
     requires kept { KeepSlopes sent.now kept.old }
     ensures list { seen_at difference_of (λ q. q) result
         ≡ at_part Check
@@ -137,7 +137,7 @@ fn at_middle(
 ) -> Result<Option<Difference>, PassedAt<Q>>
     requires first { 0ℚ ≤ℚ first }
     requires next { 0ℚ ≤ℚ next }
-    requires within { AreWithin sent.now places.now }
+    requires within { ArePlacesWithin sent.now places.now }
     ensures { seen_at (option_map difference_of) (λ q. q) result ≡
         at_part Check
         (at_middle_by passes_Q true sent.now.exits.points sent.now.labels.points first next) }
@@ -155,14 +155,14 @@ fn on_stretch(
     there: &mut Departure,
     kept: &mut SentSlopes,
 ) -> Result<Option<Difference>, PassedAt<Q>>
-    requires here { IsDeparture sent.now here.now }
-    requires there { IsDeparture sent.now there.old }
+    requires here { IsSentDeparture sent.now here.now }
+    requires there { IsSentDeparture sent.now there.old }
     requires kept { KeepSlopes sent.now kept.old }
     ensures list { seen_at (option_map difference_of) (λ q. q) result ≡
         at_part Check
         (on_stretch_by passes_Q sent.now.taken.points sent.now.exits.points sent.now.labels.points
         here.now.time there.old.time) }
-    ensures there { OnOk result (IsDeparture sent.now there.new) }
+    ensures there { OnOk result (IsSentDeparture sent.now there.new) }
     ensures time { OnOk result (there.new.time ≡ there.old.time) }
     ensures kept { KeepSlopes sent.now kept.new }
 {
@@ -185,7 +185,7 @@ fn on_stretch(
 /// Returns the first departure from which on flow enters the link while exit and head label differ. Tests the intervals between consecutive
 /// times of the curves' points. The values at the end of an interval are reused at the start of the next.
 pub(crate) fn first_detour(sent: &Sent) -> Result<Option<Difference>, PassedAt<Q>>
-    requires { AreCurves sent.now }
+    requires { AreSentCurves sent.now }
     ensures { seen_at (option_map difference_of) (λ q. q) result
         ≡ at_part Check (stretches_of sent.now) }
 {

@@ -6,7 +6,7 @@ ghost use Rattle.nf_frac_def.specs.Checked.{at_part, Gives};
 ghost use Rattle.nf_model.specs.Network.{Link, IsLink};
 ghost use Rattle.nf_model.specs.Equilibrium.{points_of};
 ghost use Rattle.nf_check_def.specs.Curves.{with_outflow as with_outflow_by, total_in as total_in_by, with_inflow as with_inflow_by, total_out as total_out_by};
-ghost use Rattle.nf_curve.specs.Flows.{flow_of};
+ghost use Rattle.nf_curve.specs.Flows.{seen_flow};
 ghost use Rattle.nf_check_rules.specs.Kept.{loadings_of};
 
 use crate::worked::{loaded_at, trace_at};
@@ -70,7 +70,7 @@ fn with_inflow(
     requires inflows { length flow.now.inflows.items ≡ length net.now.net.links }
     ensures { (here : Link) → IsLink net.now.net link here → Gives (λ c. c.points) (λ q. q) result
         (at_part Check (with_inflow_by passes_Q
-        (points_of (flow_of flow.now).inflows) node so_far.points (link, here))) }
+        (points_of (seen_flow flow.now).inflows) node so_far.points (link, here))) }
 {
     if net.link(link).tail != node {
         return Ok(so_far);
@@ -89,7 +89,7 @@ pub(crate) fn total_out(
     requires { length flow.now.inflows.items ≡ length net.now.net.links }
     ensures { Gives (λ c. c.points) (λ q. q) result
         (at_part Check
-        (total_out_by passes_Q (points_of (flow_of flow.now).inflows) net.now.net.links node)) }
+        (total_out_by passes_Q (points_of (seen_flow flow.now).inflows) net.now.net.links node)) }
 {
     let mut total = Curve::start(alloc, Q::zero())?;
     for number in 0..net.link_count() {

@@ -5,9 +5,9 @@ ghost use Rattle.nf_rational.specs.Order.{◌≤ℚ◌};
 ghost use Rattle.nf_model.specs.Equilibrium.{points_at, points_of};
 ghost use Rattle.nf_check_def.specs.CheckList.{trace_of as trace_in};
 ghost use Rattle.nf_check_def.specs.Curves.{loaded_at as loaded_by, last_value as last_by};
-ghost use Rattle.nf_curve.specs.Flows.{trace_of};
+ghost use Rattle.nf_curve.specs.Flows.{seen_trace};
 ghost use Rattle.nf_load.specs.Loadings.{loaded_of};
-ghost use Rattle.nf_check_rules.specs.Kept.{IsFromZero, IsWorked, curves_of, loadings_of};
+ghost use Rattle.nf_check_rules.specs.Kept.{IsFromZero, IsWorked, points_of_each, loadings_of};
 
 use crate::values::last_value;
 use nf_curve::{Curve, Flow, Trace};
@@ -30,7 +30,7 @@ pub struct Worked<'a> {
 /// Returns the curve of a number.
 pub fn curve_at(curves: &[Curve], number: usize) -> &Curve
     requires { number < length curves.now }
-    ensures { result.now.points ≡ points_at (curves_of curves.now) number }
+    ensures { result.now.points ≡ points_at (points_of_each curves.now) number }
 {
     &curves[number]
 }
@@ -38,7 +38,7 @@ pub fn curve_at(curves: &[Curve], number: usize) -> &Curve
 /// Returns the label of a node, up to the departure reached.
 pub fn label_at<'a>(worked: &Worked<'a>, node: NodeId) -> &'a Curve
     requires { node < worked.now.net.now.net.nodes }
-    ensures points { result.now.points ≡ points_at (curves_of worked.now.labels.now) node }
+    ensures points { result.now.points ≡ points_at (points_of_each worked.now.labels.now) node }
     ensures from_zero { IsFromZero result.now.points }
 {
     let label = curve_at(worked.labels, node.index());
@@ -50,7 +50,7 @@ pub fn label_at<'a>(worked: &Worked<'a>, node: NodeId) -> &'a Curve
 /// Returns the last value of the label of a node.
 pub(crate) fn last_label(worked: &Worked, node: NodeId) -> Q
     requires { node < worked.now.net.now.net.nodes }
-    ensures value { result ≡ last_by (points_at (curves_of worked.now.labels.now) node) }
+    ensures value { result ≡ last_by (points_at (points_of_each worked.now.labels.now) node) }
     ensures nonnegative { 0ℚ ≤ℚ result }
 {
     last_value(label_at(worked, node))
@@ -59,10 +59,10 @@ pub(crate) fn last_label(worked: &Worked, node: NodeId) -> Q
 /// Returns the trace of a link.
 pub(crate) fn trace_at(traces: &[Trace], link: LinkId) -> &Trace
     requires { link < length traces.now }
-    ensures there { slice_get (map trace_of traces.now) link ≡ Some (trace_of result.now) }
-    ensures trace { trace_of result.now ≡ trace_in (map trace_of traces.now) link }
+    ensures there { slice_get (map seen_trace traces.now) link ≡ Some (seen_trace result.now) }
+    ensures trace { seen_trace result.now ≡ trace_in (map seen_trace traces.now) link }
     ensures points { result.now.curve.points
-        ≡ points_at (points_of (map trace_of traces.now)) link }
+        ≡ points_at (points_of (map seen_trace traces.now)) link }
 {
     &traces[link.index()]
 }

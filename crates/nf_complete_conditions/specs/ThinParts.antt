@@ -66,8 +66,8 @@ abbrev pub Takes : Network → Sets → List ℚ → List ℚ → ℕ → ℕ �
 Takes net sets flows slopes v e = LeadsInto net sets v e × (Brings sets flows e ⊎ IsLevelAt net slopes e)
 
 -- ---- the conditions that need no operation
-abbrev pub NoneNegative : List ℚ → Type 0
-NoneNegative numbers = (i : ℕ) → 0ℚ ≤ℚ number_at numbers i
+abbrev pub AllNonNegative : List ℚ → Type 0
+AllNonNegative numbers = (i : ℕ) → 0ℚ ≤ℚ number_at numbers i
 
 abbrev pub CarriesIfActive : Sets → List ℚ → ℕ → Type 0
 CarriesIfActive sets flows e = (Has sets.active e → ⊥) → number_at flows e ≡ 0ℚ
@@ -79,8 +79,8 @@ abbrev pub EachIsTaken : Network → Sets → List ℚ → List ℚ → Type 0
 EachIsTaken net sets flows slopes = (v : ℕ) → v < net.nodes → v ≢ net.source → (e : ℕ) × Takes net sets flows slopes v e
 
 pub record IsProper (net : Network) (sets : Sets) (flows slopes : List ℚ) : Type 0 where
-  pub no_negative_flow : NoneNegative flows
-  pub no_negative_slope : NoneNegative slopes
+  pub no_negative_flow : AllNonNegative flows
+  pub no_negative_slope : AllNonNegative slopes
   pub active_only : CarriesOnActive sets flows
   pub starts : number_at slopes net.source ≡ 1ℚ
   pub taken : EachIsTaken net sets flows slopes

@@ -3,7 +3,7 @@ ghost use Rattle.std.specs.Prelude.{◌≡◌, ◌<◌, not, length, MatchBool};
 ghost use Rattle.nf_rational.specs.Operations.{0ℚ, 1ℚ};
 ghost use Rattle.nf_rational.specs.Order.{le_ℚ};
 ghost use Rattle.nf_model.specs.Entries.{number_at};
-ghost use Rattle.nf_complete_conditions.specs.ThinParts.{NoneNegative, CarriesIfActive, CarriesOnActive, IsProper};
+ghost use Rattle.nf_complete_conditions.specs.ThinParts.{AllNonNegative, CarriesIfActive, CarriesOnActive, IsProper};
 
 use crate::numbers::{flow_of, slope_of};
 use crate::taken::each_is_taken;
@@ -21,7 +21,7 @@ fn is_negative_at(numbers: &[Q], place: usize) -> bool
 
 // Returns whether no number is negative.
 fn none_negative(numbers: &[Q]) -> bool
-    ensures { MatchBool result (NoneNegative numbers.now) (NoneNegative numbers.now → ⊥) }
+    ensures { MatchBool result (AllNonNegative numbers.now) (AllNonNegative numbers.now → ⊥) }
 {
     for i in 0..numbers.len() {
         if is_negative_at(numbers, i) {

@@ -14,12 +14,12 @@ use Rattle.nf_graph.proofs.Flags.{Has-set_same, Has-set_other, Has-set_cases}
 use Rattle.nf_graph.proofs.Walks.{IsHop-unique}
 use Rattle.nf_complete_def.specs.Interior.{links_of}
 use Rattle.nf_model_laws.proofs.Contained.{contains_none, contains_cases, contains_more, contains_first}
-use Rattle.nf_complete_cycles.specs.Trees.{begin_of, end_of, StepsOut, NoneStepsOut, begin_at, end_at, InTree, IsTree, way_back, IsWay, AreApart}
+use Rattle.nf_complete_cycles.specs.Trees.{begin_of, end_of, StepsOut, NoneStepsOut, begin_at, step_end, InTree, IsTree, way_back, IsWay, AreApart}
 
 begin_is : (hops : List Hop) (step : ℕ × Bool) (hop : Hop) → IsHop hops step.0 hop → begin_at hops step ≡ begin_of step.1 hop
 begin_is hops step hop p = ap (λ (o : Option Hop). option_map_or (begin_of step.1) o 0) p
 
-end_is : (hops : List Hop) (step : ℕ × Bool) (hop : Hop) → IsHop hops step.0 hop → end_at hops step ≡ end_of step.1 hop
+end_is : (hops : List Hop) (step : ℕ × Bool) (hop : Hop) → IsHop hops step.0 hop → step_end hops step ≡ end_of step.1 hop
 end_is hops step hop p = ap (λ (o : Option Hop). option_map_or (end_of step.1) o 0) p
 
 ends_both : (P : ℕ → Type 0) (b : Bool) (hop : Hop) → P (begin_of b hop) → P (end_of b hop) → P hop.tail × P hop.head
@@ -46,14 +46,14 @@ module _ (hops : List Hop) (chosen : List Bool) (from : ℕ) where
   back_in : (tree : List (ℕ × Bool)) (v e : ℕ) → Contains (links_of (way_back hops tree v)) e → Contains (links_of tree) e
   back_in [] v e c = absurd (contains_none e c)
   back_in (s ∷ older) v e c = ⊎_elim
-      (λ (w : (eqb (end_at hops s) v ≡ true) × (end_at hops s ≡ v)). ⊎_elim
+      (λ (w : (eqb (step_end hops s) v ≡ true) × (step_end hops s ≡ v)). ⊎_elim
       (λ (q : s.0 ≡ e). contains_first s.0 (links_of older) e q)
       (λ (q : Contains (links_of (way_back hops older (begin_at hops s))) e). contains_more s.0 (links_of older) e (back_in older (begin_at hops s) e q))
       (contains_cases s.0 (links_of (way_back hops older (begin_at hops s))) e (by w.0 c)))
-      (λ (w : (eqb (end_at hops s) v ≡ false) × (end_at hops s ≢ v)). contains_more s.0 (links_of older) e (back_in older v e (by w.0 c)))
-      (eqb_tells (end_at hops s) v)
+      (λ (w : (eqb (step_end hops s) v ≡ false) × (step_end hops s ≢ v)). contains_more s.0 (links_of older) e (back_in older v e (by w.0 c)))
+      (eqb_tells (step_end hops s) v)
     where
-      by : {b : Bool} → eqb (end_at hops s) v ≡ b → Contains (links_of (way_back hops (s ∷ older) v)) e
+      by : {b : Bool} → eqb (step_end hops s) v ≡ b → Contains (links_of (way_back hops (s ∷ older) v)) e
           → Contains (links_of (if b then (s.0, not s.1) ∷ way_back hops older (begin_at hops s) else way_back hops older v)) e
       by {b = b} h c = subst (λ (t : Bool). Contains (links_of (if t then (s.0, not s.1) ∷ way_back hops older (begin_at hops s) else way_back hops older v)) e) h c
 
@@ -71,7 +71,7 @@ module _ (hops : List Hop) (chosen : List Bool) (from : ℕ) where
   pub back-trail : (tree : List (ℕ × Bool)) → IsTree hops chosen from tree → (v : ℕ) → InTree hops from tree v → Back (way_back hops tree v) v
   back-trail [] t v i = (i, tt)
   back-trail (s ∷ older) (g, q, a, b, n, t) v i = ⊎_elim
-      (λ (w : (eqb (end_at hops s) v ≡ true) × (end_at hops s ≡ v)).
+      (λ (w : (eqb (step_end hops s) v ≡ true) × (step_end hops s ≡ v)).
       let r : Back (way_back hops older (begin_at hops s)) (begin_at hops s) =
       back-trail older t (begin_at hops s) (subst (λ (k : ℕ). InTree hops from older k) (sym (begin_is hops s g q)) b) in
       by w.0 (
@@ -85,11 +85,11 @@ module _ (hops : List Hop) (chosen : List Bool) (from : ℕ) where
         ),
         ((λ c. n (end_by (InTree hops from older) s.1 g (ends_in older t s.0 g (back_in older (begin_at hops s) s.0 c) q))), r.1),
       ))
-      (λ (w : (eqb (end_at hops s) v ≡ false) × (end_at hops s ≢ v)). by w.0
-      (back-trail older t v (⊎_elim (λ (x : end_at hops s ≡ v). absurd (w.1 x)) (λ (x : InTree hops from older v). x) i)))
-      (eqb_tells (end_at hops s) v)
+      (λ (w : (eqb (step_end hops s) v ≡ false) × (step_end hops s ≢ v)). by w.0
+      (back-trail older t v (⊎_elim (λ (x : step_end hops s ≡ v). absurd (w.1 x)) (λ (x : InTree hops from older v). x) i)))
+      (eqb_tells (step_end hops s) v)
     where
-      by : {b : Bool} → eqb (end_at hops s) v ≡ b → Back (if b then (s.0, not s.1) ∷ way_back hops older (begin_at hops s) else way_back hops older v) v
+      by : {b : Bool} → eqb (step_end hops s) v ≡ b → Back (if b then (s.0, not s.1) ∷ way_back hops older (begin_at hops s) else way_back hops older v) v
           → Back (way_back hops (s ∷ older) v) v
       by {b = b} h r = subst (λ (t : Bool). Back (if t then (s.0, not s.1) ∷ way_back hops older (begin_at hops s) else way_back hops older v) v) (sym h) r
 
@@ -112,7 +112,7 @@ module _ (hops : List Hop) (chosen : List Bool) (from : ℕ) where
   }
 
   pub grown_more : (nodes i : ℕ) (flags : List Bool) (tree : List (ℕ × Bool)) (step : ℕ × Bool) → IsGrown nodes flags tree → StepsOut hops chosen flags step
-      → i ≡ end_at hops step → i < nodes
+      → i ≡ step_end hops step → i < nodes
       → IsGrown nodes (set flags i true) (step ∷ tree)
   grown_more nodes i flags tree step g o e h = record {
     count = length-set flags i true ∙ g.count;
@@ -121,15 +121,15 @@ module _ (hops : List Hop) (chosen : List Bool) (from : ℕ) where
     marks = λ v. (
       (λ s. ⊎_elim (λ (p : v ≡ i). inl (sym e ∙ sym p)) (λ (k : Has flags v). inr ((g.marks v).0 k)) (Has-set_cases flags i v s)),
       (λ k. ⊎_elim
-          (λ (p : end_at hops step ≡ v). subst (λ (j : ℕ). Has (set flags i true) j) (e ∙ p) (Has-set_same flags i (let c = g.count in omega arith)))
+          (λ (p : step_end hops step ≡ v). subst (λ (j : ℕ). Has (set flags i true) j) (e ∙ p) (Has-set_same flags i (let c = g.count in omega arith)))
           (λ (p : InTree hops from tree v). Has-set_other flags i v ((g.marks v).1 p)) k),
     );
   }
 
-  pub out_free : (flags : List Bool) (step : ℕ × Bool) → StepsOut hops chosen flags step → Has flags (end_at hops step) → ⊥
+  pub out_free : (flags : List Bool) (step : ℕ × Bool) → StepsOut hops chosen flags step → Has flags (step_end hops step) → ⊥
   out_free flags step o h = o.crosses.1 (subst (λ (k : ℕ). Has flags k) (end_is hops step o.hop o.is_hop) h)
 
-  pub out_below : (nodes : ℕ) (flags : List Bool) (step : ℕ × Bool) → AreBelow nodes hops → StepsOut hops chosen flags step → end_at hops step < nodes
+  pub out_below : (nodes : ℕ) (flags : List Bool) (step : ℕ × Bool) → AreBelow nodes hops → StepsOut hops chosen flags step → step_end hops step < nodes
   out_below nodes flags step b o =
       subst (λ (k : ℕ). k < nodes) (sym (end_is hops step o.hop o.is_hop))
       (end_by (λ k. k < nodes) step.1 o.hop (b.tails step.0 o.hop o.is_hop, b.heads step.0 o.hop o.is_hop))

@@ -3,7 +3,7 @@
 ghost use Rattle.std.specs.Prelude.{◌≡◌, ◌<◌, ◌^◌, ◌==◌, length, IfOk, MatchOption, true, Bool};
 ghost use Rattle.std.specs.List.{AllByRecursion};
 ghost use Rattle.nf_graph.specs.Graph.{AreBelow};
-ghost use Rattle.nf_complete_cycles.specs.Trees.{Crosses, StepsOut, NoneStepsOut, begin_at, end_at, way_back, IsWay, AreApart};
+ghost use Rattle.nf_complete_cycles.specs.Trees.{Crosses, StepsOut, NoneStepsOut, begin_at, step_end, way_back, IsWay, AreApart};
 
 use crate::step::Step;
 use nf_graph::{Hop, LinkId, NodeId};
@@ -53,7 +53,7 @@ fn next_step(hops: &[Hop], chosen: &[bool], flags: &[bool]) -> Option<Step>
 // Returns the node at which a step ends.
 fn end_of(hops: &[Hop], step: Step) -> NodeId
     requires { step.0 < length hops.now }
-    ensures { result ≡ end_at hops.now step }
+    ensures { result ≡ step_end hops.now step }
 {
     let hop = &hops[step.link.index()];
     if step.forward { hop.head } else { hop.tail }

@@ -16,7 +16,7 @@ use Rattle.nf_model.specs.Curve.{Point, TimesRise}
 use Rattle.nf_model_laws.proofs.Affine.{<_≤_trans}
 use Rattle.nf_curve_def.specs.Composed.{points_between, points_along}
 use Rattle.nf_curve_laws.proofs.Composed.{rise_rest}
-use Rattle.nf_curve.specs.Places.{place_of}
+use Rattle.nf_curve.specs.Places.{count_until}
 use Rattle.nf_curve.specs.Steps.{behind}
 use Rattle.nf_curve.proofs.Placing.{place-behind, place-past, place-rises}
 use Rattle.nf_curve.proofs.Composing.{point_first}
@@ -35,14 +35,14 @@ second_false true b e = e
 second_false false b e = refl
 
 -- ---- before the lower place, between, and behind the upper one
-none-before : (low high : ℚ) (points : List Point) → filter (lies_between low high) (take (place_of low points) points) ≡ []
+none-before : (low high : ℚ) (points : List Point) → filter (lies_between low high) (take (count_until low points) points) ≡ []
 none-before low high [] = refl
 none-before low high (p ∷ rest) = ⊎_elim
     (λ (w : (lt_ℚ low p.0 ≡ true) × (low <ℚ p.0)). ap (λ (k : ℕ). filter (lies_between low high) (take k (p ∷ rest))) (place-behind low p rest w.1))
     (λ (w : (lt_ℚ low p.0 ≡ false) × (p.0 ≤ℚ low)).
     ap (λ (k : ℕ). filter (lies_between low high) (take k (p ∷ rest))) (place-past low p rest w.1)
-    ∙ ap (λ (b : Bool). cond (b && lt_ℚ p.0 high) (p ∷ filter (lies_between low high) (take (place_of low rest) rest))
-    (filter (lies_between low high) (take (place_of low rest) rest))) w.0
+    ∙ ap (λ (b : Bool). cond (b && lt_ℚ p.0 high) (p ∷ filter (lies_between low high) (take (count_until low rest) rest))
+    (filter (lies_between low high) (take (count_until low rest) rest))) w.0
     ∙ none-before low high rest)
     (lt_ℚ_cases low p.0)
 
@@ -51,7 +51,7 @@ unfolding AllLater
 first-later time p [] r h = (h, tt)
 first-later time p (q ∷ rest) r h = (h, first-later time q rest r.1 (<_≤_trans _ _ _ h (≤ℚ_of_lt _ _ r.0)))
 
-later-from-place : (time : ℚ) (points : List Point) → TimesRise points → AllLater time (drop (place_of time points) points)
+later-from-place : (time : ℚ) (points : List Point) → TimesRise points → AllLater time (drop (count_until time points) points)
 unfolding AllLater
 later-from-place time [] r = tt
 later-from-place time (p ∷ rest) r = ⊎_elim
@@ -85,10 +85,10 @@ take-drop zero xs = refl
 take-drop (suc k) [] = refl
 take-drop (suc k) (x ∷ xs) = ap (λ (l : List _). x ∷ l) (take-drop k xs)
 
-pub between-places : (low high : ℚ) (points : List Point) (i j : ℕ) → TimesRise points → low ≤ℚ high → i ≡ place_of low points → j ≡ place_of high points
+pub between-places : (low high : ℚ) (points : List Point) (i j : ℕ) → TimesRise points → low ≤ℚ high → i ≡ count_until low points → j ≡ count_until high points
     → points_between low high points ≡ filter (λ (p : Point). lt_ℚ p.0 high) (slice_range points i j)
 between-places low high points i j r h e f =
-    let order : i ≤ j = subst (λ (k : ℕ). k ≤ j) (sym e) (subst (λ (k : ℕ). place_of low points ≤ k) (sym f) (place-rises low high points h)) in
+    let order : i ≤ j = subst (λ (k : ℕ). k ≤ j) (sym e) (subst (λ (k : ℕ). count_until low points ≤ k) (sym f) (place-rises low high points h)) in
     let split : drop i points ≡ slice_range points i j ++ drop j points = drop_split points i j order in
     let all : AllLater low (slice_range points i j ++ drop j points) = subst (AllLater low) split
     (subst (λ (k : ℕ). AllLater low (drop k points)) (sym e) (later-from-place low points r)) in
@@ -111,11 +111,11 @@ filter-reverse t (x ∷ xs) =
     by_test true = sym (reverse-append (x ∷ []) (filter t xs))
     by_test false = append-nil (reverse (filter t xs))
 
-pub along-up : (first last : ℚ) (points : List Point) (i j : ℕ) → TimesRise points → first <ℚ last → i ≡ place_of first points → j ≡ place_of last points
+pub along-up : (first last : ℚ) (points : List Point) (i j : ℕ) → TimesRise points → first <ℚ last → i ≡ count_until first points → j ≡ count_until last points
     → points_along (lt_ℚ first last) first last points ≡ filter (λ (p : Point). lt_ℚ p.0 last) (slice_range points i j)
 along-up first last points i j r h e f = ap (λ (b : Bool). points_along b first last points) (test_of_less first last h) ∙ between-places first last points i j r (≤ℚ_of_lt _ _ h) e f
 
-pub along-down : (first last : ℚ) (points : List Point) (i j : ℕ) → TimesRise points → last <ℚ first → i ≡ place_of first points → j ≡ place_of last points
+pub along-down : (first last : ℚ) (points : List Point) (i j : ℕ) → TimesRise points → last <ℚ first → i ≡ count_until first points → j ≡ count_until last points
     → points_along (lt_ℚ first last) first last points ≡ filter (λ (p : Point). lt_ℚ p.0 first) (reverse (slice_range points j i))
 along-down first last points i j r h e f = ap (λ (b : Bool). points_along b first last points) (test_of_not_less first last (≤ℚ_of_lt _ _ h))
     ∙ ap reverse (between-places last first points j i r (≤ℚ_of_lt _ _ h) f e) ∙ sym (filter-reverse (λ (p : Point). lt_ℚ p.0 first) (slice_range points j i))

@@ -9,7 +9,7 @@ use Rattle.nf_frac_def.specs.declared.PassedAt.{PassedAt}
 use Rattle.nf_frac_def.specs.Checked.{Checked, at_part, ◌>>=◌}
 use Rattle.nf_model.specs.Curve.{Point}
 use Rattle.nf_curve_def.specs.Lines.{checked_slope, checked_line}
-use Rattle.nf_curve.specs.Slopes.{checked_along, Keeps}
+use Rattle.nf_curve.specs.Slopes.{checked_along, KeepsSlope}
 use Rattle.nf_curve.specs.declared.values.PieceSlope.{PieceSlope}
 use Rattle.nf_curve.proofs.Exits.{after_err, after_ok}
 
@@ -20,16 +20,16 @@ line-along passes p q time = refl
 
 -- the slope of a piece is kept once it is computed
 pub keeps-found : (points : List Point) (place : ℕ) (p q : Point) (slope : ℚ) → slice_get points (place - 1) ≡ Some p → slice_get points place ≡ Some q
-    → checked_slope passes_Q p q ≡ Ok slope → Keeps points (Some (record { place = place; slope = slope }))
+    → checked_slope passes_Q p q ≡ Ok slope → KeepsSlope points (Some (record { place = place; slope = slope }))
 keeps-found points place p q slope f g e =
     λ a b i j. ap (λ (a : Point). checked_slope passes_Q a b) (same_Some _ _ (sym i ∙ f)) ∙ ap (checked_slope passes_Q p) (same_Some _ _ (sym j ∙ g)) ∙ e
 
 -- a kept slope is that of its piece
-pub keeps-kept : (part : Part) (points : List Point) (place : ℕ) (kept : Option PieceSlope) (known : PieceSlope) → Keeps points kept → kept ≡ Some known → known.place ≡ place
+pub keeps-kept : (part : Part) (points : List Point) (place : ℕ) (kept : Option PieceSlope) (known : PieceSlope) → KeepsSlope points kept → kept ≡ Some known → known.place ≡ place
     → (p q : Point) → slice_get points (place - 1) ≡ Some p → slice_get points place ≡ Some q
     → ◌≡◌ {A = Result ℚ (PassedAt ℚ)} (Ok known.slope) (at_part part (checked_slope passes_Q p q))
 keeps-kept part points place kept known k is at p q f g =
-    let w = subst (λ (o : Option PieceSlope). Keeps points o) is k in
+    let w = subst (λ (o : Option PieceSlope). KeepsSlope points o) is k in
     sym (ap (at_part part) (w p q (ap (λ (n : ℕ). slice_get points (n - 1)) at ∙ f) (ap (slice_get points) at ∙ g)))
 
 module _ (part : Part) (p q : Point) (time : ℚ) (slope : Result ℚ (PassedAt ℚ)) (is : slope ≡ at_part part (checked_slope passes_Q p q)) where

@@ -13,7 +13,7 @@ use Rattle.nf_model_laws.proofs.Affine.{<_≤_trans}
 use Rattle.nf_rational.specs.Signs.{is_same}
 use Rattle.nf_curve_def.specs.Differences.{turn_at, turns_from, checked_turn}
 use Rattle.nf_curve_laws.proofs.Operations.{is_same_cases}
-use Rattle.nf_curve.specs.Places.{place_of}
+use Rattle.nf_curve.specs.Places.{count_until}
 use Rattle.nf_curve.specs.Steps.{turn_between}
 use Rattle.nf_curve.proofs.Placing.{place-behind, place-past}
 
@@ -46,11 +46,11 @@ module _ (passes : Passing) (time : ℚ) where
   at_end p q (r ∷ rest) = refl
 
   -- after the time of a point, which is the last one up to it
-  at_none : (p q : Point) (rest : List Point) (m : ℕ) → TimesRise (q ∷ rest) → is_same time q.0 ≡ true → place_of time rest ≡ m → m ≡ zero
+  at_none : (p q : Point) (rest : List Point) (m : ℕ) → TimesRise (q ∷ rest) → is_same time q.0 ≡ true → count_until time rest ≡ m → m ≡ zero
   at_none p q [] m r s e = sym e
   at_none p q (x ∷ rest) m r s e = sym e ∙ place-behind time x rest (subst (λ (t : ℚ). t <ℚ x.0) (sym (Rattle.nf_curve_laws.proofs.Operations.same_of time q.0 s)) r.0)
 
-  turns-place : (p : Point) (rest : List Point) (k : ℕ) → TimesRise (p ∷ rest) → p.0 ≤ℚ time → place_of time (p ∷ rest) ≡ k
+  turns-place : (p : Point) (rest : List Point) (k : ℕ) → TimesRise (p ∷ rest) → p.0 ≤ℚ time → count_until time (p ∷ rest) ≡ k
       → turns_from passes time p rest ≡ turn_place passes time (p ∷ rest) k
   turns-place p [] k r h e = ap (turn_place passes time (p ∷ [])) (sym (place-past time p [] h) ∙ e)
   turns-place p (q ∷ rest) k r h e = ⊎_elim
@@ -58,11 +58,11 @@ module _ (passes : Passing) (time : ℚ) where
       ap (λ (b : Bool). if b then turn_at passes p q rest else turns_from passes time q rest) (apart_times time q.0 w.1) ∙ none_turns q rest r.1 w.1
       ∙ ap (turn_place passes time (p ∷ q ∷ rest)) (sym (place-past time p (q ∷ rest) h ∙ ap suc (place-behind time q rest w.1)) ∙ e))
       (λ (w : (lt_ℚ time q.0 ≡ false) × (q.0 ≤ℚ time)).
-      further (place_of time rest) refl (λ k e. turns-place q rest k r.1 w.1 e) w.1
+      further (count_until time rest) refl (λ k e. turns-place q rest k r.1 w.1 e) w.1
       ∙ ap (turn_place passes time (p ∷ q ∷ rest)) (sym (place-past time p (q ∷ rest) h ∙ ap suc (place-past time q rest w.1)) ∙ e))
       (lt_ℚ_cases time q.0)
     where
-      further : (m : ℕ) → place_of time rest ≡ m → ((k : ℕ) → place_of time (q ∷ rest) ≡ k → turns_from passes time q rest ≡ turn_place passes time (q ∷ rest) k) → q.0 ≤ℚ time
+      further : (m : ℕ) → count_until time rest ≡ m → ((k : ℕ) → count_until time (q ∷ rest) ≡ k → turns_from passes time q rest ≡ turn_place passes time (q ∷ rest) k) → q.0 ≤ℚ time
           → turns_from passes time p (q ∷ rest) ≡ turn_place passes time (p ∷ q ∷ rest) (suc (suc m))
       further m d rec j = ⊎_elim
           (λ (w : (is_same time q.0 ≡ true) × (time ≡ q.0)).
@@ -78,12 +78,12 @@ module _ (passes : Passing) (time : ℚ) where
           same zero t = sym (ap (λ (b : Bool). if b then turn_between passes (Some p) (Some q) (slice_get rest zero) else Ok false) t)
           same (suc m) t = refl
 
-  checked_turn-place : (points : List Point) (k : ℕ) → IsCurve points → 0ℚ ≤ℚ time → k ≡ place_of time points → checked_turn passes time points ≡ turn_place passes time points k
+  checked_turn-place : (points : List Point) (k : ℕ) → IsCurve points → 0ℚ ≤ℚ time → k ≡ count_until time points → checked_turn passes time points ≡ turn_place passes time points k
   checked_turn-place [] k c h e = absurd c
   checked_turn-place (p ∷ rest) k c h e = turns-place p rest k c.1 (subst (λ (z : ℚ). z ≤ℚ time) (sym c.0) h) (sym e)
 
   -- ---- the exits of the test
-  pub turn-early : (points : List Point) (k : ℕ) → IsCurve points → 0ℚ ≤ℚ time → k ≡ place_of time points → k < 2 → checked_turn passes time points ≡ Ok false
+  pub turn-early : (points : List Point) (k : ℕ) → IsCurve points → 0ℚ ≤ℚ time → k ≡ count_until time points → k < 2 → checked_turn passes time points ≡ Ok false
   turn-early points k c h e j = checked_turn-place points k c h e ∙ early k j
     where
       early : (k : ℕ) → k < 2 → turn_place passes time points k ≡ Ok false
@@ -100,13 +100,13 @@ module _ (passes : Passing) (time : ℚ) where
       (ap (slice_get points) (let d : n ≡ suc (suc n) - 2 = omega arith in d) ∙ f)
       ∙ ap (λ (o : Option Point). turn_here passes time (Some p) o (slice_get points (suc (suc n)))) (ap (slice_get points) (let d : suc n ≡ suc (suc n) - 1 = omega arith in d) ∙ g)
 
-  pub turn-apart : (points : List Point) (k : ℕ) (p q : Point) → IsCurve points → 0ℚ ≤ℚ time → k ≡ place_of time points → 2 ≤ k
+  pub turn-apart : (points : List Point) (k : ℕ) (p q : Point) → IsCurve points → 0ℚ ≤ℚ time → k ≡ count_until time points → 2 ≤ k
       → slice_get points (k - 2) ≡ Some p → slice_get points (k - 1) ≡ Some q
       → is_same time q.0 ≡ false → checked_turn passes time points ≡ Ok false
   turn-apart points k p q c h e j f g t = checked_turn-place points k c h e ∙ late points k p q j f g
       ∙ ap (λ (b : Bool). if b then turn_between passes (Some p) (Some q) (slice_get points k) else Ok false) t
 
-  pub turn-there : (points : List Point) (k : ℕ) (p q : Point) → IsCurve points → 0ℚ ≤ℚ time → k ≡ place_of time points → 2 ≤ k
+  pub turn-there : (points : List Point) (k : ℕ) (p q : Point) → IsCurve points → 0ℚ ≤ℚ time → k ≡ count_until time points → 2 ≤ k
       → slice_get points (k - 2) ≡ Some p → slice_get points (k - 1) ≡ Some q
       → is_same time q.0 ≡ true → checked_turn passes time points ≡ turn_between passes (slice_get points (k - 2)) (slice_get points (k - 1)) (slice_get points k)
   turn-there points k p q c h e j f g t = checked_turn-place points k c h e ∙ late points k p q j f g

@@ -11,7 +11,7 @@ use Rattle.nf_frac_def.specs.Checked.{Checked, ◌>>=◌}
 use Rattle.nf_model.specs.Curve.{Point, TimesRise, IsCurve}
 use Rattle.nf_curve_def.specs.Values.{points_before, checked_value, checked_cut}
 use Rattle.nf_curve_laws.proofs.Composed.{rise_rest}
-use Rattle.nf_curve.specs.Places.{place_of}
+use Rattle.nf_curve.specs.Places.{count_until}
 use Rattle.nf_curve.proofs.Placing.{place_within, rise-pairs, not-yet, value-at, curve-rises}
 
 -- the points before the last one's time, and the last one, are all
@@ -33,9 +33,9 @@ pub whole_cut : (passes : Passing) (points : List Point) (n : ℕ) (p : Point) �
 unfolding checked_cut
 whole_cut passes points n p c e g h =
     let rises : TimesRise points = curve-rises points c in
-    let late : n < place_of p.0 points = not-yet p.0 points n p rises g (not_less_itself p.0) in
-    let within : place_of p.0 points ≤ length points = place_within p.0 points in
-    let place : suc n ≡ place_of p.0 points = omega (arith, late, within, e) in
+    let late : n < count_until p.0 points = not-yet p.0 points n p rises g (not_less_itself p.0) in
+    let within : count_until p.0 points ≤ length points = place_within p.0 points in
+    let place : suc n ≡ count_until p.0 points = omega (arith, late, within, e) in
     let past : slice_get points (suc n) ≡ None = slice_get_past points (suc n) (omega (arith, e)) in
     let back : suc n - 1 ≡ n = omega arith in
     let value : checked_value passes points p.0 ≡ Ok p.1 = value-at passes p.0 points (suc n) p None c h place (ap (slice_get points) back ∙ g) past in

@@ -4,13 +4,13 @@ use Rattle.nf_rational.specs.Rational.{ℚ}
 use Rattle.nf_rational.specs.Operations.{0ℚ}
 use Rattle.nf_rational.specs.Order.{◌≤ℚ◌, lt_ℚ}
 use Rattle.nf_model.specs.Curve.{Point}
-use Rattle.nf_curve.specs.Places.{place_of, times_after}
+use Rattle.nf_curve.specs.Places.{count_until, times_after}
 use Rattle.nf_curve.specs.declared.walk.Moment.{Moment}
 
 pub record IsMoment (left right : List Point) (moment : Moment) : Type 0 where
   pub time : 0ℚ ≤ℚ moment.time
-  pub left_place : moment.left ≡ place_of moment.time left
-  pub right_place : moment.right ≡ place_of moment.time right
+  pub left_place : moment.left ≡ count_until moment.time left
+  pub right_place : moment.right ≡ count_until moment.time right
 
 -- holds if the merge has ended, or its current time satisfies `IsMoment`
 abbrev pub IsThere : List Point → List Point → Option Moment → Type 0

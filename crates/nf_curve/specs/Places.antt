@@ -11,9 +11,9 @@ use Rattle.nf_curve_def.specs.Lines.{checked_line}
 use Rattle.nf_curve_def.specs.Times.{merged, times_of}
 
 -- counts the leading points at or before a time
-abbrev pub place_of : ℚ → List Point → ℕ
-place_of time [] = zero
-place_of time (p ∷ rest) = if lt_ℚ time p.0 then zero else suc (place_of time rest)
+abbrev pub count_until : ℚ → List Point → ℕ
+count_until time [] = zero
+count_until time (p ∷ rest) = if lt_ℚ time p.0 then zero else suc (count_until time rest)
 
 -- computes the value at a time from the last point at or before it and the next point
 abbrev pub value_between : Passing → ℚ → Option Point → Option Point → Checked ℚ
@@ -23,12 +23,12 @@ value_between passes time (Some p) (Some q) = if is_same time p.0 then Ok p.1 el
 
 -- ---- the merged times of two curves after a time
 -- the points after a time
-abbrev pub later : ℚ → List Point → List Point
-later time [] = []
-later time (p ∷ rest) = if lt_ℚ time p.0 then p ∷ rest else later time rest
+abbrev pub points_after : ℚ → List Point → List Point
+points_after time [] = []
+points_after time (p ∷ rest) = if lt_ℚ time p.0 then p ∷ rest else points_after time rest
 
 abbrev pub times_after : ℚ → List Point → List Point → List ℚ
-times_after time left right = merged (times_of (later time left)) (times_of (later time right))
+times_after time left right = merged (times_of (points_after time left)) (times_of (points_after time right))
 
 -- returns the earlier of two times, or the only one
 abbrev pub earlier_of : Option ℚ → Option ℚ → Option ℚ

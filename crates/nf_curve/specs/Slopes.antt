@@ -17,10 +17,10 @@ checked_along passes p slope time = do
   checked passes Sum p.1 m
 
 -- a kept slope is the value of the checked slope of its piece
-abbrev pub Keeps : List Point → Option PieceSlope → Type 0
-Keeps points None = Unit {0}
-Keeps points (Some kept) = (p q : Point) → slice_get points (kept.place - 1) ≡ Some p → slice_get points kept.place ≡ Some q → checked_slope passes_Q p q ≡ Ok kept.slope
+abbrev pub KeepsSlope : List Point → Option PieceSlope → Type 0
+KeepsSlope points None = Unit {0}
+KeepsSlope points (Some kept) = (p q : Point) → slice_get points (kept.place - 1) ≡ Some p → slice_get points kept.place ≡ Some q → checked_slope passes_Q p q ≡ Ok kept.slope
 
 pub record KeepBoth (left right : List Point) (kept : KeptSlopes) : Type 0 where
-  pub left_slope : Keeps left kept.left
-  pub right_slope : Keeps right kept.right
+  pub left_slope : KeepsSlope left kept.left
+  pub right_slope : KeepsSlope right kept.right

@@ -8,9 +8,9 @@ ghost use Rattle.nf_frac_def.specs.Passing.{passes_Q};
 ghost use Rattle.nf_frac_def.specs.Checked.{at_part, each, Gives};
 ghost use Rattle.nf_model.specs.Curve.{IsCurve, Within, value};
 ghost use Rattle.nf_curve_def.specs.Composed.{corner_at as corner_by, points_along, composed_piece, composed_all, checked_composed};
-ghost use Rattle.nf_curve.specs.Places.{place_of};
+ghost use Rattle.nf_curve.specs.Places.{count_until};
 ghost use Rattle.nf_curve.specs.Steps.{behind};
-ghost use Rattle.nf_curve.specs.Slopes.{Keeps};
+ghost use Rattle.nf_curve.specs.Slopes.{KeepsSlope};
 
 use crate::cut::{cut_points, ends_at};
 use crate::lines::{Point, inverse};
@@ -108,8 +108,8 @@ fn add_corners(
 ) -> Result<(), Halt<Q>>
     requires outer { IsCurve outer.now }
     requires later { p.now.0 <ℚ q.now.0 }
-    requires first { places.0 ≡ place_of p.now.1 outer.now }
-    requires last { places.1 ≡ place_of q.now.1 outer.now }
+    requires first { places.0 ≡ count_until p.now.1 outer.now }
+    requires last { places.1 ≡ count_until q.now.1 outer.now }
     ensures { Gives (λ _. composed.new.items) (λ q. q) result
         (at_part part (behind composed.old.items
         (each (corner_by passes_Q p.now q.now)
@@ -144,12 +144,12 @@ fn add_piece(
     requires outer { IsCurve outer.now }
     requires later { p.now.0 <ℚ q.now.0 }
     requires value { 0ℚ ≤ℚ p.now.1 }
-    requires place { place.old.count ≡ place_of p.now.1 outer.now }
-    requires kept { Keeps outer.now place.old.kept }
+    requires place { place.old.count ≡ count_until p.now.1 outer.now }
+    requires kept { KeepsSlope outer.now place.old.kept }
     ensures points { Gives (λ _. composed.new.items) (λ q. q) result
         (at_part part (behind composed.old.items (composed_piece passes_Q outer.now p.now q.now))) }
-    ensures place { IfOk result (λ _. place.new.count ≡ place_of q.now.1 outer.now) }
-    ensures kept { Keeps outer.now place.new.kept }
+    ensures place { IfOk result (λ _. place.new.count ≡ count_until q.now.1 outer.now) }
+    ensures kept { KeepsSlope outer.now place.new.kept }
 {
     let value = value_with(outer, place.count, p.1, &mut place.kept, part)?;
     composed.push((p.0, value))?;

@@ -8,7 +8,7 @@ ghost use Rattle.nf_model.specs.Curve.{IsCurve, TimesRise};
 ghost use Rattle.nf_rational.specs.Signs.{is_same as is_same_by};
 ghost use Rattle.nf_curve_def.specs.Differences.{do_differ as do_differ_by, turn_at, checked_turn, turns_at, checked_difference};
 ghost use Rattle.nf_curve.specs.Sides.{sides_of};
-ghost use Rattle.nf_curve.specs.Places.{place_of};
+ghost use Rattle.nf_curve.specs.Places.{count_until};
 ghost use Rattle.nf_curve.specs.Moments.{IsMoment, only_before as only_before_by};
 ghost use Rattle.nf_curve.specs.Steps.{turn_between, difference_step};
 ghost use Rattle.nf_curve.specs.Slopes.{KeepBoth};
@@ -66,7 +66,7 @@ fn turns_before(points: &[Point], place: usize, part: Part) -> Result<bool, Pass
 fn does_turn(points: &[Point], place: usize, time: Q, part: Part) -> Result<bool, PassedAt<Q>>
     requires curve { IsCurve points.now }
     requires time { 0ℚ ≤ℚ time }
-    requires place { place ≡ place_of time points.now }
+    requires place { place ≡ count_until time points.now }
     requires within { place ≤ length points.now }
     ensures { result ≡ at_part part (checked_turn passes_Q time points.now) }
 {

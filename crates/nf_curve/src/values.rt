@@ -7,8 +7,8 @@ ghost use Rattle.nf_frac_def.specs.Checked.{at_part};
 ghost use Rattle.nf_model.specs.Curve.{Point as SeenPoint, IsCurve, TimesRise};
 ghost use Rattle.nf_curve_def.specs.Lines.{checked_slope};
 ghost use Rattle.nf_curve_def.specs.Values.{checked_value};
-ghost use Rattle.nf_curve.specs.Places.{place_of};
-ghost use Rattle.nf_curve.specs.Slopes.{Keeps};
+ghost use Rattle.nf_curve.specs.Places.{count_until};
+ghost use Rattle.nf_curve.specs.Slopes.{KeepsSlope};
 
 use crate::lines::{Point, along, slope};
 use nf_frac::{Part, PassedAt, Q};
@@ -30,11 +30,11 @@ fn slope_at(
     requires rise { TimesRise points.now }
     requires some { 0 < place }
     requires within { place < length points.now }
-    requires kept { Keeps points.now kept.old }
+    requires kept { KeepsSlope points.now kept.old }
     ensures slope { (p q : SeenPoint) → slice_get points.now (place - 1) ≡ Some p
         → slice_get points.now place ≡ Some q
         → result ≡ at_part part (checked_slope passes_Q p q) }
-    ensures kept { Keeps points.now kept.new }
+    ensures kept { KeepsSlope points.now kept.new }
 {
     if let Some(known) = *kept {
         if known.place == place {
@@ -57,10 +57,10 @@ pub fn value_with(
 ) -> Result<Q, PassedAt<Q>>
     requires curve { IsCurve points.now }
     requires time { 0ℚ ≤ℚ time }
-    requires place { place ≡ place_of time points.now }
-    requires kept { Keeps points.now kept.old }
+    requires place { place ≡ count_until time points.now }
+    requires kept { KeepsSlope points.now kept.old }
     ensures value { result ≡ at_part part (checked_value passes_Q points.now time) }
-    ensures kept { Keeps points.now kept.new }
+    ensures kept { KeepsSlope points.now kept.new }
 {
     let last = points[place - 1];
     if place == points.len() || time == last.0 {
@@ -75,7 +75,7 @@ pub fn value_with(
 pub fn value_at(points: &[Point], place: usize, time: Q, part: Part) -> Result<Q, PassedAt<Q>>
     requires curve { IsCurve points.now }
     requires time { 0ℚ ≤ℚ time }
-    requires place { place ≡ place_of time points.now }
+    requires place { place ≡ count_until time points.now }
     ensures { result ≡ at_part part (checked_value passes_Q points.now time) }
 {
     let mut none = None;

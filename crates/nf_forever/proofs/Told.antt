@@ -16,7 +16,7 @@ use Rattle.nf_thin_def.specs.PhaseRun.{Standing, flow_of}
 use Rattle.nf_thin_laws.proofs.OneRun.{length-sets}
 use Rattle.nf_phase_laws.proofs.WellRun.{WellRun}
 use Rattle.nf_phase_laws.proofs.Run.{HasShape-well, HasSlopes-well}
-use Rattle.nf_curve.specs.Flows.{flow_of as flow_in}
+use Rattle.nf_curve.specs.Flows.{seen_flow as flow_in}
 use Rattle.nf_phase_def.specs.ToEnd.{Tail}
 use Rattle.nf_phase_def.specs.ToEnd.{GoesForever}
 use Rattle.nf_forever_def.specs.ForeverRun.{End, Stops, NeverEnds, RunsForever, at_phases, fails, never_ends, goes, IsForeverRun, Forever, forever_of, IsForever}

@@ -6,7 +6,7 @@ ghost use Rattle.nf_rational.specs.Order.{◌≤ℚ◌};
 ghost use Rattle.nf_frac_def.specs.Passing.{passes_Q};
 ghost use Rattle.nf_model.specs.Equilibrium.{Equilibrium};
 ghost use Rattle.nf_thin_def.specs.PhaseRun.{IsStart};
-ghost use Rattle.nf_curve.specs.Flows.{flow_of};
+ghost use Rattle.nf_curve.specs.Flows.{seen_flow};
 ghost use Rattle.nf_phase.specs.Stepping.{tail_by};
 ghost use Rattle.nf_forever_def.specs.ForeverRun.{Stops, NeverEnds, IsForeverRun, forever_of, IsForever};
 ghost use Rattle.nf_forever_def.specs.Extended.{flow_until};
@@ -115,12 +115,12 @@ pub fn solve_forever(alloc: Global, net: &Network, budgets: Budgets) -> Result<F
     ensures run { IfOk result
         (λ f. IsForever passes_Q net.now.net budgets.phases budgets.patterns (forever_in f)) }
     ensures form { IfOk result (λ f. HasForm net.now.net (forever_in f)) }
-    ensures equilibrium { IfOk result (λ f. Equilibrium net.now.net (flow_of f.flow)) }
+    ensures equilibrium { IfOk result (λ f. Equilibrium net.now.net (seen_flow f.flow)) }
     ensures tail { IfOk result (λ f. IfSome f.tail
         (λ tail. (until : ℚ) → 0ℚ ≤ℚ until
-        → Equilibrium net.now.net (flow_until net.now.net (flow_of f.flow) (tail_in tail) until))) }
+        → Equilibrium net.now.net (flow_until net.now.net (seen_flow f.flow) (tail_in tail) until))) }
     ensures grows { IfOk result
-        (λ f. IfSome f.tail (λ tail. TailGrows net.now.net (flow_of f.flow) (tail_in tail))) }
+        (λ f. IfSome f.tail (λ tail. TailGrows net.now.net (seen_flow f.flow) (tail_in tail))) }
     ensures stop { IfOk result (λ f. IsSome f.tail ↔ (f.stopped ≡ None)) }
 {
     // Proof: the network is that of an accepted file.

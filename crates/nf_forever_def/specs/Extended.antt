@@ -18,12 +18,12 @@ abbrev pub last_point : List Point → Point
 last_point points = option_map_or (λ point. point) (last_or None points) (0ℚ, 0ℚ)
 
 -- The last value of the curve plus the growth at `rate` over `while`.
-abbrev pub value_after : List Point → ℚ → ℚ → ℚ
-value_after points while rate = (last_point points).1 +ℚ while *ℚ rate
+abbrev pub extended_value : List Point → ℚ → ℚ → ℚ
+extended_value points while rate = (last_point points).1 +ℚ while *ℚ rate
 
 -- The labels at `while` after the end of the label curves.
 abbrev pub labels_then : ℚ → List ℚ → List (List Point) → List ℚ
-labels_then while (rate ∷ slopes) (points ∷ curves) = value_after points while rate ∷ labels_then while slopes curves
+labels_then while (rate ∷ slopes) (points ∷ curves) = extended_value points while rate ∷ labels_then while slopes curves
 labels_then while slopes curves = []
 
 -- The queue whose waiting time is the slack, if the slack is above 0; 0 for an unbounded link.
@@ -52,7 +52,7 @@ module _ (while : ℚ) (slopes labels : List ℚ) where
   -- For each link a trace extended to the label of one of its ends.
   abbrev pub traces_with_end : (Link → ℕ) → List Link → List ℚ → List Trace → List Trace
   traces_with_end end (link ∷ links) (flow ∷ flows) (trace ∷ traces) =
-      trace_with_end (is_positive (number_at slopes (end link))) trace (number_at labels (end link), value_after trace.points while flow)
+      trace_with_end (is_positive (number_at slopes (end link))) trace (number_at labels (end link), extended_value trace.points while flow)
       ∷ traces_with_end end links flows traces
   traces_with_end end links flows traces = []
 

@@ -10,7 +10,7 @@ pub use Rattle.nf_forever_def.specs.Extended.{
   trace_with_end,
   traces_with_end,
   up_to,
-  value_after,
+  extended_value,
   with_end,
 }
 pub use Rattle.nf_forever_def.specs.ForeverRun.{End, Forever, IsForever, IsForeverRun, NeverEnds, RunsForever, Stops, at_phases, fails, forever_of, goes, never_ends}

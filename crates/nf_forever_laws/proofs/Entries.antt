@@ -1,15 +1,15 @@
 -- The lists of a flow extended by a tail, entry by entry.
 use Rattle.std.proofs.Common.{◌≡◌, ℕ, zero, suc, List, [], ◌∷◌, ◌++◌, length, ap, refl, ◌∙◌, arith, Some, slice_get}
-use Rattle.nf_forever_laws.proofs.Common.{none-some, same_Some, ℚ, number_at, Point, Link, hop_of, slack, Trace, value_after, labels_then, queue_then, with_end}
+use Rattle.nf_forever_laws.proofs.Common.{none-some, same_Some, ℚ, number_at, Point, Link, hop_of, slack, Trace, extended_value, labels_then, queue_then, with_end}
 use Rattle.nf_forever_laws.proofs.Common.{trace_with_end, labels_with_end, traces_with_end, queues_with_end}
 use Rattle.nf_rational.specs.Signs.{is_positive}
 
 pub labels_then_at : (w : ℚ) (slopes : List ℚ) (curves : List (List Point)) (v : ℕ) (r : ℚ) (ps : List Point) → slice_get slopes v ≡ Some r → slice_get curves v ≡ Some ps
-    → slice_get (labels_then w slopes curves) v ≡ Some (value_after ps w r)
+    → slice_get (labels_then w slopes curves) v ≡ Some (extended_value ps w r)
 labels_then_at w [] curves v r ps h k = absurd (none-some r h)
 labels_then_at w (q ∷ slopes) [] v r ps h k = absurd (none-some ps k)
 labels_then_at w (q ∷ slopes) (d ∷ curves) zero r ps h k =
-    ap (λ (r : ℚ). Some (value_after d w r)) (same_Some q r h) ∙ ap (λ (d : List Point). Some (value_after d w r)) (same_Some d ps k)
+    ap (λ (r : ℚ). Some (extended_value d w r)) (same_Some q r h) ∙ ap (λ (d : List Point). Some (extended_value d w r)) (same_Some d ps k)
 labels_then_at w (q ∷ slopes) (d ∷ curves) (suc v) r ps h k = labels_then_at w slopes curves v r ps h k
 
 pub labels_with_end_at : (until : ℚ) (labels : List ℚ) (curves : List (List Point)) (v : ℕ) (x : ℚ) (ps : List Point) → slice_get labels v ≡ Some x → slice_get curves v ≡ Some ps
@@ -35,7 +35,7 @@ labels_then-length w (y ∷ slopes) (d ∷ curves) (suc n) h k = ap suc (labels_
 module _ (w : ℚ) (slopes labels : List ℚ) where
   -- the trace of a link at one of its ends
   abbrev pub trace_new : (Link → ℕ) → Link → ℚ → Trace → Trace
-  trace_new end link flow trace = trace_with_end (is_positive (number_at slopes (end link))) trace (number_at labels (end link), value_after trace.points w flow)
+  trace_new end link flow trace = trace_with_end (is_positive (number_at slopes (end link))) trace (number_at labels (end link), extended_value trace.points w flow)
 
   abbrev pub queue_new : Link → List Point → List Point
   queue_new link points = with_end (is_positive (number_at slopes link.tail)) points (number_at labels link.tail, queue_then link.capacity (slack labels (hop_of link)))

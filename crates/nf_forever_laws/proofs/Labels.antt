@@ -3,7 +3,7 @@ use Rattle.std.proofs.Common.{◌≡◌, ℕ, ◌<◌, List, [], ◌∷◌, ◌+
 use Rattle.std.specs.Prelude.{slice_get, unwrap_or}
 use Rattle.nf_forever_laws.proofs.Common.{slice_get_within, ℚ, 0ℚ, ◌+ℚ◌, ◌-ℚ◌, ◌*ℚ◌, ◌≤ℚ◌, ◌<ℚ◌, lt_ℚ, reading_of, ≤ℚ_antisymm, ≤ℚ_refl, lt_ℚ_cases, linear_eq}
 use Rattle.nf_forever_laws.proofs.Common.{number_at, Point, value, Network, Flow, points_at, label, LastPoint, GoesOnTo, ends_at, GoesOnTo-appended, number_is}
-use Rattle.nf_forever_laws.proofs.Common.{points_is, Tail, value_after, labels_then, extended, up_to, flow_until, entry}
+use Rattle.nf_forever_laws.proofs.Common.{points_is, Tail, extended_value, labels_then, extended, up_to, flow_until, entry}
 use Rattle.nf_model_laws.proofs.Curves.{EndsAt-value}
 use Rattle.nf_forever_laws.proofs.Entries.{labels_then_at, labels_with_end_at}
 use Rattle.nf_forever_laws.proofs.Steps.{last_point-is}
@@ -26,7 +26,7 @@ module _ (net : Network) (flow : Flow) (tail : Tail) (v : ℕ) (h : v < net.node
     label_here : slice_get flow.labels v ≡ Some points
     label_here = let f = entry flow.labels v (omega arith) in f.1 ∙ ap (λ (ps : List Point). Some ps) (sym (points_is flow.labels v f.0 f.1))
 
-    ahead_entry : slice_get labels_ahead v ≡ Some (value_after points (until -ℚ flow.reached) (number_at tail.slopes v))
+    ahead_entry : slice_get labels_ahead v ≡ Some (extended_value points (until -ℚ flow.reached) (number_at tail.slopes v))
     ahead_entry = labels_then_at (until -ℚ flow.reached) tail.slopes flow.labels v (number_at tail.slopes v) points (number_is tail.slopes v (omega arith)) label_here
 
     ahead_is : number_at labels_ahead v ≡ label flow v flow.reached +ℚ (until -ℚ flow.reached) *ℚ number_at tail.slopes v

@@ -3,7 +3,7 @@ use Rattle.std.proofs.Common.{◌≡◌, ℕ, ◌<◌, List, [], ◌∷◌, ◌+
 use Rattle.nf_forever_laws.proofs.Common.{same_Some, slice_get_within, ℚ, 0ℚ, ◌+ℚ◌, ◌-ℚ◌, ◌*ℚ◌, ◌<ℚ◌, reading_of, linear_eq, number_at, Point, AreSlopes, Link}
 use Rattle.nf_forever_laws.proofs.Common.{Network, IsNetwork, IsLink, hop_of, hops, rate_at, slack, slacks_of, sets_at, IsThinFlow, moved, IsUnending, IsPhase}
 use Rattle.nf_forever_laws.proofs.Common.{Trace, Flow, points_of, points_at, HasShape, HasSlopes, Equilibrium, LastPoint, GoesOnTo, at, CurvesGoOn, ends_at}
-use Rattle.nf_forever_laws.proofs.Common.{GoesOnTo-appended, number_is, points_is, Tail, last_point, value_after, labels_then, queue_then, traces_with_end}
+use Rattle.nf_forever_laws.proofs.Common.{GoesOnTo-appended, number_is, points_is, Tail, last_point, extended_value, labels_then, queue_then, traces_with_end}
 use Rattle.nf_forever_laws.proofs.Common.{extended, ≤ℚ_refl, slice_get-image, entry, back_and_forth, same_slacks, later_by, less_ps}
 use Rattle.std.proofs.lemmas.List.{length-map}
 use Rattle.nf_model_laws.proofs.Curves.{EndsAt-value}
@@ -69,7 +69,7 @@ module _ (net : Network) (flow : Flow) (tail : Tail) (until : ℚ) (labels : Lis
     ends : LastPoint (curves.labels v) (flow.reached, label_now v)
     ends = grown.curves_stand.labels_end v h
 
-    then_entry : slice_get then v ≡ Some (value_after (curves.labels v) while (number_at tail.slopes v))
+    then_entry : slice_get then v ≡ Some (extended_value (curves.labels v) while (number_at tail.slopes v))
     then_entry = labels_then_at while tail.slopes flow.labels v (number_at tail.slopes v) (curves.labels v)
         (number_is tail.slopes v (let n = thin.slope_count in omega arith)) label_here
 
@@ -105,7 +105,7 @@ module _ (net : Network) (flow : Flow) (tail : Tail) (until : ℚ) (labels : Lis
     head_in : link.head < net.nodes
     head_in = good.heads e link p
 
-    amount_is : (points : List Point) (a y : ℚ) → LastPoint points (a, y) → value_after points while (number_at tail.flows e) ≡ y +ℚ number_at tail.flows e *ℚ while
+    amount_is : (points : List Point) (a y : ℚ) → LastPoint points (a, y) → extended_value points while (number_at tail.flows e) ≡ y +ℚ number_at tail.flows e *ℚ while
     amount_is points a y l = same_value (last_point points) (a, y) while (number_at tail.flows e) (last_point-is points (a, y) l)
 
     -- a trace at one end of the link: the inflow at the tail, or the outflow at the head
@@ -137,7 +137,7 @@ module _ (net : Network) (flow : Flow) (tail : Tail) (until : ℚ) (labels : Lis
 
       trace_step : TraceStep found.0.points trace' (label_now (end link)) value_now while (number_at tail.flows e) (number_at tail.slopes (end link))
       trace_step = TraceStep-last found.0 (number_at tail.flows e) (number_at tail.slopes (end link)) (label_now (end link)) value_now while (number_at then (end link))
-          (value_after found.0.points while (number_at tail.flows e)) (rates e found.0 found.1) last_now some (then_is (end link) end_in) (amount_is found.0.points _ _ last_now)
+          (extended_value found.0.points while (number_at tail.flows e)) (rates e found.0 found.1) last_now some (then_is (end link) end_in) (amount_is found.0.points _ _ last_now)
 
       abbrev Goes : List Point → List Point → Type 0
       Goes points points' = GoesOnTo points points' (label_now (end link), value_now)

@@ -13,12 +13,12 @@ use Rattle.nf_frac_def.specs.declared.Op.TheVariants.{Sum, Difference, Product, 
 use Rattle.nf_frac_def.specs.Passing.{bound_of, beyond, is_wide, sum_is_wide, passes_Q}
 use Rattle.nf_frac_def.specs.Checked.{checked}
 use Rattle.nf_frac.specs.Parts.{IsWithin, SumFits}
-use Rattle.nf_frac.specs.Narrow.{none_of, neither, at_most, narrow_in, narrow_out}
+use Rattle.nf_frac.specs.Narrow.{none_of, neither, not_lower, narrow_in, narrow_out}
 use Rattle.nf_frac.proofs.Form.{ratio_within}
 
 -- ---- a sum
 pub sum_in : (b : ℕ) (x y : ℚ) → SumFits b x y → sum_is_wide b x y ≡ false
-sum_in b x y w = neither _ _ (at_most b _ w.denominator) (neither _ _ (at_most b _ w.left) (neither _ _ (at_most b _ w.right) (at_most b _ w.total)))
+sum_in b x y w = neither _ _ (not_lower b _ w.denominator) (neither _ _ (not_lower b _ w.left) (neither _ _ (not_lower b _ w.right) (not_lower b _ w.total)))
 
 pub sum_out : (b : ℕ) (x y : ℚ) → sum_is_wide b x y ≡ false → SumFits b x y
 sum_out b x y e =

@@ -13,11 +13,11 @@ pub neither : (a b : Bool) → a ≡ false → b ≡ false → (a || b) ≡ fals
 neither true b e f = e
 neither false b e f = f
 
-pub at_most : (m k : ℕ) → k ≤ m → ltb m k ≡ false
-at_most m k h = grind arith
+pub not_lower : (m k : ℕ) → k ≤ m → ltb m k ≡ false
+not_lower m k h = grind arith
 
 pub narrow_in : (b : ℕ) (q : ℚ) → IsWithin b q → is_wide b q ≡ false
-narrow_in b q w = neither _ _ (at_most b (nat_abs q.num) w.small) (at_most b q.den w.small_den)
+narrow_in b q w = neither _ _ (not_lower b (nat_abs q.num) w.small) (not_lower b q.den w.small_den)
 
 pub narrow_out : (b : ℕ) (q : ℚ) → is_wide b q ≡ false → IsWithin b q
 narrow_out b q e = let h = none_of _ _ e in record { small = ltb-false b (nat_abs q.num) h.0; small_den = ltb-false b q.den h.1 }

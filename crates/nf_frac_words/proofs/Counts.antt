@@ -3,7 +3,7 @@ use Rattle.std.proofs.Common.{◌≡◌, ℕ, ◌+◌, ◌-◌, ◌*◌, ◌/◌
 use Rattle.std.specs.Prelude.{◌==◌, cond, Some, None}
 use Rattle.std.proofs.lemmas.Bool.{and_parts, and_from, lt-ltb, ltb-true, not-true, eqb-false, ne_eqb, not_from_false, cond-true, cond-false, and_left, and_right, le-ltb}
 use Rattle.std.specs.Char.{is_ascii_digit}
-use Rattle.nf_frac_words.specs.Digits.{value_after, value_of, digits_of, is_plain, count_of}
+use Rattle.nf_frac_words.specs.Digits.{value_after, value_of, digits_of, is_plain_count, count_of}
 use Rattle.nf_frac_words.proofs.Digits.{digit_range, digit_again, digit_from, digits_one, digits_of-value_after, value_of-digits_of, by_steps, are_digits-append}
 
 -- ---- a plain word consists of the digits of its number
@@ -16,7 +16,7 @@ digits_first c e =
     let below : c - 48 < 10 = omega arith in
     digits_one (c - 48) below ∙ ap (λ (d : ℕ). d ∷ []) (digit_again c e)
 
-pub plain_is_digits : (word : List ℕ) → is_plain word ≡ true → digits_of (value_of word) ≡ word
+pub plain_is_digits : (word : List ℕ) → is_plain_count word ≡ true → digits_of (value_of word) ≡ word
 plain_is_digits [] e = cc
 plain_is_digits (c ∷ []) e = ap digits_of (value_first c []) ∙ digits_first c e
 plain_is_digits (c ∷ d ∷ rest) e =
@@ -33,10 +33,10 @@ is_positive [] = false
 is_positive (c ∷ rest) = not (c == 48)
 
 record IsText (n : ℕ) (ds : List ℕ) : Type 0 where
-  plain : is_plain ds ≡ true
+  plain : is_plain_count ds ≡ true
   positive : 0 < n → is_positive ds ≡ true
 
-plain_push : (ds : List ℕ) (d : ℕ) → is_plain ds ≡ true → is_positive ds ≡ true → is_ascii_digit d ≡ true → (is_plain (ds ++ d ∷ []) ≡ true) × (is_positive (ds ++ d ∷ []) ≡ true)
+plain_push : (ds : List ℕ) (d : ℕ) → is_plain_count ds ≡ true → is_positive ds ≡ true → is_ascii_digit d ≡ true → (is_plain_count (ds ++ d ∷ []) ≡ true) × (is_positive (ds ++ d ∷ []) ≡ true)
 plain_push [] d plain positive e = cc
 plain_push (c ∷ []) d plain positive e = (and_from _ _ (and_from _ _ plain (and_from _ _ e refl)) positive, positive)
 plain_push (c ∷ b ∷ rest) d plain positive e = (and_from _ _ (are_digits-append (c ∷ b ∷ rest) (d ∷ []) (and_parts _ _ plain).0 (and_from _ _ e refl)) positive, positive)
@@ -51,7 +51,7 @@ text_more n ds h t =
     let p = plain_push ds (48 + n % 10) t.plain (t.positive tens) (digit_from (n % 10) last) in
     record { plain = p.0; positive = λ some. p.1 }
 
-pub digits_are_plain : (n : ℕ) → is_plain (digits_of n) ≡ true
+pub digits_are_plain : (n : ℕ) → is_plain_count (digits_of n) ≡ true
 digits_are_plain n = (by_steps IsText text_one text_more n).plain
 
 -- ---- the word of a count
@@ -76,7 +76,7 @@ pub count_from_digits : (word : List ℕ) (n : ℕ) → (word ≡ digits_of n) �
 count_from_digits word n h = ap count_of h.0 ∙ count_of-digits n h.1
 
 -- ---- case by case
-pub count_not_plain : (word : List ℕ) → is_plain word ≡ false → None ≡ count_of word
+pub count_not_plain : (word : List ℕ) → is_plain_count word ≡ false → None ≡ count_of word
 unfolding count_of
 count_not_plain word e = sym (cond-false _ _ _ (and_left _ _ e))
 
@@ -84,6 +84,6 @@ pub count_wide : (word : List ℕ) → (value_of word ≤ 2 ^ 64 - 1 → ⊥) �
 unfolding count_of
 count_wide word wide = let past : 2 ^ 64 ≤ value_of word = omega arith in sym (cond-false _ _ _ (and_right _ _ (le-ltb _ _ past)))
 
-pub count_fits : (word : List ℕ) (value : ℕ) → is_plain word ≡ true → value_of word ≤ 2 ^ 64 - 1 → value_of word ≡ value → Some value ≡ count_of word
+pub count_fits : (word : List ℕ) (value : ℕ) → is_plain_count word ≡ true → value_of word ≤ 2 ^ 64 - 1 → value_of word ≡ value → Some value ≡ count_of word
 unfolding count_of
 count_fits word value plain fits e = let within : value_of word < 2 ^ 64 = omega arith in ap Some (sym e) ∙ sym (cond-true _ _ _ (and_from _ _ plain (lt-ltb _ _ within)))

@@ -7,7 +7,7 @@ use Rattle.std.proofs.lemmas.Bool.{or_parts, eqb-false, ltb-false, and_from, or_
 use Rattle.nf_frac_words.specs.declared.NumberFault.{NumberFault}
 use Rattle.nf_frac_words.specs.declared.NumberFault.TheVariants.{Empty, BadDigit, TooWide, ZeroDenominator}
 use Rattle.nf_frac_words.specs.Digits.{are_digits, value_of}
-use Rattle.nf_frac_words.specs.Numbers.{slash, point, before, after, unsigned, signed_by, denominator, is_decimal, parts_or_fault, parts_of, decimal_parts_of, as_ratio, number_of, decimal_of}
+use Rattle.nf_frac_words.specs.Numbers.{slash, point, before, bytes_after, unsigned, signed_by, denominator, is_decimal, parts_or_fault, parts_of, decimal_parts_of, as_ratio, number_of, decimal_of}
 use Rattle.nf_rational.specs.Rational.{ratio}
 
 pub not_zero : (n : ℕ) → 0 < n → (n == 0) ≡ false
@@ -47,7 +47,7 @@ pub parts_by_fields : (bound : ℕ) (word left right : List ℕ) (r : Result (�
 unfolding parts_of
 parts_by_fields bound word left right r is_left is_right e = rw (is_left, is_right) at e
 
-pub decimal_by_fields : (bound : ℕ) (word left right : List ℕ) (r : Result (ℤ × ℕ) NumberFault) → is_decimal word ≡ true → left ≡ before point word → right ≡ after point word
+pub decimal_by_fields : (bound : ℕ) (word left right : List ℕ) (r : Result (ℤ × ℕ) NumberFault) → is_decimal word ≡ true → left ≡ before point word → right ≡ bytes_after point word
     → r ≡ parts_or_fault bound (unsigned left) right (signed_by left (value_of (unsigned left) * 10 ^ length right + value_of right)) (10 ^ length right)
     → r ≡ decimal_parts_of bound word
 unfolding decimal_parts_of
@@ -118,8 +118,8 @@ parts_of_within bound word =
 decimal_parts_of_within : (bound : ℕ) (word : List ℕ) → IfOk (decimal_parts_of bound word) (IsWithin bound)
 unfolding decimal_parts_of
 decimal_parts_of_within bound word = either (is_decimal word) _ _
-    (fields_within bound (unsigned (before point word)) (after point word)
-    (signed_by (before point word) (value_of (unsigned (before point word)) * 10 ^ length (after point word) + value_of (after point word))) (10 ^ length (after point word)))
+    (fields_within bound (unsigned (before point word)) (bytes_after point word)
+    (signed_by (before point word) (value_of (unsigned (before point word)) * 10 ^ length (bytes_after point word) + value_of (bytes_after point word))) (10 ^ length (bytes_after point word)))
     (parts_of_within bound word)
   where
     either : (b : Bool) (x y : Result (ℤ × ℕ) NumberFault) → IfOk x (IsWithin bound) → IfOk y (IsWithin bound) → IfOk (cond b x y) (IsWithin bound)

@@ -9,7 +9,7 @@ use Rattle.std.specs.Char.{is_ascii_digit}
 use Rattle.std.proofs.lemmas.Bool.{true≢false, or_parts, or_from, or_left, or_right, and_parts, cond-true, cond-false, eq-eqb, ne_eqb, not_from_true, not_from_false, ltb-false}
 use Rattle.std.proofs.lemmas.List.{take_all, take_at, drop_at, drop-drop}
 use Rattle.nf_frac_words.specs.Digits.{are_digits}
-use Rattle.nf_frac_words.specs.Numbers.{has, before, after}
+use Rattle.nf_frac_words.specs.Numbers.{has, before, bytes_after}
 use Rattle.nf_frac_words.proofs.Digits.{digit_range}
 
 -- ---- a byte that a word does not contain
@@ -41,7 +41,7 @@ before_at b xs ys e = ap (λ n. take n (xs ++ b ∷ ys)) (prefix_found b xs ys e
 drop_past : (b : ℕ) (xs ys : List ℕ) → drop (length xs + 1) (xs ++ b ∷ ys) ≡ ys
 drop_past b xs ys = sym (drop-drop 1 (length xs) (xs ++ b ∷ ys)) ∙ ap (drop 1) (drop_at xs (b ∷ ys) (length xs) refl)
 
-pub after_at : (b : ℕ) (xs ys : List ℕ) → has b xs ≡ false → after b (xs ++ b ∷ ys) ≡ ys
+pub after_at : (b : ℕ) (xs ys : List ℕ) → has b xs ≡ false → bytes_after b (xs ++ b ∷ ys) ≡ ys
 after_at b xs ys e = ap (λ n. drop (n + 1) (xs ++ b ∷ ys)) (prefix_found b xs ys e) ∙ drop_past b xs ys
 
 -- ---- digits contain neither a separator nor a sign

@@ -30,11 +30,11 @@ digits_of n = digits_within (suc n) n
 
 -- ---- counts
 -- one or more digits, with no zero before other digits
-abbrev pub is_plain : List ℕ → Bool
-is_plain [] = false
-is_plain (c ∷ []) = is_ascii_digit c
-is_plain (c ∷ d ∷ rest) = are_digits (c ∷ d ∷ rest) && not (c == 48)
+abbrev pub is_plain_count : List ℕ → Bool
+is_plain_count [] = false
+is_plain_count (c ∷ []) = is_ascii_digit c
+is_plain_count (c ∷ d ∷ rest) = are_digits (c ∷ d ∷ rest) && not (c == 48)
 
 -- the count of a word: a plain number of at most 64 bits
 unfoldable pub count_of : List ℕ → Option ℕ
-count_of word = if is_plain word && nat_lt (value_of word) (2 ^ 64) then Some (value_of word) else None
+count_of word = if is_plain_count word && nat_lt (value_of word) (2 ^ 64) then Some (value_of word) else None

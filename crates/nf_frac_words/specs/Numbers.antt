@@ -22,8 +22,8 @@ abbrev pub before : ℕ → List ℕ → List ℕ
 before byte word = before_first (λ c. c == byte) word
 
 -- the bytes after the first such byte
-abbrev pub after : ℕ → List ℕ → List ℕ
-after byte word = after_first (λ c. c == byte) word
+abbrev pub bytes_after : ℕ → List ℕ → List ℕ
+bytes_after byte word = after_first (λ c. c == byte) word
 
 -- a field without its leading minus sign, if it has one
 abbrev pub unsigned : List ℕ → List ℕ
@@ -35,7 +35,7 @@ signed_by field n = if starts_with_minus field then neg_ℤ (pos n) else pos n
 
 -- the bytes after the first slash; a word without a slash has the denominator `1`
 abbrev pub denominator : List ℕ → List ℕ
-denominator word = if has slash word then after slash word else 49 ∷ []
+denominator word = if has slash word then bytes_after slash word else 49 ∷ []
 
 -- ---- numbers
 -- the parts n and d of two fields, or the first fault that applies
@@ -63,7 +63,7 @@ is_decimal word = has point word && not (has slash word)
 unfoldable pub decimal_parts_of : ℕ → List ℕ → Result (ℤ × ℕ) NumberFault
 decimal_parts_of bound word =
     let a = before point word in
-    let b = after point word in
+    let b = bytes_after point word in
     let scale = 10 ^ length b in
     if is_decimal word then parts_or_fault bound (unsigned a) b (signed_by a (value_of (unsigned a) * scale + value_of b)) scale
     else parts_of bound word

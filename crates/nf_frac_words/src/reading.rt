@@ -3,8 +3,8 @@ ghost use Rattle.std.specs.Prelude.{◌≡◌, ◌+◌, ◌*◌, ◌^◌, ◌<�
 ghost use Rattle.std.specs.List.{position, position_or_len};
 ghost use Rattle.std.specs.Str.Parse.{starts_with_minus};
 ghost use Rattle.nf_rational.specs.Rational.{ratio};
-ghost use Rattle.nf_frac_words.specs.Digits.{are_digits, value_after, value_of, is_plain, count_of};
-ghost use Rattle.nf_frac_words.specs.Numbers.{has, before, after, unsigned, signed_by, denominator, is_decimal, parts_or_fault, parts_of, decimal_parts_of, number_of, decimal_of};
+ghost use Rattle.nf_frac_words.specs.Digits.{are_digits, value_after, value_of, is_plain_count, count_of};
+ghost use Rattle.nf_frac_words.specs.Numbers.{has, before, bytes_after, unsigned, signed_by, denominator, is_decimal, parts_or_fault, parts_of, decimal_parts_of, number_of, decimal_of};
 
 use crate::NumberFault;
 
@@ -43,7 +43,7 @@ fn before_byte(word: &[u8], byte: u8) -> &[u8]
 }
 
 fn after_byte(word: &[u8], byte: u8) -> &[u8]
-    ensures { result.now ≡ after byte word.now }
+    ensures { result.now ≡ bytes_after byte word.now }
 {
     let place = place_of(word, byte);
     if place < word.len() {
@@ -273,7 +273,7 @@ pub fn decimal_parts(word: &[u8], bound: u128) -> Result<(i128, u128), NumberFau
 // ---- counts
 
 fn is_count(word: &[u8]) -> bool
-    ensures { result ≡ is_plain word.now }
+    ensures { result ≡ is_plain_count word.now }
 {
     all_digits(word) && !word.is_empty() && (word.len() == 1 || word[0] != b'0')
 }

@@ -10,7 +10,7 @@ use Rattle.nf_rational.specs.Order.{le_ℚ}
 use Rattle.nf_rational_laws.proofs.Order.{nn_whole}
 use Rattle.nf_net_def.specs.Names.{Name, is_name, has_name, place_of, with_names}
 use Rattle.nf_net_def.specs.Named.{NamedLink, numbered, links_by_name, active_links, ends, names_of}
-use Rattle.nf_net_def.specs.NetClosing.{IsReached, LeavesUnreached, Breaks, closing_rules, marked, network_of, AreActive}
+use Rattle.nf_net_def.specs.NetClosing.{IsReached, LeavesUnreached, BreaksRule, closing_rules, marked, network_of, AreActive}
 use Rattle.nf_net_def.specs.NetFile.{Reads}
 use Rattle.nf_net_def.specs.NetText.{canonical}
 use Rattle.nf_net_def.specs.WellNamed.{IsFractionPiece, IsNamedLink, IsNamed}
@@ -183,7 +183,7 @@ module _ (number rungs : ℕ) (some : 1 ≤ rungs) (few : rungs ≤ 30) where
   all_nodes_reached : LeavesUnreached (file_of number rungs) → ⊥
   all_nodes_reached b = b.2 (place_reached b.0 b.1)
 
-  breaks_none : AllByRecursion (λ rule. ¬ Breaks (file_of number rungs) rule) closing_rules
+  breaks_none : AllByRecursion (λ rule. ¬ BreaksRule (file_of number rungs) rule) closing_rules
   breaks_none = (
     (λ e. absurd (cc)),
     ((λ e. absurd (cc)), (some_differ (codes "s") (codes "t") refl, (all_nodes_reached, (no_zero_cycle number rungs some few, (no_passing_sum number rungs some few, tt))))),

@@ -7,16 +7,16 @@ use Rattle.std.proofs.lemmas.Nat.Bits.{bit_at-zero, bit_at_or, bit_at_and, bit_a
 use Rattle.std.proofs.lemmas.Nat.{and_mask, or_lt, shr_le}
 use Rattle.std.proofs.Math.Nat.{le-max_left, le-max_right, min-eq_right}
 use Rattle.std.proofs.lemmas.Bool.{cases_lt}
-use Rattle.nf_linear.specs.Marks.{IsFree, IsWithin}
+use Rattle.nf_linear.specs.Marks.{IsFree, IsSubset}
 
 -- ---- one set and another
-pub within_left : (a b : ℕ) → IsWithin a (bit_or a b)
+pub within_left : (a b : ℕ) → IsSubset a (bit_or a b)
 within_left a b i = subst (λ (n : ℕ). bit_at a i ≤ n) (sym (bit_at_or a b i)) (le-max_left (bit_at a i) (bit_at b i))
 
-pub within_right : (a b : ℕ) → IsWithin b (bit_or a b)
+pub within_right : (a b : ℕ) → IsSubset b (bit_or a b)
 within_right a b i = subst (λ (n : ℕ). bit_at b i ≤ n) (sym (bit_at_or a b i)) (le-max_right (bit_at a i) (bit_at b i))
 
-pub free_within : (a b i : ℕ) → IsWithin a b → IsFree b i → IsFree a i
+pub free_within : (a b i : ℕ) → IsSubset a b → IsFree b i → IsFree a i
 free_within a b i within free = let small = within (i % 64) in omega arith
 
 -- a number is in a set or not

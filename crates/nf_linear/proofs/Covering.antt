@@ -15,7 +15,7 @@ use Rattle.nf_frac_def.specs.Checked.{Checked, checked, fold_checked, ◌>>=◌}
 use Rattle.nf_model.specs.Entries.{number_at}
 use Rattle.nf_rational.specs.Signs.{is_zero}
 use Rattle.nf_linear_def.specs.Table.{Row, row_at, less_unless}
-use Rattle.nf_linear.specs.Marks.{IsFree, IsWithin, AreZeroUnless, Covers, AreSameUnless, spread}
+use Rattle.nf_linear.specs.Marks.{IsFree, IsSubset, AreZeroUnless, Covers, AreSameUnless, spread}
 use Rattle.nf_linear.specs.Rows.{entry_less, clear_row, clear_unless, clear_each}
 use Rattle.nf_linear.proofs.Skips.{set_same}
 use Rattle.nf_linear.proofs.Bits.{within_left, within_right, free_within, not_free, bit_cases}
@@ -36,7 +36,7 @@ number-set_zero (y ∷ row) (suc k) zero e = e
 number-set_zero (y ∷ row) (suc k) (suc i) e = number-set_zero row k i e
 
 -- one number of a row changes, and its column is put into the set
-pub zero_kept : (word after column : ℕ) (row : Row) (x : ℚ) → IsWithin word after → bit_at after (column % 64) ≡ 1 → AreZeroUnless word row → AreZeroUnless after (set row column x)
+pub zero_kept : (word after column : ℕ) (row : Row) (x : ℚ) → IsSubset word after → bit_at after (column % 64) ≡ 1 → AreZeroUnless word row → AreZeroUnless after (set row column x)
 zero_kept word after column row x within one zeros i free =
     ⊎_elim
     (λ (same : i ≡ column). absurd (not_free after i (ap (λ (k : ℕ). bit_at after (k % 64)) same ∙ one) free))
@@ -52,7 +52,7 @@ row-set_other (y ∷ rows) (suc k) zero x apart = refl
 row-set_other (y ∷ rows) (suc k) (suc i) x apart = row-set_other rows k i x (λ e. apart (ap suc e))
 
 -- one row changes, and it is put into the set
-same_kept : (word after i : ℕ) (rows before : List Row) (y : Row) → IsWithin word after → bit_at after (i % 64) ≡ 1 → AreSameUnless word rows before
+same_kept : (word after i : ℕ) (rows before : List Row) (y : Row) → IsSubset word after → bit_at after (i % 64) ≡ 1 → AreSameUnless word rows before
     → AreSameUnless after (set rows i y) before
 same_kept word after i rows before y within one same k free =
     ⊎_elim
@@ -61,7 +61,7 @@ same_kept word after i rows before y within one same k free =
     (cases_eq k i)
 
 -- one row is cleared or stays, and it is put into the set if it is cleared
-pub same_noted : (word after i : ℕ) (rows before : List Row) (y : Row) (is_cleared : Bool) → i < length rows → IsWithin word after → (is_cleared ≡ true → bit_at after (i % 64) ≡ 1)
+pub same_noted : (word after i : ℕ) (rows before : List Row) (y : Row) (is_cleared : Bool) → i < length rows → IsSubset word after → (is_cleared ≡ true → bit_at after (i % 64) ≡ 1)
     → (is_cleared ≡ false → y ≡ row_at rows i) → AreSameUnless word rows before → AreSameUnless after (set rows i y) before
 same_noted word after i rows before y true b within put stays same = same_kept word after i rows before y within (put refl) same
 same_noted word after i rows before y false b within put stays same =
@@ -84,8 +84,8 @@ set_got (other ∷ columns) zero d b = refl
 set_got (other ∷ columns) (suc c) d b = set_got columns c d (omega arith)
 
 -- ---- the sets of the columns of a row's numbers
-pub sets_grow : (before columns : List ℕ) (k word : ℕ) → k < length columns → IsWithin (get_or columns k 0) word → ((c : ℕ) → IsWithin (get_or before c 0) (get_or columns c 0))
-    → (c : ℕ) → IsWithin (get_or before c 0) (get_or (set columns k word) c 0)
+pub sets_grow : (before columns : List ℕ) (k word : ℕ) → k < length columns → IsSubset (get_or columns k 0) word → ((c : ℕ) → IsSubset (get_or before c 0) (get_or columns c 0))
+    → (c : ℕ) → IsSubset (get_or before c 0) (get_or (set columns k word) c 0)
 sets_grow before columns k word b within grown c i =
     let so_far = grown c i in
     ⊎_elim

@@ -12,8 +12,8 @@ abbrev pub IsFree : ℕ → ℕ → Type 0
 IsFree word number = bit_at word (number % 64) ≡ 0
 
 -- each number of a set is in another
-abbrev pub IsWithin : ℕ → ℕ → Type 0
-IsWithin word other = (i : ℕ) → bit_at word i ≤ bit_at other i
+abbrev pub IsSubset : ℕ → ℕ → Type 0
+IsSubset word other = (i : ℕ) → bit_at word i ≤ bit_at other i
 
 -- the numbers of a row are 0, except perhaps in the columns of a set
 abbrev pub AreZeroUnless : ℕ → Row → Type 0

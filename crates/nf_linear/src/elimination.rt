@@ -11,7 +11,7 @@ ghost use Rattle.nf_linear_def.specs.Table as Lists;
 ghost use Rattle.nf_linear_def.specs.Table.{row_at};
 ghost use Rattle.nf_linear_laws.specs.Solution.{IsSquare};
 ghost use Rattle.nf_linear.specs.Marks as Marked;
-ghost use Rattle.nf_linear.specs.Marks.{IsFree, IsWithin, IsZeroUnless, Covers, AreSameUnless};
+ghost use Rattle.nf_linear.specs.Marks.{IsFree, IsSubset, IsZeroUnless, Covers, AreSameUnless};
 ghost use Rattle.nf_linear.specs.Rows.{meant, clear_unless, clear_each};
 ghost use Rattle.nf_linear.specs.Pivots.{AreTaken, eliminated, HasPivots};
 
@@ -25,7 +25,7 @@ use nf_frac::{PassedAt, Scalar};
 fn mark_row<C: Cells>(row: &Row<C>, number: usize, columns: &mut [Marks])
     ensures marked { (column : ℕ) → column < length columns.old
         → IsFree (get_or columns.new column 0) number → number_at row.now column ≡ 0ℚ }
-    ensures kept { (column : ℕ) → IsWithin (get_or columns.old column 0)
+    ensures kept { (column : ℕ) → IsSubset (get_or columns.old column 0)
         (get_or columns.new column 0) }
 {
     let mut at = row.next_some(0, columns.len());

@@ -2,7 +2,7 @@
 ghost use Rattle.std.specs.Prelude.{◌≡◌, ℕ, ◌≤◌, ◌<◌, ◌%◌, true};
 ghost use Rattle.std.specs.Int.{bit_at};
 ghost use Rattle.std.specs.Int.RustNames.{bit_or};
-ghost use Rattle.nf_linear.specs.Marks.{IsFree, IsWithin};
+ghost use Rattle.nf_linear.specs.Marks.{IsFree, IsSubset};
 
 use std::marker::Model;
 
@@ -31,7 +31,7 @@ impl Marks {
     // Puts a number into the set.
     pub fn put(&mut self, number: usize)
         ensures put { bit_at self.new (number % 64) ≡ 1 }
-        ensures kept { IsWithin self.old self.new }
+        ensures kept { IsSubset self.old self.new }
     {
         self.word |= 1 << (number % 64);
     }
@@ -39,7 +39,7 @@ impl Marks {
     // Puts a number into the set if `holds`.
     pub fn put_if(&mut self, number: usize, holds: bool)
         ensures put { holds ≡ true → bit_at self.new (number % 64) ≡ 1 }
-        ensures kept { IsWithin self.old self.new }
+        ensures kept { IsSubset self.old self.new }
     {
         if holds {
             self.put(number);

@@ -13,7 +13,7 @@ use Rattle.nf_frac_def.specs.Passing.{Passing}
 use Rattle.nf_model.specs.Entries.{number_at}
 use Rattle.nf_linear_def.specs.Table.{Row, row_at, table_list}
 use Rattle.nf_linear_laws.proofs.Exact.{table_list_as}
-use Rattle.nf_linear_laws.specs.Solution.{IsSquare, left_side, Solves, IsOnlySolution}
+use Rattle.nf_linear_laws.specs.Solution.{IsSquare, left_side, SolvesRows, IsOnlySolution}
 use Rattle.nf_linear_laws.proofs.Totals.{total, total_same, total_zero, total_less}
 use Rattle.nf_linear_laws.proofs.Steps.{Meets}
 use Rattle.nf_linear_laws.proofs.Elimination.{numbers, IsSolvedBy, IsLoose, table_says}
@@ -42,10 +42,10 @@ left_side-is (a ∷ row) [] (suc n) e = absurd (cc)
 left_side-is (a ∷ row) (x ∷ xs) zero e = absurd (cc)
 left_side-is (a ∷ row) (x ∷ xs) (suc n) e = ap (λ (s : ℚ). a *ℚ x +ℚ s) (left_side-is row xs n (cc))
 
-meets_of : (rows : List Row) (xs : List ℚ) → Solves rows xs → Meets (length rows) (numbers rows) 1ℚ (number_at xs)
+meets_of : (rows : List Row) (xs : List ℚ) → SolvesRows rows xs → Meets (length rows) (numbers rows) 1ℚ (number_at xs)
 meets_of rows xs s i b = sym (left_side-is (row_at rows i) xs (length rows) s.count) ∙ s.each i b ∙ sym (times_one (numbers rows i (length rows)))
 
-solves_of : (rows : List Row) (xs : List ℚ) → length xs ≡ length rows → Meets (length rows) (numbers rows) 1ℚ (number_at xs) → Solves rows xs
+solves_of : (rows : List Row) (xs : List ℚ) → length xs ≡ length rows → Meets (length rows) (numbers rows) 1ℚ (number_at xs) → SolvesRows rows xs
 solves_of rows xs e h = record { count = e; each = λ i b. left_side-is (row_at rows i) xs (length rows) e ∙ h i b ∙ times_one (numbers rows i (length rows)) }
 
 -- ---- one solution
@@ -68,11 +68,11 @@ is_nothing x h e = linear_eq (x ∷ h ∷ []) (eq e ∷ []) (search reading_of) 
 one_is_some : 1ℚ ≢ 0ℚ
 one_is_some = ps_apart 1ℚ (ps_whole 0)
 
-module _ (rows : List Row) (s : IsLoose (length rows) (numbers rows)) (xs : List ℚ) (h : Solves rows xs) where
+module _ (rows : List Row) (s : IsLoose (length rows) (numbers rows)) (xs : List ℚ) (h : SolvesRows rows xs) where
   abbrev other : List ℚ
   other = listed (length rows) (λ j. number_at xs j -ℚ s.free j)
 
-  other_solves : Solves rows other
+  other_solves : SolvesRows rows other
   other_solves = solves_of rows other (listed-length (length rows) (λ j. number_at xs j -ℚ s.free j)) (λ i b.
       total_same (length rows) (λ j. numbers rows i j *ℚ number_at other j) (λ j. numbers rows i j *ℚ number_at xs j -ℚ 1ℚ *ℚ (numbers rows i j *ℚ s.free j))
       (λ j a. ap (λ (v : ℚ). numbers rows i j *ℚ v) (listed-at (length rows) (λ j. number_at xs j -ℚ s.free j) j a) ∙ product_less (numbers rows i j) (number_at xs j) (s.free j))

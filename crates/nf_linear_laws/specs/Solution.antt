@@ -18,13 +18,13 @@ left_side (a ∷ row) [] = 0ℚ
 left_side (a ∷ row) (x ∷ xs) = a *ℚ x +ℚ left_side row xs
 
 -- There is a value for each unknown, and with these values each row has its right side.
-pub record Solves (rows : List Row) (xs : List ℚ) : Type 0 where
+pub record SolvesRows (rows : List Row) (xs : List ℚ) : Type 0 where
   pub count : length xs ≡ length rows
   pub each : (i : ℕ) → i < length rows → left_side (row_at rows i) xs ≡ number_at (row_at rows i) (length rows)
 
 pub record IsOnlySolution (rows : List Row) (xs : List ℚ) : Type 0 where
-  pub solves : Solves rows xs
-  pub only : (ys : List ℚ) → Solves rows ys → ys ≡ xs
+  pub solves : SolvesRows rows xs
+  pub only : (ys : List ℚ) → SolvesRows rows ys → ys ≡ xs
 
 -- If no operation passes, the values are the only solution, and there are none if there is no solution or more than one.
 pub record TableIsSolved : Type 0 where

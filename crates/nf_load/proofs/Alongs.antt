@@ -4,7 +4,7 @@ use Rattle.std.specs.Prelude.{Option, Some, None, slice_get}
 use Rattle.nf_rational.specs.Rational.{ℚ}
 use Rattle.nf_model.specs.Curve.{Point}
 use Rattle.nf_load.specs.Rates.{IsRate}
-use Rattle.nf_load.specs.Slopes.{flat, Along, AreSlopes}
+use Rattle.nf_load.specs.Slopes.{flat, Along, AreKnownSlopes}
 
 -- each label is on the step from one entry to the next, up to the last one
 abbrev pub Linked : {A B : Type 0} → (B → A → A → Type 0) → List A → List B → A → Type 0
@@ -100,7 +100,7 @@ along_begins {A} On (y ∷ v ∷ ys) (x ∷ u ∷ xs) (k ∷ labels) z (suc n) b
     (subst (λ (a : A). On k a v) (sym b.0) (subst (λ (a : A). On k x a) (sym b.1.0) h.0), along_begins On (v ∷ ys) (u ∷ xs) labels z n b.1 (omega arith) h.1)
 
 -- the slope of the piece from the point of this number on, if it is known
-pub slope_there : (points : List Point) (slopes : List (Option ℚ)) (i : ℕ) (p q : Point) → AreSlopes points slopes → slice_get points i ≡ Some p
+pub slope_there : (points : List Point) (slopes : List (Option ℚ)) (i : ℕ) (p q : Point) → AreKnownSlopes points slopes → slice_get points i ≡ Some p
     → slice_get points (suc i) ≡ Some q → IsRate (flat (slice_get slopes i)) p q
 slope_there points [] zero p q h e f = tt
 slope_there points [] (suc i) p q h e f = tt
@@ -112,6 +112,6 @@ slope_there (x ∷ y ∷ rest) (slope ∷ slopes) zero p q h e f =
     subst (λ (z : Point). IsRate slope z q) one (subst (λ (z : Point). IsRate slope x z) two h.0)
 slope_there (x ∷ y ∷ rest) (slope ∷ slopes) (suc i) p q h e f = slope_there (y ∷ rest) slopes i p q h.1 e f
 
-pub slope_at : (points : List Point) (slopes : List (Option ℚ)) (i j : ℕ) (p q : Point) → AreSlopes points slopes → slice_get points i ≡ Some p
+pub slope_at : (points : List Point) (slopes : List (Option ℚ)) (i j : ℕ) (p q : Point) → AreKnownSlopes points slopes → slice_get points i ≡ Some p
     → slice_get points j ≡ Some q → j ≡ suc i → IsRate (flat (slice_get slopes i)) p q
 slope_at points slopes i j p q h e f n = slope_there points slopes i p q h e (subst (λ (k : ℕ). slice_get points k ≡ Some q) n f)

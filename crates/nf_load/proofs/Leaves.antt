@@ -20,10 +20,10 @@ use Rattle.nf_load_def.specs.Loading.{exit_after, exit_of, exit_point}
 use Rattle.nf_curve_laws.proofs.Operations.{then_ok, checked-is}
 use Rattle.nf_curve.proofs.Pieces.{run_apart}
 use Rattle.nf_load.specs.Rates.{IsRate}
-use Rattle.nf_load.specs.Slopes.{Along, AreSlopes}
+use Rattle.nf_load.specs.Slopes.{Along, AreKnownSlopes}
 use Rattle.nf_load.specs.Paces.{IsPace, IsPaceIf, ArePaces}
 use Rattle.nf_load.specs.InSteps.{moments_of}
-use Rattle.nf_load.specs.Leaving.{IsLeaving, IsLeavingIf, AreLeaving, AreExits, AreExitsOf, IsBusy, exit_slope_of}
+use Rattle.nf_load.specs.Leaving.{IsLeaving, IsLeavingIf, AreLeaving, AreTwoExits, AreExitsOf, IsBusy, exit_slope_of}
 use Rattle.nf_load.specs.declared.waits.Pace.{Pace}
 use Rattle.nf_load.specs.declared.waits.Leaving.{Leaving}
 use Rattle.nf_load.proofs.Alongs.{along_map, along_of}
@@ -86,7 +86,7 @@ slope_by p q rise run slope e f g =
     ∙ ap (λ r. r >>= λ run. checked passes_Q Quotient rise run) f
     ∙ g
 
-module _ (capacity : Option ℚ) (before after : lists.Exit) (pace : Pace) (is_pace : IsPace capacity before.waits after.waits pace) (exits : AreExits capacity before after)
+module _ (capacity : Option ℚ) (before after : lists.Exit) (pace : Pace) (is_pace : IsPace capacity before.waits after.waits pace) (exits : AreTwoExits capacity before after)
     (step : ℚ) (step_is : checked passes_Q Difference after.exit before.exit ≡ Ok step) where
   amounts : Steps (before.waits.time, before.waits.amount) (after.waits.time, after.waits.amount) pace.rate
   amounts = steps (before.waits.time, before.waits.amount) (after.waits.time, after.waits.amount) pace.rate is_pace.rate
@@ -210,7 +210,7 @@ module _ (capacity : Option ℚ) (transit : ℚ) where
       }
 
 -- ---- the slopes of the exits
-pub exit_slopes : (all : List lists.Exit) (leaving : List (Option Leaving)) → AreLeaving all leaving → AreSlopes (map exit_point all) (map (option_map exit_slope_of) leaving)
+pub exit_slopes : (all : List lists.Exit) (leaving : List (Option Leaving)) → AreLeaving all leaving → AreKnownSlopes (map exit_point all) (map (option_map exit_slope_of) leaving)
 exit_slopes = along_map IsLeavingIf IsRate exit_point (option_map exit_slope_of) step
   where
     step : (leaving : Option Leaving) (x y : lists.Exit) → IsLeavingIf leaving x y → IsRate (option_map exit_slope_of leaving) (exit_point x) (exit_point y)

@@ -12,7 +12,7 @@ use Rattle.nf_curve_def.specs.Values.{checked_cut}
 use Rattle.nf_curve_def.specs.Short.{checked_short}
 use Rattle.nf_load_def.specs.Loading.{Waits, Exit, queue_point, exit_point, outflow_points, exit_of, all_waits, checked_loading}
 use Rattle.nf_curve.proofs.Exits.{after_err, after_ok, was_ok}
-use Rattle.nf_load.specs.InSteps.{AreCurves, LeadsToCurves, in_short_form, until_transit, behind_cut}
+use Rattle.nf_load.specs.InSteps.{AreLoadCurves, LeadsToCurves, in_short_form, until_transit, behind_cut}
 
 module _ (passes : Passing) (part : Part) where
   -- where a step stops
@@ -74,7 +74,7 @@ module _ (passes : Passing) (part : Part) where
         unfolding behind_cut
         exits_go = after_ok part (all_waits passes capacity cut) _ waits waits_are ∙ after_ok part (each (exit_of passes capacity transit) waits) _ all all_are
 
-        pub are_curves : LeadsToCurves passes transit capacity cut → AreCurves waits all
+        pub are_curves : LeadsToCurves passes transit capacity cut → AreLoadCurves waits all
         are_curves curves = curves waits all (was_ok part (all_waits passes capacity cut) waits waits_are) (was_ok part (each (exit_of passes capacity transit) waits) all all_are)
 
   -- ---- the inflow, cut at the last time

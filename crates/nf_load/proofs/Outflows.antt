@@ -11,7 +11,7 @@ use Rattle.nf_curve_def.specs.Values.{checked_cut, checked_value, points_before}
 use Rattle.nf_load_def.specs.Loading as lists
 use Rattle.nf_curve_laws.proofs.Operations.{then_ok}
 use Rattle.nf_load.specs.Rates.{IsRate}
-use Rattle.nf_load.specs.Slopes.{flat, AreSlopes}
+use Rattle.nf_load.specs.Slopes.{flat, AreKnownSlopes}
 use Rattle.nf_load.specs.Leaving.{IsLeavingIf, AreLeaving, outflow_slope_of}
 use Rattle.nf_load.specs.declared.waits.Leaving.{Leaving}
 use Rattle.nf_load.proofs.Alongs.{Linked, Begins, one_more, along_flat, along_begins}
@@ -72,16 +72,16 @@ begins_before end (p ∷ rest) = by_test (lt_ℚ p.0 end) (begins_before end res
     by_test false h = tt
 
 pub cut_slopes : (points : List Point) (slopes kept : List (Option ℚ)) (end : ℚ) (cut : List Point) (n : ℕ) → checked_cut passes_Q points end ≡ Ok cut
-    → AreSlopes points slopes → n ≡ length cut - 2 → kept ≡ take n slopes → AreSlopes cut kept
+    → AreKnownSlopes points slopes → n ≡ length cut - 2 → kept ≡ take n slopes → AreKnownSlopes cut kept
 unfolding checked_cut
 cut_slopes points slopes kept end cut n e h count is =
     let y = then_ok (checked_value passes_Q points end) _ cut e in
     let are : points_before end points ++ (end, y.between) ∷ [] ≡ cut = same_Ok _ _ y.next in
-    subst (λ (l : List (Option ℚ)). AreSlopes cut l) (sym is)
-    (subst (λ (l : List Point). AreSlopes l (take n slopes)) are
+    subst (λ (l : List (Option ℚ)). AreKnownSlopes cut l) (sym is)
+    (subst (λ (l : List Point). AreKnownSlopes l (take n slopes)) are
     (go (points_before end points) (end, y.between) (begins_before end points) (count ∙ ap (λ (l : List Point). length l - 2) (sym are))))
   where
-    go : (before : List Point) (z : Point) → Begins before points → n ≡ length (before ++ z ∷ []) - 2 → AreSlopes (before ++ z ∷ []) (take n slopes)
+    go : (before : List Point) (z : Point) → Begins before points → n ≡ length (before ++ z ∷ []) - 2 → AreKnownSlopes (before ++ z ∷ []) (take n slopes)
     go [] z b m = tt
     go (x ∷ before) z b m = along_begins IsRate (x ∷ before) points slopes z n b
         (let all : length ((x ∷ before) ++ z ∷ []) ≡ length (x ∷ before) + 1 = length_push (x ∷ before) z in omega (arith, m, all)) h

@@ -19,8 +19,8 @@ use Rattle.nf_curve_laws.proofs.Operations.{then_ok, checked-is, same_of}
 use Rattle.nf_curve.proofs.Exits.{was_ok, after_err}
 use Rattle.nf_load.specs.Loadings.{before_end, over_list}
 use Rattle.nf_load.specs.Rates.{IsRate}
-use Rattle.nf_load.specs.Slopes.{AreSlopes}
-use Rattle.nf_load.specs.Paces.{IsPace, IsPaceIf, ArePaces, IsPaced, change_of, first_of, grown_by, level_over, over_paces, paces_to}
+use Rattle.nf_load.specs.Slopes.{AreKnownSlopes}
+use Rattle.nf_load.specs.Paces.{IsPace, IsPaceIf, ArePaces, IsPaced, change_of, first_waits, grown_by, level_over, over_paces, paces_to}
 use Rattle.nf_load.specs.declared.waits.Pace.{Pace}
 use Rattle.nf_load.specs.declared.waiting.Over.{Over}
 use Rattle.nf_load.proofs.Alongs.{Linked, one_more, along_map}
@@ -112,7 +112,7 @@ module _ (part : Part) (passes : Passing) (capacity rate : ℚ) (before : lists.
 
 -- ---- the paces so far, and over one more piece
 module _ (capacity : Option ℚ) (waits : List lists.Waits) (paces : List (Option Pace)) (last : lists.Waits) (so_far : Linked (IsPaceIf capacity) waits paces last) where
-  over_moments : (empty : Option lists.Waits) (end : lists.Waits) (pace : Option Pace) → IsPaceIf capacity pace last (first_of empty end)
+  over_moments : (empty : Option lists.Waits) (end : lists.Waits) (pace : Option Pace) → IsPaceIf capacity pace last (first_waits empty end)
       → Linked (IsPaceIf capacity) (waits ++ before_end empty end) (paces ++ paces_to empty pace) end
   over_moments None end pace h = one_more (IsPaceIf capacity) waits paces last end pace so_far h
   over_moments (Some w) end pace h =
@@ -133,7 +133,7 @@ first_pace capacity waits paces first e f =
 
 -- ---- the slopes of the queue
 pub queue_slopes : (capacity : Option ℚ) (waits : List lists.Waits) (paces : List (Option Pace)) → ArePaces capacity waits paces
-    → AreSlopes (map queue_point waits) (map (option_map change_of) paces)
+    → AreKnownSlopes (map queue_point waits) (map (option_map change_of) paces)
 queue_slopes capacity = along_map (IsPaceIf capacity) IsRate queue_point (option_map change_of) step
   where
     step : (pace : Option Pace) (x y : lists.Waits) → IsPaceIf capacity pace x y → IsRate (option_map change_of pace) (queue_point x) (queue_point y)

@@ -15,7 +15,7 @@ use Rattle.nf_model.specs.Curve.{Point}
 use Rattle.nf_model.specs.Network.{Piece, ArePieces}
 use Rattle.nf_curve_def.specs.Lines.{checked_slope}
 use Rattle.nf_curve_laws.proofs.Operations.{is_same_cases}
-use Rattle.nf_load_def.specs.Cumulative.{end_of, point_after_0, point_if_after_0, with_piece}
+use Rattle.nf_load_def.specs.Cumulative.{piece_end, point_after_0, point_if_after_0, with_piece}
 use Rattle.nf_load.specs.Rates.{AreRates, IsRate, rate_after_0, rate_if_after_0}
 use Rattle.nf_load.proofs.KnownRates.{piece_slope, zero_slope}
 
@@ -94,13 +94,13 @@ module _ (points new : List Point) (rates more : List ℚ) (so_far rate time : �
       (is_same_cases time 0ℚ)
 
 -- ---- the end of a piece
-start_first : (piece : Piece) (later : List Piece) (last : ℚ) → lt_ℚ piece.start last ≡ true → end_of (piece ∷ later) last ≡ piece.start
+start_first : (piece : Piece) (later : List Piece) (last : ℚ) → lt_ℚ piece.start last ≡ true → piece_end (piece ∷ later) last ≡ piece.start
 start_first piece later last t = min_is_left piece.start last (≤ℚ_of_lt piece.start last (less_of_test piece.start last t))
 
-last_first : (piece : Piece) (later : List Piece) (last : ℚ) → lt_ℚ piece.start last ≡ false → end_of (piece ∷ later) last ≡ last
+last_first : (piece : Piece) (later : List Piece) (last : ℚ) → lt_ℚ piece.start last ≡ false → piece_end (piece ∷ later) last ≡ last
 last_first piece later last t = min_is_right piece.start last (not_less_of_test piece.start last t)
 
-end_later : (start : ℚ) (later : List Piece) (last : ℚ) → start <ℚ last → ((next : Piece) → slice_get later 0 ≡ Some next → start <ℚ next.start) → start <ℚ end_of later last
+end_later : (start : ℚ) (later : List Piece) (last : ℚ) → start <ℚ last → ((next : Piece) → slice_get later 0 ≡ Some next → start <ℚ next.start) → start <ℚ piece_end later last
 end_later start [] last h k = h
 end_later start (next ∷ later) last h k = min_keeps (λ (x : ℚ). start <ℚ x) next.start last (k next refl) h
 
@@ -114,17 +114,17 @@ get_dropped (x ∷ rest) (suc i) p e = get_dropped rest i p e
 -- the rates after a piece that starts before the last time
 pub next_rates : (pieces : List Piece) (i next : ℕ) (piece : Piece) (last so_far sum : ℚ) (new : List Point) (more : List ℚ) → ArePieces pieces
     → slice_get pieces i ≡ Some piece → next ≡ suc i
-    → lt_ℚ piece.start last ≡ true → is_wide (bound_of 127) piece.rate ≡ false → with_piece passes_Q so_far piece (end_of (drop next pieces) last) ≡ Ok sum
-    → RatesTo new more (piece.start, so_far) → RatesSoFar new more sum piece.rate (end_of (drop next pieces) last)
+    → lt_ℚ piece.start last ≡ true → is_wide (bound_of 127) piece.rate ≡ false → with_piece passes_Q so_far piece (piece_end (drop next pieces) last) ≡ Ok sum
+    → RatesTo new more (piece.start, so_far) → RatesSoFar new more sum piece.rate (piece_end (drop next pieces) last)
 next_rates pieces i next piece last so_far sum new more are at n t narrow e known =
-    let later : piece.start <ℚ end_of (drop next pieces) last = subst (λ (k : ℕ). piece.start <ℚ end_of (drop k pieces) last) (sym n)
+    let later : piece.start <ℚ piece_end (drop next pieces) last = subst (λ (k : ℕ). piece.start <ℚ piece_end (drop k pieces) last) (sym n)
     (end_later piece.start (drop (suc i) pieces) last (less_of_test piece.start last t) (λ q f. are.rise i piece q at (get_dropped pieces i q f))) in
     record {
       last = (piece.start, so_far);
       known = known;
       goes = inr (
-        ≤_<_trans 0ℚ piece.start (end_of (drop next pieces) last) (are.starts i piece at) later,
-        piece_slope so_far piece (end_of (drop next pieces) last) sum narrow later e,
+        ≤_<_trans 0ℚ piece.start (piece_end (drop next pieces) last) (are.starts i piece at) later,
+        piece_slope so_far piece (piece_end (drop next pieces) last) sum narrow later e,
       );
     }
 
@@ -139,9 +139,9 @@ rate_there (x ∷ y ∷ rest) (rate ∷ rates) zero p q h e f = let one : x ≡ 
 rate_there (x ∷ y ∷ rest) (rate ∷ rates) (suc i) p q h e f = rate_there (y ∷ rest) rates i p q h.1 e f
 
 -- ---- the end of the latest piece, by the piece after it
-module _ (points : List Point) (rates : List ℚ) (so_far rate last : ℚ) (pieces : List Piece) (i : ℕ) (h : RatesSoFar points rates so_far rate (end_of (drop i pieces) last)) where
-  up_to : (later : List Piece) (end : ℚ) → drop i pieces ≡ later → end_of later last ≡ end → RatesSoFar points rates so_far rate end
-  up_to later end e f = subst (λ (x : ℚ). RatesSoFar points rates so_far rate x) (ap (λ (l : List Piece). end_of l last) e ∙ f) h
+module _ (points : List Point) (rates : List ℚ) (so_far rate last : ℚ) (pieces : List Piece) (i : ℕ) (h : RatesSoFar points rates so_far rate (piece_end (drop i pieces) last)) where
+  up_to : (later : List Piece) (end : ℚ) → drop i pieces ≡ later → piece_end later last ≡ end → RatesSoFar points rates so_far rate end
+  up_to later end e f = subst (λ (x : ℚ). RatesSoFar points rates so_far rate x) (ap (λ (l : List Piece). piece_end l last) e ∙ f) h
 
   pub up_to_start : (piece : Piece) → slice_get pieces i ≡ Some piece → lt_ℚ piece.start last ≡ true → RatesSoFar points rates so_far rate piece.start
   up_to_start piece at t = up_to (piece ∷ drop (suc i) pieces) piece.start (drop_entry pieces i piece at) (start_first piece (drop (suc i) pieces) last t)

@@ -12,7 +12,7 @@ use Rattle.nf_frac_def.proofs.Each.{with_front}
 use Rattle.nf_model.specs.Curve.{Point}
 use Rattle.nf_model.specs.Network.{Piece}
 use Rattle.nf_rational.specs.Signs.{is_same}
-use Rattle.nf_load_def.specs.Cumulative.{end_of, point_after_0, point_if_after_0, with_piece, cumulative_from, checked_cumulative}
+use Rattle.nf_load_def.specs.Cumulative.{piece_end, point_after_0, point_if_after_0, with_piece, cumulative_from, checked_cumulative}
 use Rattle.nf_rational_laws.proofs.Entries.{drop_entry}
 use Rattle.nf_load.specs.Rates.{rate_after_0 as rate_by_test, rate_if_after_0}
 use Rattle.nf_curve_laws.proofs.Operations.{is_same_cases}
@@ -62,7 +62,7 @@ module _ (passes : Passing) where
     module _ (piece : Piece) (later : List Piece) (so : with_front front (cumulative_from passes so_far (piece ∷ later) last) ≡ all) where
       abbrev by_test : Bool → Checked (List Point)
       by_test b = elim b [
-        | true ↦ with_piece passes so_far piece (end_of later last) >>= λ sum. cumulative_from passes sum later last >>= λ rest. Ok (point_if_after_0 piece.start so_far ++ rest)
+        | true ↦ with_piece passes so_far piece (piece_end later last) >>= λ sum. cumulative_from passes sum later last >>= λ rest. Ok (point_if_after_0 piece.start so_far ++ rest)
         | false ↦ Ok (point_if_after_0 last so_far)
       ]
 
@@ -73,11 +73,11 @@ module _ (passes : Passing) where
       pub ends_before : lt_ℚ piece.start last ≡ false → at_part part all ≡ Ok (front ++ point_if_after_0 last so_far)
       ends_before f = ap (at_part part) (sym so ∙ ap (λ (b : Bool). with_front front (by_test b)) f)
 
-      pub goes_on : (sum : ℚ) → lt_ℚ piece.start last ≡ true → at_part part (with_piece passes so_far piece (end_of later last)) ≡ Ok sum
+      pub goes_on : (sum : ℚ) → lt_ℚ piece.start last ≡ true → at_part part (with_piece passes so_far piece (piece_end later last)) ≡ Ok sum
           → with_front (front ++ point_if_after_0 piece.start so_far) (cumulative_from passes sum later last) ≡ all
       goes_on sum f e =
           sym (ap (λ (b : Bool). with_front front (by_test b)) f
-          ∙ ap (λ (r : Checked ℚ). with_front front (by_sum r)) (was_ok part (with_piece passes so_far piece (end_of later last)) sum e)
+          ∙ ap (λ (r : Checked ℚ). with_front front (by_sum r)) (was_ok part (with_piece passes so_far piece (piece_end later last)) sum e)
           ∙ more (cumulative_from passes sum later last)) ∙ so
         where
           more : (r : Checked (List Point)) → with_front front (r >>= λ rest. Ok (point_if_after_0 piece.start so_far ++ rest)) ≡ with_front
@@ -85,9 +85,9 @@ module _ (passes : Passing) where
           more (Ok ys) = ap (λ (l : List Point). Ok l) (sym (append_assoc front (point_if_after_0 piece.start so_far) ys))
           more (Err p) = refl
 
-      pub stops : (p : PassedAt ℚ) → lt_ℚ piece.start last ≡ true → at_part part (with_piece passes so_far piece (end_of later last)) ≡ Err p → at_part part all ≡ Err p
+      pub stops : (p : PassedAt ℚ) → lt_ℚ piece.start last ≡ true → at_part part (with_piece passes so_far piece (piece_end later last)) ≡ Err p → at_part part all ≡ Err p
       stops p f e = ap (at_part part) (sym so ∙ ap (λ (b : Bool). with_front front (by_test b)) f)
-          ∙ front_err part front (by_sum (with_piece passes so_far piece (end_of later last))) p (after_err part (with_piece passes so_far piece (end_of later last)) _ p e)
+          ∙ front_err part front (by_sum (with_piece passes so_far piece (piece_end later last))) p (after_err part (with_piece passes so_far piece (piece_end later last)) _ p e)
 
 pub one_on : (i : ℕ) → i + 1 ≡ suc i
 one_on i = omega arith
@@ -104,11 +104,11 @@ module _ (passes : Passing) (part : Part) (front : List Point) (so_far last : �
   pub ends_before_at : lt_ℚ piece.start last ≡ false → at_part part (checked_cumulative passes pieces last) ≡ Ok (front ++ point_if_after_0 last so_far)
   ends_before_at f = ends_before passes part front so_far last (checked_cumulative passes pieces last) piece (drop next pieces) from_here f
 
-  pub goes_on_at : (sum : ℚ) → lt_ℚ piece.start last ≡ true → at_part part (with_piece passes so_far piece (end_of (drop next pieces) last)) ≡ Ok sum
+  pub goes_on_at : (sum : ℚ) → lt_ℚ piece.start last ≡ true → at_part part (with_piece passes so_far piece (piece_end (drop next pieces) last)) ≡ Ok sum
       → with_front (front ++ point_if_after_0 piece.start so_far) (cumulative_from passes sum (drop next pieces) last) ≡ checked_cumulative passes pieces last
   goes_on_at sum f e = goes_on passes part front so_far last (checked_cumulative passes pieces last) piece (drop next pieces) from_here sum f e
 
-  pub stops_at : (p : PassedAt ℚ) → lt_ℚ piece.start last ≡ true → at_part part (with_piece passes so_far piece (end_of (drop next pieces) last)) ≡ Err p
+  pub stops_at : (p : PassedAt ℚ) → lt_ℚ piece.start last ≡ true → at_part part (with_piece passes so_far piece (piece_end (drop next pieces) last)) ≡ Err p
       → at_part part (checked_cumulative passes pieces last) ≡ Err p
   stops_at p f e = stops passes part front so_far last (checked_cumulative passes pieces last) piece (drop next pieces) from_here p f e
 

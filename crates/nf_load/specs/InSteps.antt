@@ -36,12 +36,12 @@ behind_cut passes transit capacity cut last = do
   until_transit passes transit waits all last
 
 -- the queue, exit and outflow points each satisfy `IsCurve`
-pub record AreCurves (waits : List Waits) (all : List Exit) : Type 0 where
+pub record AreLoadCurves (waits : List Waits) (all : List Exit) : Type 0 where
   pub queue : IsCurve (map queue_point waits)
   pub exit : IsCurve (map exit_point all)
   pub outflow : IsCurve (outflow_points all)
 
--- the moments and exits of the inflow `cut`, if no operation passes, satisfy `AreCurves`
+-- the moments and exits of the inflow `cut`, if no operation passes, satisfy `AreLoadCurves`
 abbrev pub LeadsToCurves : Passing → ℚ → Option ℚ → List Point → Type 0
 LeadsToCurves passes transit capacity cut = (waits : List Waits) (all : List Exit) → all_waits passes capacity cut ≡ Ok waits
-    → each (exit_of passes capacity transit) waits ≡ Ok all → AreCurves waits all
+    → each (exit_of passes capacity transit) waits ≡ Ok all → AreLoadCurves waits all

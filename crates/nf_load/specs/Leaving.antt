@@ -33,7 +33,7 @@ abbrev pub outflow_slope_of : Leaving → ℚ
 outflow_slope_of leaving = leaving.outflow
 
 -- the exits of two moments
-pub record AreExits (capacity : Option ℚ) (before after : lists.Exit) : Type 0 where
+pub record AreTwoExits (capacity : Option ℚ) (before after : lists.Exit) : Type 0 where
   pub transit : ℚ
   pub first : exit_after passes_Q capacity transit before.waits ≡ Ok before.exit
   pub second : exit_after passes_Q capacity transit after.waits ≡ Ok after.exit

@@ -52,13 +52,13 @@ level_over end rate = record {
 }
 
 -- the first of the moments of a piece
-abbrev pub first_of : Option lists.Waits → lists.Waits → lists.Waits
-first_of None end = end
-first_of (Some empty) end = empty
+abbrev pub first_waits : Option lists.Waits → lists.Waits → lists.Waits
+first_waits None end = end
+first_waits (Some empty) end = empty
 
 -- the pace up to the first of the moments of a piece, if it is known
 abbrev pub IsPaced : Option ℚ → lists.Waits → Over → Type 0
-IsPaced capacity before over = IsPaceIf capacity over.pace before (first_of over.empty over.end)
+IsPaced capacity before over = IsPaceIf capacity over.pace before (first_waits over.empty over.end)
 
 abbrev pub paces_to : Option lists.Waits → Option Pace → List (Option Pace)
 paces_to None pace = pace ∷ []

@@ -17,5 +17,5 @@ Along On [] labels = Unit {0}
 Along On (x ∷ y ∷ rest) [] = Unit {0}
 
 -- each known slope is that of the piece of the same number, and no operation of its computation passes
-abbrev pub AreSlopes : List Point → List (Option ℚ) → Type 0
-AreSlopes points slopes = Along IsRate points slopes
+abbrev pub AreKnownSlopes : List Point → List (Option ℚ) → Type 0
+AreKnownSlopes points slopes = Along IsRate points slopes

@@ -18,7 +18,7 @@ use std::alloc::{AllocError, Global};
 
 // Returns the lesser of the next piece's start and `last`.
 fn end_of(later: &[Piece], last: Q) -> Q
-    ensures { result ≡ lists.end_of later.now last }
+    ensures { result ≡ lists.piece_end later.now last }
 {
     match later {
         [] => last,

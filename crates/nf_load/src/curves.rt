@@ -11,7 +11,7 @@ ghost use Rattle.nf_curve_def.specs.Short.{checked_short};
 ghost use Rattle.nf_load_def.specs.Loading as lists;
 ghost use Rattle.nf_load_def.specs.Loading.{queue_point, exit_point};
 ghost use Rattle.nf_load.specs.Leaving.{AreLeaving, exit_slope_of, outflow_slope_of};
-ghost use Rattle.nf_load.specs.Slopes.{AreSlopes, flat};
+ghost use Rattle.nf_load.specs.Slopes.{AreKnownSlopes, flat};
 ghost use Rattle.nf_load.specs.Paces.{change_of};
 ghost use Rattle.nf_load.specs.InSteps.{moments_of};
 
@@ -85,7 +85,7 @@ fn outflow_points(
 ) -> Result<KnownPoints, AllocError>
     requires { AreLeaving all.now leaving.now }
     ensures points { IfOk result (λ outflow. outflow.points.items ≡ lists.outflow_points all.now) }
-    ensures slopes { IfOk result (λ outflow. AreSlopes outflow.points.items outflow.slopes.items) }
+    ensures slopes { IfOk result (λ outflow. AreKnownSlopes outflow.points.items outflow.slopes.items) }
 {
     let mut points = Vec::with_capacity(alloc, all.len() + 1)?;
     let mut slopes = Vec::with_capacity(alloc, all.len())?;
@@ -108,7 +108,7 @@ fn outflow_points(
 // Returns the curve of the points, in short form. `slopes` are known slopes of its first pieces.
 fn known_short(alloc: Global, points: &[Point], slopes: &[Option<Q>]) -> Result<Curve, Halt<Q>>
     requires curve { IsCurve points.now }
-    requires slopes { AreSlopes points.now slopes.now }
+    requires slopes { AreKnownSlopes points.now slopes.now }
     ensures { Gives (λ c. c.points) (λ q. q) result
         (at_part Load (checked_short passes_Q points.now)) }
 {
@@ -123,7 +123,7 @@ pub(crate) fn queue_curve(
     paces: &[Option<Pace>],
 ) -> Result<Curve, Halt<Q>>
     requires curve { IsCurve (map queue_point (moments_of all.now)) }
-    requires slopes { AreSlopes (map queue_point (moments_of all.now))
+    requires slopes { AreKnownSlopes (map queue_point (moments_of all.now))
         (map (option_map change_of) paces.now) }
     ensures { Gives (λ c. c.points) (λ q. q) result
         (at_part Load (checked_short passes_Q (map queue_point (moments_of all.now)))) }
@@ -188,7 +188,7 @@ pub(crate) fn outflow_until(
     requires end { 0ℚ ≤ℚ end }
     ensures list { Gives (λ outflow. outflow.curve.points) (λ q. q) result
         (at_part Load (checked_cut passes_Q (lists.outflow_points all.now) end)) }
-    ensures slopes { IfOk result (λ outflow. AreSlopes outflow.curve.points outflow.slopes.items) }
+    ensures slopes { IfOk result (λ outflow. AreKnownSlopes outflow.curve.points outflow.slopes.items) }
 {
     let KnownPoints { points, mut slopes } = outflow_points(alloc, all, leaving)?;
     let whole = Curve::of_points(points);
@@ -199,7 +199,7 @@ pub(crate) fn outflow_until(
 
 /// Returns the outflow in short form.
 pub(crate) fn outflow_curve(alloc: Global, outflow: &Outflow) -> Result<Curve, Halt<Q>>
-    requires { AreSlopes outflow.now.curve.points outflow.now.slopes.items }
+    requires { AreKnownSlopes outflow.now.curve.points outflow.now.slopes.items }
     ensures { Gives (λ c. c.points) (λ q. q) result
         (at_part Load (checked_short passes_Q outflow.now.curve.points)) }
 {

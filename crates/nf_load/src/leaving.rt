@@ -8,7 +8,7 @@ ghost use Rattle.nf_frac_def.specs.Checked.{checked};
 ghost use Rattle.nf_frac_def.specs.declared.Op.TheVariants.{Difference};
 ghost use Rattle.nf_model_laws.specs.Capacity.{IsPositive};
 ghost use Rattle.nf_load.specs.Paces.{IsPaceIf};
-ghost use Rattle.nf_load.specs.Leaving.{AreExits, AreExitsOf, AreLeaving, IsBusy, IsLeavingIf};
+ghost use Rattle.nf_load.specs.Leaving.{AreTwoExits, AreExitsOf, AreLeaving, IsBusy, IsLeavingIf};
 
 use crate::shortening::known_at;
 use crate::waits::{Exit, Leaving, Pace};
@@ -56,7 +56,7 @@ fn busy(capacity: Q, rate: Q) -> Option<Leaving>
 fn leaves(capacity: &Option<Q>, pace: Option<Pace>, before: &Exit, after: &Exit) -> Option<Leaving>
     requires capacity { IsPositive capacity.now }
     requires pace { IsPaceIf capacity.now pace before.now.waits after.now.waits }
-    requires exits { AreExits capacity.now before.now after.now }
+    requires exits { AreTwoExits capacity.now before.now after.now }
     ensures { IsLeavingIf result before.now after.now }
 {
     let Some(pace) = pace else {

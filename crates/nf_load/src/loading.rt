@@ -15,8 +15,8 @@ ghost use Rattle.nf_load.specs.Loadings.{loaded_of};
 ghost use Rattle.nf_load.specs.Leaving.{AreLeaving};
 ghost use Rattle.nf_load.specs.Paces.{ArePaces};
 ghost use Rattle.nf_load.specs.Rates.{AreRates};
-ghost use Rattle.nf_load.specs.Slopes.{AreSlopes};
-ghost use Rattle.nf_load.specs.InSteps.{AreCurves, LeadsToCurves, in_short_form, moments_of, until_transit, behind_cut};
+ghost use Rattle.nf_load.specs.Slopes.{AreKnownSlopes};
+ghost use Rattle.nf_load.specs.InSteps.{AreLoadCurves, LeadsToCurves, in_short_form, moments_of, until_transit, behind_cut};
 
 use crate::curves::{Outflow, exit_curve, outflow_curve, outflow_until, queue_curve};
 use crate::exiting::all_exits;
@@ -54,11 +54,11 @@ fn short_curves(
     leaving: &[Option<Leaving>],
     whole_outflow: &Outflow,
 ) -> Result<Loaded, Halt<Q>>
-    requires curves { AreCurves (moments_of all.now) all.now }
+    requires curves { AreLoadCurves (moments_of all.now) all.now }
     requires paces { (capacity : Option ℚ)
         × ArePaces capacity (moments_of all.now) paces.now }
     requires leaving { AreLeaving all.now leaving.now }
-    requires outflow { AreSlopes whole_outflow.now.curve.points whole_outflow.now.slopes.items }
+    requires outflow { AreKnownSlopes whole_outflow.now.curve.points whole_outflow.now.slopes.items }
     ensures { Gives loaded_of (λ q. q) result
         (at_part Load
         (in_short_form passes_Q (moments_of all.now) all.now whole_outflow.now.curve.points)) }
@@ -84,7 +84,7 @@ fn curves_until(
 ) -> Result<Loaded, Halt<Q>>
     requires transit { 0ℚ ≤ℚ transit }
     requires capacity { IsPositive capacity.now }
-    requires curves { AreCurves (moments_of all.now) all.now }
+    requires curves { AreLoadCurves (moments_of all.now) all.now }
     requires paces { ArePaces capacity.now (moments_of all.now) paces.now }
     requires exits { each (exit_of passes_Q capacity.now transit) (moments_of all.now)
         ≡ Ok all.now }

@@ -8,7 +8,7 @@ ghost use Rattle.nf_rational.specs.Signs.{is_same as is_same_by};
 ghost use Rattle.nf_curve_def.specs.Lines.{checked_slope};
 ghost use Rattle.nf_curve_def.specs.Short.{checked_short};
 ghost use Rattle.nf_load.specs.Rates.{IsRate};
-ghost use Rattle.nf_load.specs.Slopes.{AreSlopes, flat};
+ghost use Rattle.nf_load.specs.Slopes.{AreKnownSlopes, flat};
 
 use nf_curve::{Point, slope};
 use nf_frac::{Halt, Part, PassedAt, Q};
@@ -62,7 +62,7 @@ pub(crate) fn short_points(
     part: Part,
 ) -> Result<Vec<Point>, Halt<Q>>
     requires curve { IsCurve points.now }
-    requires slopes { AreSlopes points.now slopes.now }
+    requires slopes { AreKnownSlopes points.now slopes.now }
     ensures { Gives (λ points. points.items) (λ q. q) result
         (at_part part (checked_short passes_Q points.now)) }
 {

@@ -11,9 +11,9 @@ use Rattle.nf_model.specs.Network.{Piece}
 use Rattle.nf_rational.specs.Signs.{is_zero}
 
 -- the end of a piece: the lesser of the next piece's start and `last`
-abbrev pub end_of : List Piece → ℚ → ℚ
-end_of [] last = last
-end_of (next ∷ later) last = min_ℚ next.start last
+abbrev pub piece_end : List Piece → ℚ → ℚ
+piece_end [] last = last
+piece_end (next ∷ later) last = min_ℚ next.start last
 
 -- the point, unless its time is 0
 abbrev pub point_after_0 : Bool → ℚ → ℚ → List Point
@@ -36,7 +36,7 @@ module _ (passes : Passing) where
   cumulative_from so_far [] last = Ok (point_if_after_0 last so_far)
   cumulative_from so_far (piece ∷ later) last = elim (lt_ℚ piece.start last) [
     | true ↦ do
-      sum ← with_piece so_far piece (end_of later last)
+      sum ← with_piece so_far piece (piece_end later last)
       rest ← cumulative_from sum later last
       Ok (point_if_after_0 piece.start so_far ++ rest)
     | false ↦ Ok (point_if_after_0 last so_far)

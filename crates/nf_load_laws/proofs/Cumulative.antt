@@ -8,7 +8,7 @@ use Rattle.nf_rational_laws.proofs.Tests.{lt_ℚ_cases, max0_of}
 use Rattle.nf_model.specs.Network.{Piece, ArePieces, time_in, supplied}
 use Rattle.nf_model_laws.specs.CurveLaws.{ValuesRise}
 use Rattle.nf_model_laws.proofs.Supply.{StartsRise, StartsRise-pieces, NextFrom, supplied-none, supplied-rises, supplied-begins, StartsRise-rest}
-use Rattle.nf_load_def.specs.Cumulative.{end_of, point_after_0, point_if_after_0, with_piece, cumulative_from, checked_cumulative}
+use Rattle.nf_load_def.specs.Cumulative.{piece_end, point_after_0, point_if_after_0, with_piece, cumulative_from, checked_cumulative}
 use Rattle.nf_curve_laws.proofs.Values.{follows-curve, follows-values}
 use Rattle.nf_rational_laws.proofs.Extremes.{min_is_left, min_is_right, min_left, min_keeps}
 use Rattle.nf_rational_laws.proofs.Facts.{zero_plus}
@@ -29,7 +29,7 @@ at_0 t y e = ⊎_elim
 -- ---- the points from a piece on, by whether it starts before the last time
 module _ (passes : Passing) (so_far : ℚ) (piece : Piece) (later : List Piece) (last : ℚ) (points : List Point) where
   abbrev pub with_more : Checked (List Point)
-  with_more = with_piece passes so_far piece (end_of later last) >>= λ sum. cumulative_from passes sum later last >>= λ rest. Ok (point_if_after_0 piece.start so_far ++ rest)
+  with_more = with_piece passes so_far piece (piece_end later last) >>= λ sum. cumulative_from passes sum later last >>= λ rest. Ok (point_if_after_0 piece.start so_far ++ rest)
 
   abbrev by_start : Bool → Checked (List Point)
   by_start b = elim b [
@@ -53,11 +53,11 @@ time_in-after : (start : ℚ) (next : Piece) (later : List Piece) (t : ℚ) → 
 time_in-after start next later t h k = ap (λ (x : ℚ). max_ℚ 0ℚ (x -ℚ start)) (min_is_right t next.start k) ∙ max0_of _ (less_nn start next.start h)
 
 -- ---- the end of a piece
-end_next : (later : List Piece) (last : ℚ) → NextFrom later (end_of later last)
+end_next : (later : List Piece) (last : ℚ) → NextFrom later (piece_end later last)
 end_next [] last = tt
 end_next (next ∷ later) last = min_left next.start last
 
-end_after : (start : ℚ) (later : List Piece) (last : ℚ) → start <ℚ last → ((next : Piece) (rest : List Piece) → later ≡ next ∷ rest → start <ℚ next.start) → start <ℚ end_of later last
+end_after : (start : ℚ) (later : List Piece) (last : ℚ) → start <ℚ last → ((next : Piece) (rest : List Piece) → later ≡ next ∷ rest → start <ℚ next.start) → start <ℚ piece_end later last
 end_after start [] last h k = h
 end_after start (next ∷ later) last h k = min_keeps (λ (x : ℚ). start <ℚ x) next.start last (k next later refl) h
 
@@ -87,14 +87,14 @@ module _ (passes : Passing) (f : ℚ → ℚ) (last : ℚ) where
   GoesOn so_far (piece ∷ later) = (t : ℚ) → piece.start ≤ℚ t → f t ≡ so_far +ℚ supplied (piece ∷ later) t
 
   -- a piece, from its start to its end
-  over_piece : (so_far : ℚ) (piece : Piece) (later : List Piece) → StartsRise (piece ∷ later) → GoesOn so_far (piece ∷ later) → (t : ℚ) → piece.start ≤ℚ t → t ≤ℚ end_of later last
+  over_piece : (so_far : ℚ) (piece : Piece) (later : List Piece) → StartsRise (piece ∷ later) → GoesOn so_far (piece ∷ later) → (t : ℚ) → piece.start ≤ℚ t → t ≤ℚ piece_end later last
       → f t ≡ so_far +ℚ piece.rate *ℚ (t -ℚ piece.start)
   over_piece so_far piece later s on t i j =
-      let n : NextFrom later t = next_up_to later t (end_of later last) j (end_next later last) in
+      let n : NextFrom later t = next_up_to later t (piece_end later last) j (end_next later last) in
       so_much so_far piece.rate _ _ (f t) t piece.start (time_in-up_to piece.start later t i n) (supplied-none later t (StartsRise-rest piece later s) n) (on t i)
 
   next_goes_on : (so_far sum : ℚ) (piece : Piece) (later : List Piece) → StartsRise (piece ∷ later) → GoesOn so_far (piece ∷ later) → piece.start ≤ℚ last
-      → sum ≡ so_far +ℚ piece.rate *ℚ (end_of later last -ℚ piece.start)
+      → sum ≡ so_far +ℚ piece.rate *ℚ (piece_end later last -ℚ piece.start)
       → ((next : Piece) (rest : List Piece) → later ≡ next ∷ rest → next.start ≤ℚ last) → GoesOn sum later
   next_goes_on so_far sum piece [] s on h e k = tt
   next_goes_on so_far sum piece (next ∷ rest) s on h e k = λ t i.
@@ -113,8 +113,8 @@ module _ (passes : Passing) (f : ℚ → ℚ) (last : ℚ) where
       start (p ∷ rest) = p.start
 
   -- from a point on, up to the end of the piece in which it lies
-  from_point : (p : Point) (k so_far : ℚ) (pieces : List Piece) (points : List Point) → f p.0 ≡ p.1 → 0ℚ ≤ℚ p.0 → p.0 <ℚ end_of pieces last
-      → IsAffine f p.0 (end_of pieces last) k → f (end_of pieces last) ≡ so_far
+  from_point : (p : Point) (k so_far : ℚ) (pieces : List Piece) (points : List Point) → f p.0 ≡ p.1 → 0ℚ ≤ℚ p.0 → p.0 <ℚ piece_end pieces last
+      → IsAffine f p.0 (piece_end pieces last) k → f (piece_end pieces last) ≡ so_far
       → StartsRise pieces → Goes so_far pieces → cumulative_from passes so_far pieces last ≡ Ok points → FollowsFrom f last p points
   from_point p k so_far [] points at n h line e s on g =
       subst (λ (l : List Point). FollowsFrom f last p l) (sym (after_0 last so_far (zero_lt p.0 last n h)) ∙ same_Ok _ _ g) (goes k at h line (ends e refl))
@@ -123,26 +123,26 @@ module _ (passes : Passing) (f : ℚ → ℚ) (last : ℚ) where
       zero_lt x y h k = linear_lt (x ∷ y ∷ []) (le h ∷ lt k ∷ []) (search reading_of) tt
   from_point p k so_far (piece ∷ later) points at n h line e s on g = ⊎_elim
       (λ (w : (lt_ℚ piece.start last ≡ true) × (piece.start <ℚ last)).
-      let here : end_of (piece ∷ later) last ≡ piece.start = min_is_left piece.start last (≤ℚ_of_lt _ _ w.1) in
+      let here : piece_end (piece ∷ later) last ≡ piece.start = min_is_left piece.start last (≤ℚ_of_lt _ _ w.1) in
       let goes_on : GoesOn so_far (piece ∷ later) = on (λ next rest q. subst (λ (x : ℚ). x ≤ℚ last) (first_of piece later next rest q) (≤ℚ_of_lt _ _ w.1)) in
       let g' = cumulative_more passes so_far piece later last points w.0 g in
-      let sum = then_ok (with_piece passes so_far piece (end_of later last)) _ points g' in
+      let sum = then_ok (with_piece passes so_far piece (piece_end later last)) _ points g' in
       let rest = then_ok (cumulative_from passes sum.between later last) _ points sum.next in
       let start_0 : 0ℚ <ℚ piece.start = zero_lt p.0 piece.start n (subst (λ (x : ℚ). p.0 <ℚ x) here h) in
       let at_start : f piece.start ≡ so_far = subst (λ (x : ℚ). f x ≡ so_far) here e in
       let later_start = later_than piece later s in
-      let end_later : piece.start <ℚ end_of later last = end_after piece.start later last w.1 later_start in
-      let line' : IsAffine f piece.start (end_of later last) piece.rate = record {
+      let end_later : piece.start <ℚ piece_end later last = end_after piece.start later last w.1 later_start in
+      let line' : IsAffine f piece.start (piece_end later last) piece.rate = record {
         line = λ t i j. over_piece so_far piece later s goes_on t i j ∙ ap (λ (x : ℚ). x +ℚ piece.rate *ℚ (t -ℚ piece.start)) (sym at_start);
       } in
-      let sum_is = with_piece-is so_far piece (end_of later last) sum.between sum.first in
+      let sum_is = with_piece-is so_far piece (piece_end later last) sum.between sum.first in
       subst (λ (l : List Point). FollowsFrom f last p l) (ap (λ (l : List Point). l ++ rest.between) (sym (after_0 piece.start so_far start_0)) ∙ same_Ok _ _ rest.next)
       (goes k at (subst (λ (x : ℚ). p.0 <ℚ x) here h) (subst (λ (x : ℚ). IsAffine f p.0 x k) here line)
       (from_point (piece.start, so_far) piece.rate sum.between later rest.between at_start (≤ℚ_of_lt _ _ start_0) end_later line'
-      (over_piece so_far piece later s goes_on (end_of later last) (≤ℚ_of_lt _ _ end_later) (≤ℚ_refl _) ∙ sym sum_is) (StartsRise-rest piece later s)
+      (over_piece so_far piece later s goes_on (piece_end later last) (≤ℚ_of_lt _ _ end_later) (≤ℚ_refl _) ∙ sym sum_is) (StartsRise-rest piece later s)
       (λ q. next_goes_on so_far sum.between piece later s goes_on (≤ℚ_of_lt _ _ w.1) sum_is q) rest.first)))
       (λ (w : (lt_ℚ piece.start last ≡ false) × (last ≤ℚ piece.start)).
-      let here : end_of (piece ∷ later) last ≡ last = min_is_right piece.start last w.1 in
+      let here : piece_end (piece ∷ later) last ≡ last = min_is_right piece.start last w.1 in
       subst (λ (l : List Point). FollowsFrom f last p l) (sym (after_0 last so_far (zero_lt p.0 last n (subst (λ (x : ℚ). p.0 <ℚ x) here h)))
       ∙ cumulative_done passes so_far piece later last points w.0 g)
       (goes k at (subst (λ (x : ℚ). p.0 <ℚ x) here h) (subst (λ (x : ℚ). IsAffine f p.0 x k) here line) (ends (subst (λ (x : ℚ). f x ≡ so_far) here e) refl)))
@@ -184,9 +184,9 @@ module _ (passes : Passing) (pieces : List Piece) (last : ℚ) (good : ArePieces
   starts_nn l piece later e f = let a : ArePieces (piece ∷ later) = subst (λ (m : List Piece). ArePieces m) (sym e ∙ f) good in a.starts 0 piece refl
 
   -- the first piece starts after time 0, or there is none
-  later_start : (points : List Point) → 0ℚ <ℚ end_of pieces last → cumulative_from passes 0ℚ pieces last ≡ Ok points → FollowsFrom (λ t. supplied pieces t) last (0ℚ, 0ℚ) points
-  later_start points h g = from_point passes (λ t. supplied pieces t) last (0ℚ, 0ℚ) 0ℚ 0ℚ pieces points begins_0 (≤ℚ_refl 0ℚ) h (none_up_to (end_of pieces last) (end_next pieces last))
-      (supplied-none pieces (end_of pieces last) (StartsRise-pieces pieces good) (end_next pieces last)) (StartsRise-pieces pieces good) (λ _. goes_from_0 pieces refl) g
+  later_start : (points : List Point) → 0ℚ <ℚ piece_end pieces last → cumulative_from passes 0ℚ pieces last ≡ Ok points → FollowsFrom (λ t. supplied pieces t) last (0ℚ, 0ℚ) points
+  later_start points h g = from_point passes (λ t. supplied pieces t) last (0ℚ, 0ℚ) 0ℚ 0ℚ pieces points begins_0 (≤ℚ_refl 0ℚ) h (none_up_to (piece_end pieces last) (end_next pieces last))
+      (supplied-none pieces (piece_end pieces last) (StartsRise-pieces pieces good) (end_next pieces last)) (StartsRise-pieces pieces good) (λ _. goes_from_0 pieces refl) g
 
   at_start : (piece : Piece) (later : List Piece) (points : List Point) → piece ∷ later ≡ pieces → piece.start ≡ 0ℚ → 0ℚ <ℚ last
       → cumulative_from passes 0ℚ (piece ∷ later) last ≡ Ok points
@@ -196,17 +196,17 @@ module _ (passes : Passing) (pieces : List Piece) (last : ℚ) (good : ArePieces
       let rise : StartsRise (piece ∷ later) = subst StartsRise (sym e) (StartsRise-pieces pieces good) in
       let on : GoesOn passes (λ t. supplied pieces t) last 0ℚ (piece ∷ later) = goes_from_0 (piece ∷ later) e in
       let g' = cumulative_more passes 0ℚ piece later last points w.0 g in
-      let sum = then_ok (with_piece passes 0ℚ piece (end_of later last)) _ points g' in
+      let sum = then_ok (with_piece passes 0ℚ piece (piece_end later last)) _ points g' in
       let rest = then_ok (cumulative_from passes sum.between later last) _ points sum.next in
-      let end_later : piece.start <ℚ end_of later last = end_after piece.start later last w.1 (start_later piece later rise) in
-      let sum_is = with_piece-is passes (λ t. supplied pieces t) last 0ℚ piece (end_of later last) sum.between sum.first in
+      let end_later : piece.start <ℚ piece_end later last = end_after piece.start later last w.1 (start_later piece later rise) in
+      let sum_is = with_piece-is passes (λ t. supplied pieces t) last 0ℚ piece (piece_end later last) sum.between sum.first in
       subst (λ (l : List Point). FollowsFrom (λ t. supplied pieces t) last (0ℚ, 0ℚ) l) (ap (λ (l : List Point). l ++ rest.between) (sym (at_0 piece.start 0ℚ z)) ∙ same_Ok _ _ rest.next)
-      (from_point passes (λ t. supplied pieces t) last (0ℚ, 0ℚ) piece.rate sum.between later rest.between begins_0 (≤ℚ_refl 0ℚ) (subst (λ (x : ℚ). x <ℚ end_of later last) z end_later)
-      (subst (λ (x : ℚ). IsAffine (λ t. supplied pieces t) x (end_of later last) piece.rate) z (record {
+      (from_point passes (λ t. supplied pieces t) last (0ℚ, 0ℚ) piece.rate sum.between later rest.between begins_0 (≤ℚ_refl 0ℚ) (subst (λ (x : ℚ). x <ℚ piece_end later last) z end_later)
+      (subst (λ (x : ℚ). IsAffine (λ t. supplied pieces t) x (piece_end later last) piece.rate) z (record {
         line = λ t i j. over_piece passes (λ t. supplied pieces t) last 0ℚ piece later rise on t i j
             ∙ ap (λ (x : ℚ). x +ℚ piece.rate *ℚ (t -ℚ piece.start)) (sym (ap (λ (x : ℚ). supplied pieces x) z ∙ begins_0));
       }))
-      (over_piece passes (λ t. supplied pieces t) last 0ℚ piece later rise on (end_of later last) (≤ℚ_of_lt _ _ end_later) (≤ℚ_refl _) ∙ sym sum_is) (StartsRise-rest piece later rise)
+      (over_piece passes (λ t. supplied pieces t) last 0ℚ piece later rise on (piece_end later last) (≤ℚ_of_lt _ _ end_later) (≤ℚ_refl _) ∙ sym sum_is) (StartsRise-rest piece later rise)
       (λ q. next_goes_on passes (λ t. supplied pieces t) last 0ℚ sum.between piece later rise on (≤ℚ_of_lt _ _ w.1) sum_is q) rest.first))
       (λ (w : (lt_ℚ piece.start last ≡ false) × (last ≤ℚ piece.start)). absurd (not_both_ℚ 0ℚ last h (subst (λ (x : ℚ). last ≤ℚ x) z w.1)))
       (lt_ℚ_cases piece.start last)
@@ -216,9 +216,9 @@ module _ (passes : Passing) (pieces : List Piece) (last : ℚ) (good : ArePieces
       start_later piece (x ∷ xs) s next rest q = subst (λ (y : ℚ). piece.start <ℚ y) (first_of passes (λ t. supplied pieces t) last x xs next rest q) s.0
 
   from_start : (l : List Piece) (points : List Point) → l ≡ pieces → 0ℚ <ℚ last → cumulative_from passes 0ℚ l last ≡ Ok points → FollowsFrom (λ t. supplied pieces t) last (0ℚ, 0ℚ) points
-  from_start [] points e h g = later_start points (subst (λ (l : List Piece). 0ℚ <ℚ end_of l last) e h) (ap (λ (l : List Piece). cumulative_from passes 0ℚ l last) (sym e) ∙ g)
+  from_start [] points e h g = later_start points (subst (λ (l : List Piece). 0ℚ <ℚ piece_end l last) e h) (ap (λ (l : List Piece). cumulative_from passes 0ℚ l last) (sym e) ∙ g)
   from_start (piece ∷ later) points e h g = ⊎_elim
-      (λ (l : 0ℚ <ℚ piece.start). later_start points (subst (λ (l : List Piece). 0ℚ <ℚ end_of l last) e (both piece.start last l h))
+      (λ (l : 0ℚ <ℚ piece.start). later_start points (subst (λ (l : List Piece). 0ℚ <ℚ piece_end l last) e (both piece.start last l h))
       (ap (λ (l : List Piece). cumulative_from passes 0ℚ l last) (sym e) ∙ g))
       (λ (l : piece.start ≤ℚ 0ℚ). at_start piece later points e (≤ℚ_antisymm _ _ l (starts_nn (piece ∷ later) piece later e refl)) h g)
       (lt_or_le_ℚ 0ℚ piece.start)

@@ -10,7 +10,7 @@ use Rattle.nf_net_def.specs.declared.NetRule.{NetRule}
 use Rattle.nf_net_def.specs.declared.NetRule.TheVariants.{N1, N2}
 use Rattle.nf_net_def.specs.Named.{Named}
 use Rattle.nf_net_def.specs.NetLines.{Broken, Draft, draft_from}
-use Rattle.nf_net_def.specs.NetFile.{as_rule, Closes, by_bytes, Reads}
+use Rattle.nf_net_def.specs.NetFile.{as_rule, ReadsAs, by_bytes, Reads}
 use Rattle.nf_net_file.specs.Contents.{IfBroken}
 use Rattle.nf_net_file.proofs.ContentLines.{broken_more}
 
@@ -36,11 +36,11 @@ module _ (text : List ℕ) (lines : List ReadLine) (same : lines ≡ content_lin
   pub reads_broken : (broken : Broken) → draft_from lines ≡ Err broken → Reads text (Err broken)
   reads_broken broken e = by_parts (Err broken) (Err broken) e refl
 
-  pub reads_closed : (draft : Draft) (r : Result Named Broken) → draft_from lines ≡ Ok draft → Closes draft r → Reads text r
+  pub reads_closed : (draft : Draft) (r : Result Named Broken) → draft_from lines ≡ Ok draft → ReadsAs draft r → Reads text r
   reads_closed draft r e h = by_parts (Ok draft) r e h
 
   pub reads_all : (draft : Draft) (r : Result Named (FileFault NetRule)) → draft_from lines ≡ Ok draft
-      → MatchResult r (λ net. Closes draft (Ok net)) (λ fault. IfBroken fault (λ broken. Closes draft (Err broken)))
+      → MatchResult r (λ net. ReadsAs draft (Ok net)) (λ fault. IfBroken fault (λ broken. ReadsAs draft (Err broken)))
       → MatchResult r (λ net. Reads text (Ok net)) (λ fault. IfBroken fault (λ broken. Reads text (Err broken)))
   reads_all draft (Ok net) e h = reads_closed draft (Ok net) e h
-  reads_all draft (Err fault) e h = broken_more fault (λ broken. Closes draft (Err broken)) (λ broken. Reads text (Err broken)) (λ broken k. reads_closed draft (Err broken) e k) h
+  reads_all draft (Err fault) e h = broken_more fault (λ broken. ReadsAs draft (Err broken)) (λ broken. Reads text (Err broken)) (λ broken k. reads_closed draft (Err broken) e k) h

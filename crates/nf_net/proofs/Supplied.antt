@@ -14,7 +14,7 @@ use Rattle.nf_frac_def.specs.declared.Op.TheVariants.{Sum, Difference, Product}
 use Rattle.nf_frac_def.specs.Passing.{Passing}
 use Rattle.nf_frac_def.specs.Checked.{Checked, checked, ◌>>=◌}
 use Rattle.nf_model.specs.Network.{Piece, ArePieces, time_in, supplied}
-use Rattle.nf_net.specs.Supply.{end_before, with_piece, supplied_after}
+use Rattle.nf_net.specs.Supply.{end_before, plus_piece, supplied_after}
 use Rattle.nf_frac_def.proofs.Binding.{bind_ok}
 use Rattle.nf_rational_laws.proofs.Results.{same_Ok}
 use Rattle.nf_frac_def.proofs.Exact.{checked-is}
@@ -22,7 +22,7 @@ use Rattle.nf_rational_laws.proofs.Facts.{without_zero, gap_np}
 
 -- ---- computations that give a value
 
-with_piece_is : (passes : Passing) (so_far : ℚ) (piece : Piece) (end sum : ℚ) → with_piece passes so_far piece end ≡ Ok sum
+with_piece_is : (passes : Passing) (so_far : ℚ) (piece : Piece) (end sum : ℚ) → plus_piece passes so_far piece end ≡ Ok sum
     → sum ≡ so_far +ℚ piece.rate *ℚ (end -ℚ piece.start)
 with_piece_is passes so_far piece end sum e =
     let first = bind_ok (checked passes Difference end piece.start) (λ length. checked passes Product piece.rate length >>= λ amount. checked passes Sum so_far amount) sum e in
@@ -69,11 +69,11 @@ module _ (passes : Passing) (time : ℚ) where
   supplied_is so_far (piece ∷ later) v r e = step (lt_ℚ piece.start time) refl (lt_ℚ_cases piece.start time) e (λ next k. supplied_is next later v (λ i p q h k. r (suc i) p q h k) k)
     where
       step : (b : Bool) → lt_ℚ piece.start time ≡ b → ((lt_ℚ piece.start time ≡ true) × (piece.start <ℚ time)) ⊎ ((lt_ℚ piece.start time ≡ false) × (time ≤ℚ piece.start))
-          → cond b (with_piece passes so_far piece (end_before later time) >>= λ sum. supplied_after passes sum later time) (supplied_after passes so_far later time) ≡ Ok v
+          → cond b (plus_piece passes so_far piece (end_before later time) >>= λ sum. supplied_after passes sum later time) (supplied_after passes so_far later time) ≡ Ok v
           → ((next : ℚ) → supplied_after passes next later time ≡ Ok v → v ≡ next +ℚ supplied later time)
           → v ≡ so_far +ℚ (piece.rate *ℚ time_in piece.start later time +ℚ supplied later time)
       step true is cases e rest =
-          let found = bind_ok (with_piece passes so_far piece (end_before later time)) (λ sum. supplied_after passes sum later time) v e in
+          let found = bind_ok (plus_piece passes so_far piece (end_before later time)) (λ sum. supplied_after passes sum later time) v e in
           let starts : piece.start <ℚ time = ⊎_elim (λ (w : (lt_ℚ piece.start time ≡ true) × (piece.start <ℚ time)). w.1)
           (λ (w : (lt_ℚ piece.start time ≡ false) × (time ≤ℚ piece.start)). cc) cases in
           joined v found.0 so_far piece.rate (end_before later time) piece.start (supplied later time) (rest found.0 found.2)

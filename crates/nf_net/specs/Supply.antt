@@ -14,8 +14,8 @@ end_before [] time = time
 end_before (next ∷ later) time = min_ℚ time next.start
 
 -- adds the amount of a piece from its start to `end` to the amount so far
-abbrev pub with_piece : Passing → ℚ → Piece → ℚ → Checked ℚ
-with_piece passes so_far piece end = do
+abbrev pub plus_piece : Passing → ℚ → Piece → ℚ → Checked ℚ
+plus_piece passes so_far piece end = do
   length ← checked passes Difference end piece.start
   amount ← checked passes Product piece.rate length
   checked passes Sum so_far amount
@@ -24,7 +24,7 @@ with_piece passes so_far piece end = do
 abbrev pub supplied_after : Passing → ℚ → List Piece → ℚ → Checked ℚ
 supplied_after passes so_far [] time = Ok so_far
 supplied_after passes so_far (piece ∷ later) time =
-    if lt_ℚ piece.start time then (with_piece passes so_far piece (end_before later time) >>= λ sum. supplied_after passes sum later time)
+    if lt_ℚ piece.start time then (plus_piece passes so_far piece (end_before later time) >>= λ sum. supplied_after passes sum later time)
     else supplied_after passes so_far later time
 
 abbrev pub checked_supply : Passing → Network → ℚ → Checked ℚ

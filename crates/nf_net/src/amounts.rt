@@ -4,7 +4,7 @@ ghost use Rattle.nf_rational.specs.Operations.{0ℚ};
 ghost use Rattle.nf_rational.specs.Order.{◌≤ℚ◌};
 ghost use Rattle.nf_frac_def.specs.Passing.{passes_Q};
 ghost use Rattle.nf_model.specs.Network.{supply as supply_of};
-ghost use Rattle.nf_net.specs.Supply.{end_before, with_piece, supplied_after, checked_supply};
+ghost use Rattle.nf_net.specs.Supply.{end_before, plus_piece, supplied_after, checked_supply};
 
 use crate::network::Network;
 use nf_frac::{Passed, Q};
@@ -22,7 +22,7 @@ fn end_before(later: &[Piece], time: Q) -> Q
 
 // Returns the amount so far plus the amount of a piece from its start to `end`.
 fn with_amount(so_far: Q, piece: &Piece, end: Q) -> Result<Q, Passed<Q>>
-    ensures { result ≡ with_piece passes_Q so_far piece.now end }
+    ensures { result ≡ plus_piece passes_Q so_far piece.now end }
 {
     let length = end.difference(piece.start)?;
     let amount = piece.rate.product(length)?;

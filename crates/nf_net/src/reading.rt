@@ -2,7 +2,7 @@
 ghost use Rattle.std.specs.Prelude.{◌≡◌, ◌≤◌, length, None, Ok, Err, IfOk, IfErr, OnOk, MatchResult};
 ghost use Rattle.nf_text_def.specs.Words.{read_lines, content_lines};
 ghost use Rattle.nf_text_def.specs.Faults.{first_fault, longest_text};
-ghost use Rattle.nf_net_def.specs.NetFile.{Closes, Reads};
+ghost use Rattle.nf_net_def.specs.NetFile.{ReadsAs, Reads};
 ghost use Rattle.nf_net_file.specs.Drafts.{seen_draft};
 ghost use Rattle.nf_net_file.specs.Contents.{IfBroken, IsRead};
 ghost use Rattle.nf_net_file.specs.Closing.{IsWhole};
@@ -31,7 +31,7 @@ fn lines_of<'a>(alloc: Global, text: &'a [u8]) -> Result<Vec<ReadLine<'a>>, NetF
 fn closing_flags(alloc: Global, draft: &Draft) -> Result<Vec<bool>, NetFault>
     requires { IsRead (seen_draft draft.now) }
     ensures { MatchResult result (λ flags. IsWhole (seen_draft draft.now) flags.items)
-        (λ fault. IfBroken fault (λ broken. Closes (seen_draft draft.now) (Err broken))) }
+        (λ fault. IfBroken fault (λ broken. ReadsAs (seen_draft draft.now) (Err broken))) }
 {
     if let Some(rule) = names_rule(draft) {
         return Err(NetFault::Broken { rule, line: 0 });
@@ -47,8 +47,8 @@ fn closing_flags(alloc: Global, draft: &Draft) -> Result<Vec<bool>, NetFault>
 // Returns the network that the lines stand for, or the first rule of the whole file that they break.
 fn close(alloc: Global, draft: Draft) -> Result<Network, NetFault>
     requires { IsRead (seen_draft draft) }
-    ensures { MatchResult result (λ net. Closes (seen_draft draft) (Ok net))
-        (λ fault. IfBroken fault (λ broken. Closes (seen_draft draft) (Err broken))) }
+    ensures { MatchResult result (λ net. ReadsAs (seen_draft draft) (Ok net))
+        (λ fault. IfBroken fault (λ broken. ReadsAs (seen_draft draft) (Err broken))) }
 {
     let flags = closing_flags(alloc, &draft)?;
     let parts = parts_of(alloc, &draft, &flags)?;

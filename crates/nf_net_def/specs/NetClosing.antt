@@ -56,14 +56,14 @@ pub record HasPassingSum (draft : Draft) : Type 0 where
   pub is_fraction : is_wide greatest least ≡ false
   pub passes : passes_Q Sum least hop.transit ≡ true
 
-abbrev pub Breaks : Draft → NetRule → Type 0
-Breaks draft N17 = draft.ended ≡ false
-Breaks draft N18 = (is_none draft.source || is_none draft.sink) ≡ true
-Breaks draft N19 = draft.source ≡ draft.sink
-Breaks draft N20 = LeavesUnreached draft
-Breaks draft N21 = HasZeroCycle draft
-Breaks draft N22 = HasPassingSum draft
-Breaks draft rule = ⊥
+abbrev pub BreaksRule : Draft → NetRule → Type 0
+BreaksRule draft N17 = draft.ended ≡ false
+BreaksRule draft N18 = (is_none draft.source || is_none draft.sink) ≡ true
+BreaksRule draft N19 = draft.source ≡ draft.sink
+BreaksRule draft N20 = LeavesUnreached draft
+BreaksRule draft N21 = HasZeroCycle draft
+BreaksRule draft N22 = HasPassingSum draft
+BreaksRule draft rule = ⊥
 
 abbrev pub closing_rules : List NetRule
 closing_rules = N17 ∷ N18 ∷ N19 ∷ N20 ∷ N21 ∷ N22 ∷ []

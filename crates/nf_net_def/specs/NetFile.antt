@@ -6,7 +6,7 @@ use Rattle.nf_text_def.specs.Words.{read_lines, content_lines}
 use Rattle.nf_text_def.specs.Faults.{LineFault, NotAscii, LongLine, first_fault}
 use Rattle.nf_net_def.specs.Named.{Named}
 use Rattle.nf_net_def.specs.NetLines.{Broken, Draft, draft_from}
-use Rattle.nf_net_def.specs.NetClosing.{Breaks, closing_rules, IsFirst, StandsFor}
+use Rattle.nf_net_def.specs.NetClosing.{BreaksRule, closing_rules, IsFirst, StandsFor}
 
 abbrev pub as_rule : LineFault → Broken
 as_rule (NotAscii line) = record { rule = N1; line = line }
@@ -14,14 +14,14 @@ as_rule (LongLine line) = record { rule = N2; line = line }
 
 -- The result of a whole file. If the file breaks none of N17 to N22, the result is the network that it stands for. Otherwise it is the
 -- first broken rule of these, with line 0.
-abbrev pub Closes : Draft → Result Named Broken → Type 0
-Closes draft (Ok n) = AllByRecursion (λ rule. ¬ Breaks draft rule) closing_rules × StandsFor draft n
-Closes draft (Err broken) = IsFirst (Breaks draft) closing_rules broken.rule × (broken.line ≡ 0)
+abbrev pub ReadsAs : Draft → Result Named Broken → Type 0
+ReadsAs draft (Ok n) = AllByRecursion (λ rule. ¬ BreaksRule draft rule) closing_rules × StandsFor draft n
+ReadsAs draft (Err broken) = IsFirst (BreaksRule draft) closing_rules broken.rule × (broken.line ≡ 0)
 
 -- the rules are tested in three tiers: bytes and lengths of all lines, then each line, then the file as a whole
 abbrev pub by_lines : Result Draft Broken → Result Named Broken → Type 0
 by_lines (Err broken) result = result ≡ Err broken
-by_lines (Ok draft) result = Closes draft result
+by_lines (Ok draft) result = ReadsAs draft result
 
 abbrev pub by_bytes : Option LineFault → Result Draft Broken → Result Named Broken → Type 0
 by_bytes (Some fault) lines result = result ≡ Err (as_rule fault)

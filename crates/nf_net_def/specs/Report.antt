@@ -72,12 +72,12 @@ state_word Tight = codes "tight"
 state_word Full = codes "full"
 state_word Zero = codes "zero"
 
-abbrev pub state_line : Name → Option State → List (List (List ℕ))
-state_line name None = []
-state_line name (Some state) = (codes "state" ∷ name ∷ state_word state ∷ []) ∷ []
+abbrev pub written_state : Name → Option State → List (List (List ℕ))
+written_state name None = []
+written_state name (Some state) = (codes "state" ∷ name ∷ state_word state ∷ []) ∷ []
 
 abbrev pub state_lines : Named → Pattern → ℕ → List (List (List ℕ))
-state_lines n pattern e = state_line (name_at n.link_names e) (unwrap_or (slice_get pattern e) None)
+state_lines n pattern e = written_state (name_at n.link_names e) (unwrap_or (slice_get pattern e) None)
 
 -- lists the lines for each number below `count`, in order
 abbrev pub for_each : ℕ → (ℕ → List (List (List ℕ))) → List (List (List ℕ))

@@ -5,7 +5,7 @@ use Rattle.nf_net_def.specs.declared.NetRule.{NetRule}
 use Rattle.nf_net_def.specs.Names.{Name, place_of}
 use Rattle.nf_net_def.specs.Named.{NamedLink}
 use Rattle.nf_net_def.specs.NetLines.{Draft}
-use Rattle.nf_net_def.specs.NetClosing.{Breaks, closing_rules, IsFirst, draft_hops, source_place}
+use Rattle.nf_net_def.specs.NetClosing.{BreaksRule, closing_rules, IsFirst, draft_hops, source_place}
 use Rattle.nf_graph.specs.Graph.{AreReached}
 use Rattle.nf_graph.specs.declared.distance.DistanceFault.{DistanceFault}
 use Rattle.nf_graph.specs.declared.distance.DistanceFault.TheVariants.{Passed, Memory}
@@ -20,10 +20,10 @@ pub record HasEnds (draft : Draft) : Type 0 where
 
 -- none of the rules N17 to N22 is broken, or this is the first
 abbrev pub BreaksNone : Draft → Type 0
-BreaksNone draft = AllByRecursion (λ rule. ¬ Breaks draft rule) closing_rules
+BreaksNone draft = AllByRecursion (λ rule. ¬ BreaksRule draft rule) closing_rules
 
 abbrev pub BreaksFirstAtEnd : Draft → NetRule → Type 0
-BreaksFirstAtEnd draft rule = IsFirst (Breaks draft) closing_rules rule
+BreaksFirstAtEnd draft rule = IsFirst (BreaksRule draft) closing_rules rule
 
 -- the flag of a node
 abbrev pub flag_at : List Bool → ℕ → Bool

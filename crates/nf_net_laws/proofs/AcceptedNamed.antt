@@ -3,8 +3,8 @@ use Rattle.std.proofs.Common.{◌≡◌, ℕ, zero, suc, ◌<◌, ◌≤◌, ◌
 use Rattle.nf_net_laws.proofs.Common.{MatchBool, ℚ, 0ℚ, ◌≤ℚ◌, ◌<ℚ◌, lt_of_test, passes_Q, Sum, Hop, IsHop, IsWalk, transit_sum, IsLeastTransit, Link, Piece}
 use Rattle.nf_net_laws.proofs.Common.{IsLink, IsPiece, ArePieces, IsNetwork, hop_of, hops, Name, is_name, has_name, place_of, name_at, with_names, without}
 use Rattle.nf_net_laws.proofs.Common.{AreNames, NamedLink, Named, numbered, hops_among, links_by_name, active_links, all_hops, ends, names_of, read_lines}
-use Rattle.nf_net_laws.proofs.Common.{content_lines, LineFault, first_fault, Broken, Draft, draft_from, Closes, by_lines, by_bytes, Reads, draft_hops}
-use Rattle.nf_net_laws.proofs.Common.{source_name, sink_name, source_place, IsReached, HasPassingSum, Breaks, closing_rules, marked, network_of, AreActive}
+use Rattle.nf_net_laws.proofs.Common.{content_lines, LineFault, first_fault, Broken, Draft, draft_from, ReadsAs, by_lines, by_bytes, Reads, draft_hops}
+use Rattle.nf_net_laws.proofs.Common.{source_name, sink_name, source_place, IsReached, HasPassingSum, BreaksRule, closing_rules, marked, network_of, AreActive}
 use Rattle.nf_net_laws.proofs.Common.{IsFraction, IsCapacity, IsNamedLink, IsWithinLimits, IsNumbered, SumsFit, IsNamed, slice_get-image}
 use Rattle.std.specs.List.{AllByRecursion, IsDistinct, list_all}
 use Rattle.nf_net_laws.proofs.NameFacts.{same_names, has_at, place_below, name_at-place, place_at, with_names-split}
@@ -61,7 +61,7 @@ positive_capacity : (version : ℕ) (capacity : Option ℚ) (c : ℚ) → IsCapa
 positive_capacity version None c h e = absurd (cc)
 positive_capacity version (Some q) c h e = subst (λ x. 0ℚ <ℚ x) (ap (λ o. unwrap_or o q) e) h.1
 
-module _ (draft : Draft) (g : IsGoodDraft draft) (fine : AllByRecursion (λ rule. ¬ Breaks draft rule) closing_rules) (flags : List Bool) (act : AreActive draft flags) where
+module _ (draft : Draft) (g : IsGoodDraft draft) (fine : AllByRecursion (λ rule. ¬ BreaksRule draft rule) closing_rules) (flags : List Bool) (act : AreActive draft flags) where
   abbrev s : Name
   s = source_name draft
 
@@ -359,7 +359,7 @@ module _ (draft : Draft) (g : IsGoodDraft draft) (fine : AllByRecursion (λ rule
   }
 
 -- ---- of a text
-closed : (draft : Draft) (n : Named) → IsGoodDraft draft → Closes draft (Ok n) → IsNamed n
+closed : (draft : Draft) (n : Named) → IsGoodDraft draft → ReadsAs draft (Ok n) → IsNamed n
 closed draft n g h = subst IsNamed (sym h.1.network) (is_named draft g h.0 h.1.flags h.1.active)
 
 read_lines_named : (lines : Result Draft Broken) (n : Named) → ((draft : Draft) → lines ≡ Ok draft → IsGoodDraft draft) → by_lines lines (Ok n) → IsNamed n

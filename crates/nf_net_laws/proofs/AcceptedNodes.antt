@@ -2,7 +2,7 @@
 use Rattle.std.proofs.Common.{◌≡◌, ℕ, zero, suc, ◌<◌, ◌==◌, ◌||◌, Bool, true, false, List, [], ◌∷◌, ◌++◌, length, map, slice_get, Option, Some, None, is_none, unwrap_or, refl, sym, ◌∙◌, ap, subst, inl, inr, bytes_eq}
 use Rattle.nf_net_laws.proofs.Common.{MatchBool, AllByRecursion, list_all, and_parts, or_left, or_right, Hop, IsHop, IsWalk, hop_of, Name, has_name, place_of}
 use Rattle.nf_net_laws.proofs.Common.{name_at, with_names, NamedLink, numbered, ends, Draft, draft_hops, source_name, sink_name, source_place, IsReached}
-use Rattle.nf_net_laws.proofs.Common.{LeavesUnreached, Breaks, closing_rules, marked, AreActive, slice_get-image, true_or_false}
+use Rattle.nf_net_laws.proofs.Common.{LeavesUnreached, BreaksRule, closing_rules, marked, AreActive, slice_get-image, true_or_false}
 use Rattle.nf_net_laws.proofs.NameFacts.{bytes_eq-self, place_below, name_at-place}
 use Rattle.nf_net_laws.proofs.WalkFacts.{entry_all, CameFrom, came_from, walk_push, LastHop, last_hop}
 use Rattle.nf_net_laws.proofs.DraftKept.{IsGoodDraft}
@@ -68,7 +68,7 @@ pub record IsReachedName (draft : Draft) (name : Name) : Type 0 where
 heads : List NamedLink → List Name
 heads links = map (λ l. l.head) links
 
-module _ (draft : Draft) (g : IsGoodDraft draft) (fine : AllByRecursion (λ rule. ¬ Breaks draft rule) closing_rules) (flags : List Bool) (act : AreActive draft flags) where
+module _ (draft : Draft) (g : IsGoodDraft draft) (fine : AllByRecursion (λ rule. ¬ BreaksRule draft rule) closing_rules) (flags : List Bool) (act : AreActive draft flags) where
   abbrev s : Name
   s = source_name draft
 

@@ -3,7 +3,7 @@ use Rattle.std.proofs.Common.{◌≡◌, ℕ, ◌<◌, ◌≤◌, ◌==◌, Bool
 use Rattle.nf_net_laws.proofs.Common.{MatchBool, Decides, AllByRecursion, IsDistinct, 0ℚ, ◌≤ℚ◌, reading_of, eq, linear_eq, Hop, IsHop, IsWalk, transit_of}
 use Rattle.nf_net_laws.proofs.Common.{transit_sum, IsLeastTransit, Link, hop_of, hops, N19, Name, has_name, place_of, name_at, with_names, without, NamedLink}
 use Rattle.nf_net_laws.proofs.Common.{Named, numbered, hops_among, active_links, all_links, all_nodes, all_hops, ends, names_of, Draft, IsReached}
-use Rattle.nf_net_laws.proofs.Common.{LeavesUnreached, HasZeroCycle, HasPassingSum, Breaks, network_of, AreActive, Closes, IsNamed}
+use Rattle.nf_net_laws.proofs.Common.{LeavesUnreached, HasZeroCycle, HasPassingSum, BreaksRule, network_of, AreActive, ReadsAs, IsNamed}
 use Rattle.nf_rational_laws.proofs.Facts.{zero_not_above}
 use Rattle.nf_net_laws.proofs.NameFacts.{place_right}
 use Rattle.nf_net_laws.proofs.WalkFacts.{slice_get-left, IsIn, in_first, in_second, which, entry_all, CameFrom, came_from, Corresponds, Carried, carried}
@@ -114,7 +114,7 @@ module _ (n : Named) (h : IsNamed n) where
       c.after
 
   -- ---- no rule is broken
-  pub names_apart : Breaks (draft_of n) N19 → ⊥
+  pub names_apart : BreaksRule (draft_of n) N19 → ⊥
   names_apart e =
       let same : name_at n.node_names 0 ≡ name_at n.node_names 1 = cc in
       h.network.apart (sym source_is ∙ ap (place_of (all_nodes n)) same ∙ sink_is)
@@ -222,7 +222,7 @@ module _ (n : Named) (h : IsNamed n) where
   network_again : n ≡ network_of (draft_of n) (active_links n) n.idle_links
   network_again = sym with_own_nodes ∙ ap with_nodes h.numbered.order
 
-  pub closes_back : Closes (draft_of n) (Ok n)
+  pub closes_back : ReadsAs (draft_of n) (Ok n)
   closes_back = (
     ((λ e. absurd (cc)), ((λ e. absurd (cc)), (names_apart, (all_reached, (no_zero_cycle, (no_passing_sum, tt)))))),
     record {

@@ -11,7 +11,7 @@ pub use Rattle.nf_net_def.specs.Named.{Named, NamedLink, active_links, all_hops,
 pub use Rattle.nf_net_def.specs.Names.{AreNames, Name, has_name, is_name, is_name_byte, name_at, place_of, with_name, with_names, without}
 pub use Rattle.nf_net_def.specs.NetClosing.{
   AreActive,
-  Breaks,
+  BreaksRule,
   HasPassingSum,
   HasZeroCycle,
   IsFirst,
@@ -26,7 +26,7 @@ pub use Rattle.nf_net_def.specs.NetClosing.{
   source_name,
   source_place,
 }
-pub use Rattle.nf_net_def.specs.NetFile.{Closes, Reads, as_rule, by_bytes, by_lines}
+pub use Rattle.nf_net_def.specs.NetFile.{ReadsAs, Reads, as_rule, by_bytes, by_lines}
 pub use Rattle.nf_net_def.specs.NetLines.{
   Broken,
   Draft,

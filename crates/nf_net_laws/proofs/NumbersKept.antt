@@ -6,7 +6,7 @@ use Rattle.nf_rational.specs.Gcd.{gcd}
 use Rattle.nf_rational.specs.Rational.{ℚ, ratio, abs_quot}
 use Rattle.nf_frac_words.specs.declared.NumberFault.{NumberFault}
 use Rattle.nf_frac_words.specs.declared.NumberFault.TheVariants.{Empty, BadDigit, TooWide, ZeroDenominator}
-use Rattle.nf_frac_words.specs.Numbers.{slash, point, before, after, unsigned, signed_by, denominator, is_decimal, parts_or_fault, parts_of, decimal_parts_of, as_ratio, number_of, decimal_of}
+use Rattle.nf_frac_words.specs.Numbers.{slash, point, before, bytes_after, unsigned, signed_by, denominator, is_decimal, parts_or_fault, parts_of, decimal_parts_of, as_ratio, number_of, decimal_of}
 
 -- parts that are within the bound, the second above 0
 pub record FitParts (bound : ℕ) (p : ℤ × ℕ) : Type 0 where
@@ -42,7 +42,7 @@ pub decimal_parts_fit : (bound : ℕ) (word : List ℕ) (p : ℤ × ℕ) → dec
 unfolding decimal_parts_of
 decimal_parts_fit bound word p e =
     let a : List ℕ = before point word in
-    let b : List ℕ = after point word in
+    let b : List ℕ = bytes_after point word in
     decimal_cases bound word (unsigned a) b (signed_by a (value_of (unsigned a) * 10 ^ length b + value_of b)) (10 ^ length b) p (is_decimal word) e
 
 -- ---- in lowest terms parts don't grow

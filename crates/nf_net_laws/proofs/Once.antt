@@ -1,8 +1,8 @@
 -- A text has at most one reading.
 use Rattle.std.proofs.Common.{◌≡◌, ℕ, List, [], ◌∷◌, Bool, not, refl, sym, ◌∙◌, ap, inl, inr, map, Option, Some, None, Result, Ok, Err}
 use Rattle.nf_net_laws.proofs.Common.{Decides, one_answer, AllByRecursion, AllZip, NetRule, read_lines, content_lines, LineFault, first_fault, place_of}
-use Rattle.nf_net_laws.proofs.Common.{NamedLink, Named, Broken, Draft, draft_from, IsReached, Breaks, closing_rules, IsFirst, marked, network_of, StandsFor}
-use Rattle.nf_net_laws.proofs.Common.{Closes, by_lines, by_bytes, Reads}
+use Rattle.nf_net_laws.proofs.Common.{NamedLink, Named, Broken, Draft, draft_from, IsReached, BreaksRule, closing_rules, IsFirst, marked, network_of, StandsFor}
+use Rattle.nf_net_laws.proofs.Common.{ReadsAs, by_lines, by_bytes, Reads}
 
 module _ (P : NetRule → Type 0) where
   pub first_once : (rules : List NetRule) (a b : NetRule) → IsFirst P rules a → IsFirst P rules b → a ≡ b
@@ -32,11 +32,11 @@ stands_once draft n m h k =
     h.network ∙ (ap (λ flags. network_of draft (marked flags draft.links) (marked (map not flags) draft.links))
     (flags_once (λ l. IsReached draft (place_of draft.nodes l.tail)) h.flags k.flags draft.links h.active k.active) ∙ sym k.network)
 
-closes_once : (draft : Draft) (a b : Result Named Broken) → Closes draft a → Closes draft b → a ≡ b
+closes_once : (draft : Draft) (a b : Result Named Broken) → ReadsAs draft a → ReadsAs draft b → a ≡ b
 closes_once draft (Ok n) (Ok m) h k = ap (λ x. Ok x) (stands_once draft n m h.1 k.1)
-closes_once draft (Ok n) (Err b) h k = absurd (first_or_none (Breaks draft) closing_rules b.rule k.0 h.0)
-closes_once draft (Err a) (Ok m) h k = absurd (first_or_none (Breaks draft) closing_rules a.rule h.0 k.0)
-closes_once draft (Err a) (Err b) h k = λ i. Err (record { rule = first_once (Breaks draft) closing_rules a.rule b.rule h.0 k.0 i; line = (h.1 ∙ sym k.1) i })
+closes_once draft (Ok n) (Err b) h k = absurd (first_or_none (BreaksRule draft) closing_rules b.rule k.0 h.0)
+closes_once draft (Err a) (Ok m) h k = absurd (first_or_none (BreaksRule draft) closing_rules a.rule h.0 k.0)
+closes_once draft (Err a) (Err b) h k = λ i. Err (record { rule = first_once (BreaksRule draft) closing_rules a.rule b.rule h.0 k.0 i; line = (h.1 ∙ sym k.1) i })
 
 lines_once : (lines : Result Draft Broken) (a b : Result Named Broken) → by_lines lines a → by_lines lines b → a ≡ b
 lines_once (Err broken) a b h k = h ∙ sym k

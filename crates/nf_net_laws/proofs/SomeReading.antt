@@ -4,7 +4,7 @@ use Rattle.nf_net_laws.proofs.Common.{MatchBool, Decides, AllByRecursion, AllZip
 use Rattle.nf_net_laws.proofs.Common.{≤ℚ_antisymm, ≤ℚ_of_same, le_of_test, test_of_le, is_wide, passes_Q, Sum, Hop, IsHop, IsWalk, transit_of, IsLeastTransit}
 use Rattle.nf_net_laws.proofs.Common.{hop_of, read_lines, content_lines, LineFault, first_fault, NetRule, N17, N18, N19, N20, N21, N22, Name, has_name}
 use Rattle.nf_net_laws.proofs.Common.{place_of, greatest, NamedLink, Named, numbered, Broken, Draft, draft_from, draft_hops, sink_name, source_place, IsReached}
-use Rattle.nf_net_laws.proofs.Common.{LeavesUnreached, HasZeroCycle, HasPassingSum, Breaks, closing_rules, IsFirst, marked, network_of, as_rule, Closes}
+use Rattle.nf_net_laws.proofs.Common.{LeavesUnreached, HasZeroCycle, HasPassingSum, BreaksRule, closing_rules, IsFirst, marked, network_of, as_rule, ReadsAs}
 use Rattle.nf_net_laws.proofs.Common.{by_lines, by_bytes, Reads, slice_get-image, true_or_false, transit_of-hop}
 use Rattle.nf_net_laws.proofs.NameFacts.{same_names, bytes_eq-self, place_below}
 use Rattle.nf_net_laws.proofs.WalkFacts.{CameFrom, came_from, entry_all}
@@ -212,7 +212,7 @@ module _ (draft : Draft) (g : IsGoodDraft draft) where
         absurd (cc))
   ]
 
-  decide : (rule : NetRule) → Breaks draft rule ⊎ (¬ Breaks draft rule)
+  decide : (rule : NetRule) → BreaksRule draft rule ⊎ (¬ BreaksRule draft rule)
   decide N17 = is_value draft.ended false
   decide N18 = is_value (is_none draft.source || is_none draft.sink) true
   decide N19 = same_option draft.source draft.sink
@@ -221,8 +221,8 @@ module _ (draft : Draft) (g : IsGoodDraft draft) where
   decide N22 = decide_22
   decide rule = inr (λ h. h)
 
-  closing : (result : Result Named Broken) × Closes draft result
-  closing = elim (decide_first (Breaks draft) decide closing_rules) [
+  closing : (result : Result Named Broken) × ReadsAs draft result
+  closing = elim (decide_first (BreaksRule draft) decide closing_rules) [
     | inl broken ↦ (Err (record { rule = broken.0; line = 0 }), (broken.1, refl))
     | inr none ↦
         let flags : List Bool = map (λ l. is_reached (place_of draft.nodes l.tail)) draft.links in

@@ -8,7 +8,7 @@ use Rattle.nf_model.specs.Walk.{Hop}
 use Rattle.nf_model.specs.Pattern.{Pattern, HasState}
 use Rattle.nf_pattern.specs.declared.firm.FirmLinks.{FirmLinks}
 use Rattle.nf_pattern.specs.Forest.{TightBefore, LeadsBack, NoneCloses}
-use Rattle.nf_pattern.specs.Firm.{FirmBefore, AreFirm, AreCalm}
+use Rattle.nf_pattern.specs.Firm.{FirmBefore, AreJointlyAcyclic, AreCalm}
 use Rattle.nf_pattern.proofs.Choosing.{same_front_at}
 use Rattle.nf_pattern.proofs.Setting.{set_same, set_other, tell}
 use Rattle.nf_pattern.proofs.Trails.{joined_by}
@@ -39,7 +39,7 @@ module _ (hops : List Hop) (p : Pattern) (n : ℕ) (links : FirmLinks) (calm : A
   pub calm_up_to : (m : ℕ) (after : FirmLinks) → after.flags.items ≡ links.flags.items → ((e : ℕ) → e < m → e < after.calm → (e < n) × (e < links.calm)) → AreCalm hops p m after
   calm_up_to m after same fewer = record {
     count = ap length same ∙ calm.count;
-    firm = subst (AreFirm hops) (sym same) calm.firm;
+    firm = subst (AreJointlyAcyclic hops) (sym same) calm.firm;
     calm = λ e less before tight. let f = fewer e less before in subst (λ (flags : List Bool). Has flags e) (sym same) (calm.calm e f.0 f.1 tight);
   }
 

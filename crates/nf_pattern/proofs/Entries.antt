@@ -5,7 +5,7 @@ use Rattle.std.proofs.lemmas.Option.{same_Some, none-some}
 use Rattle.nf_model.specs.Walk.{Hop, IsHop}
 use Rattle.nf_model.specs.Pattern.{Pattern, HasState}
 use Rattle.nf_graph.proofs.Walks.{IsHop-unique, IsHop-read}
-use Rattle.nf_pattern.specs.Entered.{MayCarry, EntersBy, EnteredBefore, LeadsTo, IsLastInto, AreLastInto, AreChained, CanCarry, IsEndBefore, AreEndsBefore, Strands, Keeps}
+use Rattle.nf_pattern.specs.Entered.{MayCarry, EntersBy, EnteredBefore, LeadsTo, IsLastInto, AreLastInto, AreChained, CanCarry, IsEndBefore, AreEndsBefore, Strands, KeepsEntered}
 use Rattle.nf_pattern.proofs.Setting.{set_same, set_other, tell}
 use Rattle.nf_rational_laws.proofs.Naturals.{before_or_at}
 use Rattle.nf_model.specs.Entries.{Has}
@@ -94,7 +94,7 @@ module _ (hops : List Hop) (resetting : List Bool) (p : Pattern) where
 
   -- ---- stranded nodes
   module _ (source : ℕ) (ends : List ℕ) (e : ℕ) where
-    pub carries_keeps : MayCarry resetting p e → Keeps source hops resetting p ends e
+    pub carries_keeps : MayCarry resetting p e → KeepsEntered source hops resetting p ends e
     carries_keeps may v other leads last = (e, omega arith, (leads.0, leads.1, leads.2, may))
 
     module _ (hop : Hop) (is_hop : IsHop hops e hop) (i : ℕ) (at : i ≡ hop.head) where
@@ -104,13 +104,13 @@ module _ (hops : List Hop) (resetting : List Bool) (p : Pattern) where
       pub head_led : LeadsTo hops e i
       head_led = (hop, is_hop, sym at)
 
-      pub source_keeps : i ≡ source → Keeps source hops resetting p ends e
+      pub source_keeps : i ≡ source → KeepsEntered source hops resetting p ends e
       source_keeps same v other leads last = absurd (other (its_head v leads ∙ same))
 
-      pub later_keeps : (slice_get ends i ≡ Some (suc e) → ⊥) → Keeps source hops resetting p ends e
+      pub later_keeps : (slice_get ends i ≡ Some (suc e) → ⊥) → KeepsEntered source hops resetting p ends e
       later_keeps later v other leads last = absurd (later (ap (λ (k : ℕ). slice_get ends k) (sym (its_head v leads)) ∙ last))
 
-      entered_keeps : EnteredBefore hops resetting p e i → Keeps source hops resetting p ends e
+      entered_keeps : EnteredBefore hops resetting p e i → KeepsEntered source hops resetting p ends e
       entered_keeps before v other leads last =
           let here : EnteredBefore hops resetting p e v = subst (λ (k : ℕ). EnteredBefore hops resetting p e k) (sym (its_head v leads)) before in
           (here.0, (let l = here.1 in omega arith), here.2)
@@ -130,7 +130,7 @@ module _ (hops : List Hop) (resetting : List Bool) (p : Pattern) where
 
       pub strands_told : i ≢ source → (MayCarry resetting p e → ⊥) → slice_get ends i ≡ Some (suc e) → (before : Bool)
           → MatchBool before (EnteredBefore hops resetting p e i) (EnteredBefore hops resetting p e i → ⊥)
-          → MatchBool (not before) (Strands source hops resetting p ends e) (Keeps source hops resetting p ends e)
+          → MatchBool (not before) (Strands source hops resetting p ends e) (KeepsEntered source hops resetting p ends e)
       strands_told other none last true told = entered_keeps told
       strands_told other none last false told = strands_there other none last told
 

@@ -10,7 +10,7 @@ use Rattle.nf_model.specs.declared.State.TheVariants.{Tight, Full, Zero}
 use Rattle.nf_model.specs.Pattern.{Pattern, rank}
 use Rattle.nf_thin_laws.proofs.Unranking.{same_rank}
 use Rattle.nf_rational_laws.proofs.Entries.{take_set}
-use Rattle.nf_pattern.specs.Successor.{choices, IsIn, IsAssignment, free, change, fits, first_good, before_all, with_rest, earliest, raised}
+use Rattle.nf_pattern.specs.Successor.{choices, IsIn, IsAssignment, free, change, fits_count, first_good, before_all, with_rest, earliest, raised}
 use Rattle.nf_pattern.proofs.Successors.{no_change, good_some, good_none, good_choice, fits_in, fits_out, higher, higher_out}
 
 pub free_first : (b : Option State) (base : Pattern) → free (b ∷ base) ≡ change None b + free base
@@ -66,12 +66,12 @@ module _ (base : Pattern) (us : List Bool) (n : ℕ) (states : Pattern) (i left 
   rest_free rest is = let a : more ≡ free (b ∷ drop (suc i) base) = filled.all_free ∙ ap free base_from in let f = free_first b (drop (suc i) base) in omega arith
 
   -- the link has a choice
-  pub has_choice : first_good (fits b left (free (drop (suc i) base))) (choices b u) ≡ None → ⊥
-  has_choice e = let g = good_choice b u (drop (suc i) base) left valid_here.0 few_here in good_none (fits b left (free (drop (suc i) base))) (choices b u) g.0 e g.1 g.2
+  pub has_choice : first_good (fits_count b left (free (drop (suc i) base))) (choices b u) ≡ None → ⊥
+  has_choice e = let g = good_choice b u (drop (suc i) base) left valid_here.0 few_here in good_none (fits_count b left (free (drop (suc i) base))) (choices b u) g.0 e g.1 g.2
 
-  module _ (s : Option State) (chosen : first_good (fits b left (free (drop (suc i) base))) (choices b u) ≡ Some s) where
+  module _ (s : Option State) (chosen : first_good (fits_count b left (free (drop (suc i) base))) (choices b u) ≡ Some s) where
     fit : (change b s ≤ left) × (left ≤ change b s + free (drop (suc i) base))
-    fit = fits_out b s left (free (drop (suc i) base)) (good_some (fits b left (free (drop (suc i) base))) (choices b u) s chosen).1
+    fit = fits_out b s left (free (drop (suc i) base)) (good_some (fits_count b left (free (drop (suc i) base))) (choices b u) s chosen).1
 
     pub change_fits : change b s ≤ left
     change_fits = fit.0
@@ -98,16 +98,16 @@ module _ (base : Pattern) (us : List Bool) (n : ℕ) (states : Pattern) (i left 
         (subst (λ (k : ℕ). AreFilled base us n (set states i s) (suc i) (left - change b s) k) (sym is_more) done))
 
   -- a link that has no state
-  idle_choice : b ≡ None → first_good (fits b left (free (drop (suc i) base))) (choices b u) ≡ Some None
-  idle_choice none = go (first_good (fits b left (free (drop (suc i) base))) (choices b u)) refl
+  idle_choice : b ≡ None → first_good (fits_count b left (free (drop (suc i) base))) (choices b u) ≡ Some None
+  idle_choice none = go (first_good (fits_count b left (free (drop (suc i) base))) (choices b u)) refl
     where
       only : (s : Option State) → IsIn (choices b u) s → s ≡ None
       only s is = ⊎_elim (λ (e : s ≡ None). e) (λ (no : ⊥). absurd no) (subst (λ (x : Option State). IsIn (choices x u) s) none is)
 
-      go : (o : Option (Option State)) → first_good (fits b left (free (drop (suc i) base))) (choices b u) ≡ o
-          → first_good (fits b left (free (drop (suc i) base))) (choices b u) ≡ Some None
+      go : (o : Option (Option State)) → first_good (fits_count b left (free (drop (suc i) base))) (choices b u) ≡ o
+          → first_good (fits_count b left (free (drop (suc i) base))) (choices b u) ≡ Some None
       go None e = absurd (has_choice e)
-      go (Some s) e = e ∙ ap (λ (x : Option State). Some x) (only s (good_some (fits b left (free (drop (suc i) base))) (choices b u) s e).0)
+      go (Some s) e = e ∙ ap (λ (x : Option State). Some x) (only s (good_some (fits_count b left (free (drop (suc i) base))) (choices b u) s e).0)
 
   pub idle_filled : (j : ℕ) → j ≡ suc i → b ≡ None → AreFilled base us n (set states i None) j left more
   idle_filled j at none = more_filled None (idle_choice none) j left more at
@@ -134,13 +134,13 @@ all_filled base us n states i left more end filled =
 unchanged : (b s : Option State) → change b s ≤ 0 → rank b ≡ rank s
 unchanged b s h = grind arith
 
-same_first : (b : Option State) (u : Bool) (more : ℕ) → IsIn (choices b u) b → first_good (fits b 0 more) (choices b u) ≡ Some b
-same_first b u more h = go (first_good (fits b 0 more) (choices b u)) refl
+same_first : (b : Option State) (u : Bool) (more : ℕ) → IsIn (choices b u) b → first_good (fits_count b 0 more) (choices b u) ≡ Some b
+same_first b u more h = go (first_good (fits_count b 0 more) (choices b u)) refl
   where
-    go : (o : Option (Option State)) → first_good (fits b 0 more) (choices b u) ≡ o → first_good (fits b 0 more) (choices b u) ≡ Some b
-    go None e = absurd (good_none (fits b 0 more) (choices b u) b e h (let z = no_change b in fits_in b b 0 more (omega arith) (omega arith)))
+    go : (o : Option (Option State)) → first_good (fits_count b 0 more) (choices b u) ≡ o → first_good (fits_count b 0 more) (choices b u) ≡ Some b
+    go None e = absurd (good_none (fits_count b 0 more) (choices b u) b e h (let z = no_change b in fits_in b b 0 more (omega arith) (omega arith)))
     go (Some s) e =
-        let good = good_some (fits b 0 more) (choices b u) s e in
+        let good = good_some (fits_count b 0 more) (choices b u) s e in
         let fit = fits_out b s 0 more good.1 in
         e ∙ ap (λ (x : Option State). Some x) (sym (same_rank b s (unchanged b s fit.0)))
 

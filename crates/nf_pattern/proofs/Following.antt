@@ -4,8 +4,8 @@ use Rattle.nf_model.specs.Walk.{Hop}
 use Rattle.nf_model.specs.Pattern.{Pattern}
 use Rattle.nf_pattern.specs.declared.trail.Trail.{Trail}
 use Rattle.nf_pattern.specs.Forest.{NoneCloses}
-use Rattle.nf_pattern.specs.Walking.{Holds}
-use Rattle.nf_pattern.specs.Entered.{EnteredBefore, AreChained, AreEnds, Keeps}
+use Rattle.nf_pattern.specs.Walking.{IsTightStack}
+use Rattle.nf_pattern.specs.Entered.{EnteredBefore, AreChained, AreEnds, KeepsEntered}
 use Rattle.nf_pattern.specs.Trail.{Follows, IsOnWay}
 use Rattle.nf_pattern.specs.Firm.{AreCalm}
 use Rattle.nf_pattern.proofs.Calming.{calm_fewer}
@@ -14,12 +14,12 @@ use Rattle.nf_rational_laws.proofs.Naturals.{before_or_at}
 module _ (source : ℕ) (hops : List Hop) (resetting : List Bool) (p : Pattern) where
   -- one link more
   pub entered_on : {trail after : Trail} → Follows source hops resetting p trail → trail.depth < length hops → after.depth ≡ suc trail.depth
-      → Holds hops p (suc trail.depth) after.tight → NoneCloses hops p (suc trail.depth) → length after.tight.last.items ≡ length trail.tight.last.items
-      → after.ends.items ≡ trail.ends.items → after.chain.items ≡ trail.chain.items → Keeps source hops resetting p trail.ends.items trail.depth
+      → IsTightStack hops p (suc trail.depth) after.tight → NoneCloses hops p (suc trail.depth) → length after.tight.last.items ≡ length trail.tight.last.items
+      → after.ends.items ≡ trail.ends.items → after.chain.items ≡ trail.chain.items → KeepsEntered source hops resetting p trail.ends.items trail.depth
       → AreCalm hops p (suc trail.depth) after.firm → Follows source hops resetting p after
   entered_on {trail} {after} follows more depth tight clear nodes ends chain keeps calm = record {
     depth = let d = depth in omega arith;
-    tight = subst (λ (k : ℕ). Holds hops p k after.tight) (sym depth) tight;
+    tight = subst (λ (k : ℕ). IsTightStack hops p k after.tight) (sym depth) tight;
     clear = subst (λ (k : ℕ). NoneCloses hops p k) (sym depth) clear;
     calm = subst (λ (k : ℕ). AreCalm hops p k after.firm) (sym depth) calm;
     chain = subst (AreChained hops) (sym chain) follows.chain;
@@ -38,7 +38,7 @@ module _ (source : ℕ) (hops : List Hop) (resetting : List Bool) (p : Pattern) 
 
   -- The last link is removed.
   pub left_back : {trail after : Trail} → Follows source hops resetting p trail → trail.depth ≡ suc after.depth
-      → Holds hops p after.depth after.tight → length after.tight.last.items ≡ length trail.tight.last.items
+      → IsTightStack hops p after.depth after.tight → length after.tight.last.items ≡ length trail.tight.last.items
       → after.ends.items ≡ trail.ends.items → after.chain.items ≡ trail.chain.items → after.firm ≡ trail.firm → Follows source hops resetting p after
   left_back {trail} {after} follows depth tight nodes ends chain firm = record {
     depth = let few = follows.depth in omega arith;
@@ -76,12 +76,12 @@ pub way_on : {before now after : Trail} → IsOnWay before now → IsOnWay now a
 way_on a b = record { nodes = b.nodes ∙ a.nodes; ends = b.ends ∙ a.ends; lost = b.lost ∙ a.lost }
 
 -- ---- no link is examined
-pub follows_none : (source : ℕ) (hops : List Hop) (resetting : List Bool) (base p : Pattern) (nodes : ℕ) {trail : Trail} → trail.depth ≡ zero → Holds hops p zero trail.tight
+pub follows_none : (source : ℕ) (hops : List Hop) (resetting : List Bool) (base p : Pattern) (nodes : ℕ) {trail : Trail} → trail.depth ≡ zero → IsTightStack hops p zero trail.tight
     → length trail.tight.last.items ≡ nodes → AreChained hops trail.chain.items → length trail.chain.items ≡ length hops → length trail.ends.items ≡ nodes
     → AreEnds hops resetting base trail.ends.items → AreCalm hops p zero trail.firm → Follows source hops resetting p trail
 follows_none source hops resetting base p nodes {trail} depth tight count chain count_chain count_ends ends calm = record {
   depth = omega arith;
-  tight = subst (λ (k : ℕ). Holds hops p k trail.tight) (sym depth) tight;
+  tight = subst (λ (k : ℕ). IsTightStack hops p k trail.tight) (sym depth) tight;
   clear = λ e less closes. absurd (omega arith);
   calm = subst (λ (k : ℕ). AreCalm hops p k trail.firm) (sym depth) calm;
   chain = chain;

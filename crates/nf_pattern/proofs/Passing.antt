@@ -7,8 +7,8 @@ use Rattle.nf_model.specs.Walk.{Hop}
 use Rattle.nf_model.specs.Pattern.{Pattern, HasState}
 use Rattle.nf_pattern.specs.declared.trail.Trail.{Trail}
 use Rattle.nf_pattern.specs.Stated.{AreIdle}
-use Rattle.nf_pattern.specs.Walking.{Holds}
-use Rattle.nf_pattern.specs.Entered.{AreEnds, DoEndsCarry, Keeps}
+use Rattle.nf_pattern.specs.Walking.{IsTightStack}
+use Rattle.nf_pattern.specs.Entered.{AreEnds, DoEndsCarry, KeepsEntered}
 use Rattle.nf_pattern.specs.Successor.{IsAssignment}
 use Rattle.nf_pattern.specs.Trail.{Follows}
 use Rattle.nf_pattern.proofs.Choosing.{some_too}
@@ -24,7 +24,7 @@ abbrev pub moved : Trail → ℕ → Trail
 moved trail n = record { depth = n; tight = trail.tight; firm = trail.firm; chain = trail.chain; ends = trail.ends; lost = trail.lost }
 
 module _ (source : ℕ) (hops : List Hop) (resetting : List Bool) (p : Pattern) where
-  keeps_idle : (ends : List ℕ) (e : ℕ) → DoEndsCarry resetting p ends → slice_get p e ≡ Some None → Keeps source hops resetting p ends e
+  keeps_idle : (ends : List ℕ) (e : ℕ) → DoEndsCarry resetting p ends → slice_get p e ≡ Some None → KeepsEntered source hops resetting p ends e
   keeps_idle ends e carry none v other leads last = ⊎_elim
       (λ (on : Has resetting e). carries_keeps hops resetting p source ends e (inl on) v other leads last)
       (λ (w : (state : State) × HasState p e state). absurd (no_state p e w.0 none w.1))
@@ -52,7 +52,7 @@ module _ (source : ℕ) (hops : List Hop) (resetting : List Bool) (p : Pattern) 
       let next : trail.depth ≡ suc m = omega arith in
       let one = left_back source hops resetting p {trail = trail} {after = moved trail m} follows next
       (back_loose hops p m trail.tight.last.items trail.tight.tails.items trail.tight.heads.items
-      (subst (λ (d : ℕ). Holds hops p d trail.tight) next follows.tight) (no_state p m Tight (idle m (omega arith) (omega arith)))) refl refl refl refl in
+      (subst (λ (d : ℕ). IsTightStack hops p d trail.tight) next follows.tight) (no_state p m Tight (idle m (omega arith) (omega arith)))) refl refl refl refl in
       passed_back (moved trail m) k n one refl (λ e from less. idle e from (omega arith))
 
 -- the ends carry in each assignment

@@ -8,7 +8,7 @@ use Rattle.nf_model.specs.declared.State.{State}
 use Rattle.nf_model.specs.declared.State.TheVariants.{Tight, Full, Zero}
 use Rattle.nf_model.specs.Pattern.{Pattern, rank, changes, IsEarlier}
 use Rattle.nf_thin_laws.proofs.ForcedOrder.{changes_first}
-use Rattle.nf_pattern.specs.Successor.{choices, IsIn, IsAssignment, free, change, fits, first_good, before_all, with_rest, earliest, or_else, may_raise}
+use Rattle.nf_pattern.specs.Successor.{choices, IsIn, IsAssignment, free, change, fits_count, first_good, before_all, with_rest, earliest, or_else, may_raise}
 use Rattle.std.proofs.lemmas.Bool.{and_parts}
 
 -- ---- choices
@@ -77,10 +77,10 @@ change_small b s = go (rank b == rank s)
     go true = omega arith
     go false = omega arith
 
-pub fits_in : (b s : Option State) (n more : ℕ) → change b s ≤ n → n ≤ change b s + more → fits b n more s ≡ true
+pub fits_in : (b s : Option State) (n more : ℕ) → change b s ≤ n → n ≤ change b s + more → fits_count b n more s ≡ true
 fits_in b s n more h k = grind arith
 
-pub fits_out : (b s : Option State) (n more : ℕ) → fits b n more s ≡ true → (change b s ≤ n) × (n ≤ change b s + more)
+pub fits_out : (b s : Option State) (n more : ℕ) → fits_count b n more s ≡ true → (change b s ≤ n) × (n ≤ change b s + more)
 fits_out b s n more e = grind arith
 
 pub changes_few : (base : Pattern) (unbounded : List Bool) (states : Pattern) → IsAssignment base unbounded states → changes base states ≤ free base
@@ -114,11 +114,11 @@ rest_given (Some s) rest q e = go (rest s) refl e
 -- ---- the earliest assignment
 module _ (b : Option State) (u : Bool) (base : Pattern) (us : List Bool) where
   parts : (n : ℕ) (q : Pattern) → earliest (b ∷ base) (u ∷ us) n ≡ Some q
-      → (s : Option State) × (states : Pattern) × (first_good (fits b n (free base)) (choices b u) ≡ Some s) × (earliest base us (n - change b s) ≡ Some states) × (q ≡ s ∷ states)
-  parts n q e = rest_given (first_good (fits b n (free base)) (choices b u)) (λ s. earliest base us (n - change b s)) q e
+      → (s : Option State) × (states : Pattern) × (first_good (fits_count b n (free base)) (choices b u) ≡ Some s) × (earliest base us (n - change b s) ≡ Some states) × (q ≡ s ∷ states)
+  parts n q e = rest_given (first_good (fits_count b n (free base)) (choices b u)) (λ s. earliest base us (n - change b s)) q e
 
   pub within : (n : ℕ) (s : Option State) (states : Pattern) → IsAssignment base us states → changes (b ∷ base) (s ∷ states) ≡ n
-      → (fits b n (free base) s ≡ true) × (changes base states ≡ n - change b s)
+      → (fits_count b n (free base) s ≡ true) × (changes base states ≡ n - change b s)
   within n s states h e =
       let few = changes_few base us states h in
       let first = changes_first b s base states in
@@ -141,7 +141,7 @@ earliest_is [] (u ∷ us) n q v e = absurd v
 earliest_is (b ∷ base) [] n q v e = absurd v
 earliest_is (b ∷ base) (u ∷ us) n q v e =
     let p = parts b u base us n q e in
-    let good = good_some (fits b n (free base)) (choices b u) p.0 p.2 in
+    let good = good_some (fits_count b n (free base)) (choices b u) p.0 p.2 in
     let rest = earliest_is base us (n - change b p.0) p.1 v.1 p.3 in
     let fit = fits_out b p.0 n (free base) good.1 in
     let first = changes_first b p.0 base p.1 in
@@ -161,7 +161,7 @@ earliest_first (b ∷ base) (u ∷ us) n q (t ∷ r) e h c before =
     let p = parts b u base us n q e in
     let w = within b u base us n t r h.1 c in
     go p.0 p.1 (subst (λ (x : Pattern). IsEarlier (t ∷ r) x) p.4 before)
-    (compared (fits b n (free base)) (choices b u) p.0 t (choices_ascend b u) p.2 h.0 w.0)
+    (compared (fits_count b n (free base)) (choices b u) p.0 t (choices_ascend b u) p.2 h.0 w.0)
     (λ same k. earliest_first base us (n - change b p.0) p.1 r p.3 h.1 (w.1 ∙ ap (λ (x : Option State). n - change b x) same) k)
   where
     go : (s : Option State) (states : Pattern) → IsEarlier (t ∷ r) (s ∷ states) → (t ≡ s) ⊎ (rank s < rank t) → (t ≡ s → IsEarlier r states → ⊥) → ⊥
@@ -195,7 +195,7 @@ no_change (Some Full) = refl
 no_change (Some Zero) = refl
 
 pub good_choice : (b : Option State) (u : Bool) (base : Pattern) (n : ℕ) → IsIn (choices b u) b → n ≤ free (b ∷ base)
-    → (t : Option State) × IsIn (choices b u) t × (fits b n (free base) t ≡ true)
+    → (t : Option State) × IsIn (choices b u) t × (fits_count b n (free base) t ≡ true)
 good_choice None u base n h k = (None, h, fits_in None None n (free base) (omega arith) (omega arith))
 good_choice (Some b) u base n h k = ⊎_elim
     (λ (w : (leb n (free base) ≡ true) × (n ≤ free base)). let z = no_change (Some b) in
@@ -209,13 +209,13 @@ pub earliest_exists : (base : Pattern) (us : List Bool) (n : ℕ) → IsAssignme
 earliest_exists [] us n v k e = not_empty_at n (eqb n 0) refl e (omega arith)
 earliest_exists (b ∷ base) [] n v k e = absurd v
 earliest_exists (b ∷ base) (u ∷ us) n v k e = ⊎_elim
-    (λ (w : first_good (fits b n (free base)) (choices b u) ≡ None). let g = good_choice b u base n v.0 k in good_none (fits b n (free base)) (choices b u) g.0 w g.1 g.2)
-    (λ (w : (s : Option State) × (first_good (fits b n (free base)) (choices b u) ≡ Some s) × (earliest base us (n - change b s) ≡ None)).
-    let good = good_some (fits b n (free base)) (choices b u) w.0 w.1 in
+    (λ (w : first_good (fits_count b n (free base)) (choices b u) ≡ None). let g = good_choice b u base n v.0 k in good_none (fits_count b n (free base)) (choices b u) g.0 w g.1 g.2)
+    (λ (w : (s : Option State) × (first_good (fits_count b n (free base)) (choices b u) ≡ Some s) × (earliest base us (n - change b s) ≡ None)).
+    let good = good_some (fits_count b n (free base)) (choices b u) w.0 w.1 in
     let fit = fits_out b w.0 n (free base) good.1 in
     let le : change b w.0 ≤ n = fit.0 in let few : n ≤ change b w.0 + free base = fit.1 in
     earliest_exists base us (n - change b w.0) v.1 (omega arith) w.2)
-    (rest_none (first_good (fits b n (free base)) (choices b u)) (λ s. earliest base us (n - change b s)) e)
+    (rest_none (first_good (fits_count b n (free base)) (choices b u)) (λ s. earliest base us (n - change b s)) e)
 
 -- ---- the next one with equally many changes
 pub else_given : (x y : Option Pattern) (q : Pattern) → or_else x y ≡ Some q → (x ≡ Some q) ⊎ ((x ≡ None) × (y ≡ Some q))
@@ -236,15 +236,15 @@ before_none a (Some states) e = absurd (cc)
 
 -- A state to which the link may be raised, that is later and fits.
 abbrev pub higher : Option State → Bool → Option State → ℕ → ℕ → Option State → Bool
-higher b z a n more s = may_raise z s && (nat_lt (rank a) (rank s) && fits b n more s)
+higher b z a n more s = may_raise z s && (nat_lt (rank a) (rank s) && fits_count b n more s)
 
-pub higher_in : (b : Option State) (z : Bool) (a s : Option State) (n more : ℕ) → may_raise z s ≡ true → rank a < rank s → fits b n more s ≡ true → higher b z a n more s ≡ true
-higher_in b z a s n more may h k = ap (λ (t : Bool). t && (nat_lt (rank a) (rank s) && fits b n more s)) may ∙ later_in h k
+pub higher_in : (b : Option State) (z : Bool) (a s : Option State) (n more : ℕ) → may_raise z s ≡ true → rank a < rank s → fits_count b n more s ≡ true → higher b z a n more s ≡ true
+higher_in b z a s n more may h k = ap (λ (t : Bool). t && (nat_lt (rank a) (rank s) && fits_count b n more s)) may ∙ later_in h k
   where
-    later_in : rank a < rank s → fits b n more s ≡ true → (nat_lt (rank a) (rank s) && fits b n more s) ≡ true
+    later_in : rank a < rank s → fits_count b n more s ≡ true → (nat_lt (rank a) (rank s) && fits_count b n more s) ≡ true
     later_in h k = grind arith
 
-pub higher_out : (b : Option State) (z : Bool) (a s : Option State) (n more : ℕ) → higher b z a n more s ≡ true → (rank a < rank s) × (fits b n more s ≡ true)
+pub higher_out : (b : Option State) (z : Bool) (a s : Option State) (n more : ℕ) → higher b z a n more s ≡ true → (rank a < rank s) × (fits_count b n more s ≡ true)
 higher_out b z a s n more e =
-    let all = and_parts (may_raise z s) (nat_lt (rank a) (rank s) && fits b n more s) e in
-    let t = and_parts (nat_lt (rank a) (rank s)) (fits b n more s) all.1 in (let l = t.0 in grind arith, t.1)
+    let all = and_parts (may_raise z s) (nat_lt (rank a) (rank s) && fits_count b n more s) e in
+    let t = and_parts (nat_lt (rank a) (rank s)) (fits_count b n more s) all.1 in (let l = t.0 in grind arith, t.1)

@@ -68,8 +68,8 @@ pub record Strands (source : ℕ) (hops : List Hop) (resetting : List Bool) (pat
   pub unentered : EnteredBefore hops resetting pattern (suc e) hop.head → ⊥
 
 -- If link e is the last link that can enter its head, and the head is not the source, some link up to e enters it.
-abbrev pub Keeps : ℕ → List Hop → List Bool → Pattern → List ℕ → ℕ → Type 0
-Keeps source hops resetting pattern ends e = (v : ℕ) → v ≢ source → LeadsTo hops e v → slice_get ends v ≡ Some (suc e)
+abbrev pub KeepsEntered : ℕ → List Hop → List Bool → Pattern → List ℕ → ℕ → Type 0
+KeepsEntered source hops resetting pattern ends e = (v : ℕ) → v ≢ source → LeadsTo hops e v → slice_get ends v ≡ Some (suc e)
     → EnteredBefore hops resetting pattern (suc e) v
 
 -- `lost` says whether no link can enter some node other than the source.

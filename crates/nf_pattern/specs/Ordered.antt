@@ -6,7 +6,7 @@ use Rattle.nf_pattern.specs.Stated.{AreStated}
 use Rattle.nf_pattern.specs.declared.assignments.Order.{Order}
 
 -- The base is an assignment of states to itself, each of its links has a flag of each kind, and the index is that of the base.
-pub record IsOrdered (order : Order) : Type 0 where
+pub record IsStateOrder (order : Order) : Type 0 where
   pub unbounded : length order.unbounded.now ≡ length order.base.now
   pub sole : length order.sole.now ≡ length order.base.now
   pub fewer : length order.base.now < 2 ^ 32
@@ -15,7 +15,7 @@ pub record IsOrdered (order : Order) : Type 0 where
 
 -- The states are an assignment, and its first `same` links may be raised.
 pub record MayRaise (order : Order) (same : ℕ) (states : Pattern) : Type 0 where
-  pub is_order : IsOrdered order
+  pub is_order : IsStateOrder order
   pub within : same ≤ length order.base.now
   pub count : length states ≡ length order.base.now
   pub assigned : IsAssignment order.base.now order.unbounded.now states

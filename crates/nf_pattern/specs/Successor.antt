@@ -32,8 +32,8 @@ abbrev pub change : Option State → Option State → ℕ
 change b s = if rank b == rank s then 0 else 1
 
 -- Exactly n links can differ from the base, given state s here and at most `more` later changes.
-abbrev pub fits : Option State → ℕ → ℕ → Option State → Bool
-fits b n more s = nat_le (change b s) n && nat_le n (change b s + more)
+abbrev pub fits_count : Option State → ℕ → ℕ → Option State → Bool
+fits_count b n more s = nat_le (change b s) n && nat_le n (change b s + more)
 
 abbrev pub first_good : (Option State → Bool) → List (Option State) → Option (Option State)
 first_good good [] = None
@@ -52,7 +52,7 @@ abbrev pub earliest : Pattern → List Bool → ℕ → Option Pattern
 earliest [] unbounded n = if n == 0 then Some [] else None
 earliest (b ∷ base) [] n = None
 earliest (b ∷ base) (u ∷ unbounded) n =
-    with_rest (first_good (fits b n (free base)) (choices b u)) (λ s. earliest base unbounded (n - change b s))
+    with_rest (first_good (fits_count b n (free base)) (choices b u)) (λ s. earliest base unbounded (n - change b s))
 
 abbrev pub or_else : Option Pattern → Option Pattern → Option Pattern
 or_else None other = other
@@ -74,7 +74,7 @@ Spares sole states = ⊥
 -- The earliest assignment with n changes whose first link has a later state than a, to which it may be raised.
 abbrev pub raised : Option State → Bool → Bool → Pattern → List Bool → Option State → ℕ → Option Pattern
 raised b u z base unbounded a n =
-    with_rest (first_good (λ s. may_raise z s && (nat_lt (rank a) (rank s) && fits b n (free base) s)) (choices b u))
+    with_rest (first_good (λ s. may_raise z s && (nat_lt (rank a) (rank s) && fits_count b n (free base) s)) (choices b u))
     (λ s. earliest base unbounded (n - change b s))
 
 -- The same at link e of a list: the new states from link e on, with n changes there.

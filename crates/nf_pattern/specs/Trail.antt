@@ -4,7 +4,7 @@ use Rattle.nf_model.specs.Walk.{Hop}
 use Rattle.nf_model.specs.Pattern.{Pattern}
 use Rattle.nf_pattern.specs.Forest.{NoneCloses}
 use Rattle.nf_pattern.specs.Firm.{AreCalm}
-use Rattle.nf_pattern.specs.Walking.{Holds}
+use Rattle.nf_pattern.specs.Walking.{IsTightStack}
 use Rattle.nf_pattern.specs.Entered.{EnteredBefore, AreChained, LeadsTo, AreEnds, IsLost}
 use Rattle.nf_pattern.specs.Given.{Question}
 use Rattle.nf_pattern.specs.Stated.{AreStated}
@@ -15,7 +15,7 @@ use Rattle.nf_pattern.specs.declared.trail.Trail.{Trail}
 -- entering link is examined is entered. That last link leads to it.
 pub record Follows (source : ℕ) (hops : List Hop) (resetting : List Bool) (pattern : Pattern) (trail : Trail) : Type 0 where
   pub depth : trail.depth ≤ length hops
-  pub tight : Holds hops pattern trail.depth trail.tight
+  pub tight : IsTightStack hops pattern trail.depth trail.tight
   pub clear : NoneCloses hops pattern trail.depth
   pub calm : AreCalm hops pattern trail.depth trail.firm
   pub chain : AreChained hops trail.chain.items

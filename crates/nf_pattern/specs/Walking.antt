@@ -55,8 +55,8 @@ pub record IsWalkable (hops : List Hop) (pattern : Pattern) (n : ℕ) (last tail
   pub heads_are : (e : ℕ) (hop : Hop) → e < n → HasState pattern e Tight → IsHop hops e hop
       → slice_get heads e ≡ Some (last_at (ends_at hops pattern) e hop.head)
 
-abbrev pub Holds : List Hop → Pattern → ℕ → TightLinks → Type 0
-Holds hops pattern n tight = IsWalkable hops pattern n tight.last.items tight.tails.items tight.heads.items
+abbrev pub IsTightStack : List Hop → Pattern → ℕ → TightLinks → Type 0
+IsTightStack hops pattern n tight = IsWalkable hops pattern n tight.last.items tight.tails.items tight.heads.items
 
 -- The next link is the last Tight one at the node before some number, at most n.
 abbrev pub IsPlace : List Hop → Pattern → ℕ → ℕ → Option ℕ → Type 0

@@ -114,7 +114,7 @@ impl<'a> Order<'a> {
     ghost use Rattle.std.specs.Prelude.{◌≡◌, ◌<◌, suc, length, drop, Some, None, MatchOption};
     ghost use Rattle.nf_model.specs.Pattern.{changes as changes_of};
     ghost use Rattle.nf_pattern.specs.Successor.{free, raised_at, RaisesAt, later, next_assignment, IsSameBefore, IsQuiet};
-    ghost use Rattle.nf_pattern.specs.Ordered.{IsOrdered, MayRaise};
+    ghost use Rattle.nf_pattern.specs.Ordered.{IsStateOrder, MayRaise};
 
     // Gives `link` its next state to which it may be raised, such that exactly `changes` links from `link` on can differ from the base.
     // Sets the links after it to the earliest such states, and returns the unchanged suffix. Returns `None`, and changes nothing, if there
@@ -128,7 +128,7 @@ impl<'a> Order<'a> {
     ) -> Option<Quiet>
         requires link { link < length self.now.base.now }
         requires states { length states.old ≡ length self.now.base.now }
-        requires order { IsOrdered self.now }
+        requires order { IsStateOrder self.now }
         requires free { more ≡ free (drop (suc link) self.now.base.now) }
         ensures { MatchOption result ((raised_at self.now.base.now self.now.unbounded.now
             self.now.sole.now states.old link changes ≡ None) × (states.new ≡ states.old))

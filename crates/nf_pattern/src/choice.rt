@@ -1,7 +1,7 @@
 // The choice of one link's state.
 ghost use Rattle.std.specs.Prelude.{◌≡◌, ◌≤◌, ◌&&◌, nat_lt};
 ghost use Rattle.nf_model.specs.Pattern.{rank as rank_of};
-ghost use Rattle.nf_pattern.specs.Successor.{change as change_of, fits as is_fit, choices, first_good, may_raise};
+ghost use Rattle.nf_pattern.specs.Successor.{change as change_of, fits_count as is_fit, choices, first_good, may_raise};
 
 use nf_model::State;
 

@@ -27,7 +27,7 @@ impl Trail {
     ghost use Rattle.nf_model.specs.Pattern.{Pattern as SeenPattern};
     ghost use Rattle.nf_graph.specs.Graph.{AreBelow};
     ghost use Rattle.nf_pattern.specs.Forest.{Closes};
-    ghost use Rattle.nf_pattern.specs.Entered.{AreChained, Strands, Keeps, AreEnds, DoEndsCarry, IsLost};
+    ghost use Rattle.nf_pattern.specs.Entered.{AreChained, Strands, KeepsEntered, AreEnds, DoEndsCarry, IsLost};
     ghost use Rattle.nf_pattern.specs.Stated.{AreStated};
     ghost use Rattle.nf_pattern.specs.Trail.{Follows, IsLeft, IsLeftBy, IsOnWay};
 
@@ -97,7 +97,7 @@ impl Trail {
         requires count { length self.now.chain.items ≡ length hops.now }
         ensures { MatchBool result
             (Strands source hops.now resetting.now states.now self.now.ends.items link)
-            (Keeps source hops.now resetting.now states.now self.now.ends.items link) }
+            (KeepsEntered source hops.now resetting.now states.now self.now.ends.items link) }
     {
         if may_carry(states, resetting, link) {
             return false;

@@ -45,13 +45,13 @@ impl TightLinks {
     ghost use Rattle.nf_graph.specs.Graph.{AreBelow};
     ghost use Rattle.nf_pattern.specs.Forest.{Closes, NoneCloses};
     ghost use Rattle.nf_pattern.specs.Firm.{AreCalm};
-    ghost use Rattle.nf_pattern.specs.Walking.{last_at, ends_at, other_end, Holds, IsPlace, Goes};
+    ghost use Rattle.nf_pattern.specs.Walking.{last_at, ends_at, other_end, IsTightStack, IsPlace, Goes};
 
     // Returns a stack of no links. Fails if an allocation fails.
     pub(crate) fn none(alloc: Global, nodes: u32, hops: &[Hop]) -> Result<TightLinks, AllocError>
         requires { AreBelow nodes hops.now }
         ensures holds { IfOk result
-            (λ tight. (pattern : Pattern) → Holds hops.now pattern 0 tight) }
+            (λ tight. (pattern : Pattern) → IsTightStack hops.now pattern 0 tight) }
         ensures nodes { IfOk result (λ tight. length tight.last.items ≡ nodes) }
     {
         let last = vec![in alloc; None; nodes as usize]?;
@@ -66,7 +66,7 @@ impl TightLinks {
         requires tails { length self.now.tails.items ≡ length hops.now }
         requires heads { length self.now.heads.items ≡ length hops.now }
         ensures node { result.node ≡ other_end hops.now link node }
-        ensures link { (states : Pattern) (depth : ℕ) → Holds hops.now states depth self.now
+        ensures link { (states : Pattern) (depth : ℕ) → IsTightStack hops.now states depth self.now
             → link < depth → HasState states link Tight
             → result.link ≡ last_at (ends_at hops.now states) link (other_end hops.now link node) }
     {
@@ -86,14 +86,14 @@ impl TightLinks {
 
     // Makes one step of a traversal. Returns `None` at its end: at the start node, after all its links.
     fn step(&self, hops: &[Hop], start: NodeId, place: Place) -> Option<Place>
-        requires placed { (states : Pattern) × (depth : ℕ) × Holds hops.now states depth self.now
+        requires placed { (states : Pattern) × (depth : ℕ) × IsTightStack hops.now states depth self.now
             × IsPlace hops.now states depth place.node place.link }
         requires within { place.node < length self.now.last.items }
-        ensures goes { (states : Pattern) (depth : ℕ) → Holds hops.now states depth self.now
+        ensures goes { (states : Pattern) (depth : ℕ) → IsTightStack hops.now states depth self.now
             → IsPlace hops.now states depth place.node place.link
             → Goes hops.now states depth start place result }
         ensures place { IfSome result
-            (λ after. (states : Pattern) (depth : ℕ) → Holds hops.now states depth self.now
+            (λ after. (states : Pattern) (depth : ℕ) → IsTightStack hops.now states depth self.now
             → IsPlace hops.now states depth place.node place.link
             → IsPlace hops.now states depth after.node after.link) }
         ensures within { IfSome result (λ after. after.node < length self.now.last.items) }
@@ -117,7 +117,7 @@ impl TightLinks {
     fn closes(&self, hops: &[Hop], states: &[Option<State>], link: LinkId) -> bool
         requires link { link < length hops.now }
         requires stated { link < length states.now }
-        requires holds { Holds hops.now states.now link self.now }
+        requires holds { IsTightStack hops.now states.now link self.now }
         requires clear { NoneCloses hops.now states.now link }
         ensures { MatchBool result (Closes hops.now states.now link)
             (Closes hops.now states.now link → ⊥) }
@@ -160,9 +160,9 @@ impl TightLinks {
         requires tails { length self.old.tails.items ≡ length hops.now }
         requires heads { length self.old.heads.items ≡ length hops.now }
         requires below { AreBelow (length self.old.last.items) hops.now }
-        ensures holds { (pattern : Pattern) → Holds hops.now pattern link self.old
+        ensures holds { (pattern : Pattern) → IsTightStack hops.now pattern link self.old
             → HasState pattern link Tight
-            → Holds hops.now pattern (suc link) self.new }
+            → IsTightStack hops.now pattern (suc link) self.new }
         ensures nodes { length self.new.last.items ≡ length self.old.last.items }
     {
         let hop = &hops[link.index()];
@@ -182,9 +182,9 @@ impl TightLinks {
     ) -> bool
         requires link { link < length hops.now }
         requires states { length states.now ≡ length hops.now }
-        requires holds { Holds hops.now states.now link self.old }
+        requires holds { IsTightStack hops.now states.now link self.old }
         requires clear { NoneCloses hops.now states.now link }
-        ensures { MatchBool result (Holds hops.now states.now (suc link) self.new
+        ensures { MatchBool result (IsTightStack hops.now states.now (suc link) self.new
             × NoneCloses hops.now states.now (suc link))
             ((self.new ≡ self.old) × Closes hops.now states.now link) }
     {
@@ -209,10 +209,10 @@ impl TightLinks {
     ) -> bool
         requires link { link < length hops.now }
         requires tight { HasState states.now link Tight }
-        requires holds { Holds hops.now states.now link self.old }
+        requires holds { IsTightStack hops.now states.now link self.old }
         requires clear { NoneCloses hops.now states.now link }
         requires calm { AreCalm hops.now states.now link firm.old }
-        ensures entered { MatchBool result (Holds hops.now states.now (suc link) self.new
+        ensures entered { MatchBool result (IsTightStack hops.now states.now (suc link) self.new
             × NoneCloses hops.now states.now (suc link)
             × AreCalm hops.now states.now (suc link) firm.new)
             ((self.new ≡ self.old) × (firm.new ≡ firm.old) × Closes hops.now states.now link) }
@@ -248,8 +248,8 @@ impl TightLinks {
         requires tails { length self.old.tails.items ≡ length hops.now }
         requires heads { length self.old.heads.items ≡ length hops.now }
         requires below { AreBelow (length self.old.last.items) hops.now }
-        ensures holds { (pattern : Pattern) → Holds hops.now pattern (suc link) self.old
-            → Holds hops.now pattern link self.new }
+        ensures holds { (pattern : Pattern) → IsTightStack hops.now pattern (suc link) self.old
+            → IsTightStack hops.now pattern link self.new }
         ensures nodes { length self.new.last.items ≡ length self.old.last.items }
     {
         let hop = &hops[link.index()];

@@ -19,9 +19,9 @@ use Rattle.nf_phase_def.specs.Open.{Continues, Steps, continues, begins, RunsOn,
 use Rattle.nf_phase_laws.proofs.RunsOn.{closed-at_start}
 use Rattle.nf_phase_laws.proofs.Sequence.{sequence_ends}
 use Rattle.nf_phase_laws.proofs.ShortRun.{run_keeps}
-use Rattle.nf_curve.specs.Flows.{flow_of as flow_in}
+use Rattle.nf_curve.specs.Flows.{seen_flow as flow_in}
 use Rattle.nf_phase.specs.declared.solution.Solution.{Solution}
-use Rattle.nf_phase.specs.Solution.{IsRunSolution, IsFinished, report_in}
+use Rattle.nf_phase.specs.Solution.{IsRunSolution, IsFinished, solution_report}
 use Rattle.nf_phase_def.specs.Restoring.{EndsAtItsLabels}
 use Rattle.nf_phase.specs.Stepping.{Reaches}
 use Rattle.nf_phase.proofs.Reached.{Stands, Stands-reached}
@@ -89,9 +89,9 @@ module _ (passes : Passing) (net : Network) (good : IsNetwork net) (bounds : Bou
 
     pub finished : passes ≡ passes_Q → {E : Type 0} (result : Result Solution E)
         → IfOk result (λ s. flow_in s.flow ≡ flow_of last) → IfOk result (λ s. s.phases ≡ last.made) → IfOk result (λ s. s.last ≡ last.last) → IfOk result (λ s. s.stopped ≡ stop)
-        → IfOk result (λ s. IsFinished net bounds first s.phases (report_in bounds.horizon s))
+        → IfOk result (λ s. IsFinished net bounds first s.phases (solution_report bounds.horizon s))
     finished bound (Ok s) flow phases states stops =
-        finished_of bound s.phases (report_in bounds.horizon s) phases (λ i. record { horizon = bounds.horizon; flow = flow i; stop = stops i; last = states i })
+        finished_of bound s.phases (solution_report bounds.horizon s) phases (λ i. record { horizon = bounds.horizon; flow = flow i; stop = stops i; last = states i })
     finished bound (Err x) flow phases states stops = tt
 
 -- ---- from departure 0 on
@@ -127,7 +127,7 @@ module _ (net : Network) (good : IsNetwork net) (bounds : Bounds) where
         curves_end = f.curves_end;
       }
 
-  pub solved : (first : Standing) → IsStart net first → {E : Type 0} (result : Result Solution E) → IfOk result (λ s. IsFinished net bounds first s.phases (report_in bounds.horizon s))
-      → IfOk result (λ s. IsRunSolution net bounds s.phases (report_in bounds.horizon s))
-  solved first start (Ok s) f = solution_of first start s.phases (report_in bounds.horizon s) f
+  pub solved : (first : Standing) → IsStart net first → {E : Type 0} (result : Result Solution E) → IfOk result (λ s. IsFinished net bounds first s.phases (solution_report bounds.horizon s))
+      → IfOk result (λ s. IsRunSolution net bounds s.phases (solution_report bounds.horizon s))
+  solved first start (Ok s) f = solution_of first start s.phases (solution_report bounds.horizon s) f
   solved first start (Err x) f = tt

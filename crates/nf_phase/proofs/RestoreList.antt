@@ -15,7 +15,7 @@ use Rattle.nf_thin_def.specs.ReportCurves.{GrowingCurve, LinkCurves}
 use Rattle.nf_thin_def.specs.PhaseRun.{Standing}
 use Rattle.nf_phase_def.specs.Restoring.{value_at_end, link_curves_of, growing, restore_list}
 use Rattle.nf_curve.specs.Points.{Grown}
-use Rattle.nf_curve.specs.Flows.{trace_of, flow_of as flow_in}
+use Rattle.nf_curve.specs.Flows.{seen_trace, seen_flow as flow_in}
 use Rattle.nf_curve.specs.declared.flow.Flow as code
 use Rattle.nf_curve.proofs.Exits.{after_err, after_ok, err_before, ok_before}
 use Rattle.nf_phase_curves.specs.Restoring.{of_links}
@@ -60,9 +60,9 @@ ends_same (g ∷ curves) = ap (λ (l : List ℚ). value_at_end g.points ∷ l) (
 
 pub flow_counts : (net : Network) (f : code.Flow) → Equilibrium net (flow_in f) → (length f.outflows.items ≡ length f.inflows.items) × (length f.queues.items ≡ length f.inflows.items)
 flow_counts net f is =
-    let inflows : length f.inflows.items ≡ length net.links = sym (length-map (map trace_of f.inflows.items) (λ (t : Trace). t.points)
-    ∙ length-map f.inflows.items trace_of) ∙ is.shape.inflows.count in
-    let outflows : length f.outflows.items ≡ length net.links = sym (length-map (map trace_of f.outflows.items) (λ (t : Trace). t.points)
-    ∙ length-map f.outflows.items trace_of) ∙ is.shape.outflows.count in
+    let inflows : length f.inflows.items ≡ length net.links = sym (length-map (map seen_trace f.inflows.items) (λ (t : Trace). t.points)
+    ∙ length-map f.inflows.items seen_trace) ∙ is.shape.inflows.count in
+    let outflows : length f.outflows.items ≡ length net.links = sym (length-map (map seen_trace f.outflows.items) (λ (t : Trace). t.points)
+    ∙ length-map f.outflows.items seen_trace) ∙ is.shape.outflows.count in
     let queues : length f.queues.items ≡ length net.links = sym (length-map f.queues.items (λ (g : Grown). g.points)) ∙ is.shape.queues.count in
     (outflows ∙ sym inflows, queues ∙ sym inflows)

@@ -14,7 +14,7 @@ use Rattle.nf_model.specs.Pattern.{Pattern}
 use Rattle.nf_model.specs.Equilibrium.{Equilibrium}
 use Rattle.nf_thin_def.specs.ReportCurves.{GrowingCurve, LinkCurves, label_curves_after, link_curves_after}
 use Rattle.nf_thin_def.specs.PhaseRun.{Standing, Goes, flow_of}
-use Rattle.nf_thin_def.specs.Ends.{end_of, EndsAtLabels}
+use Rattle.nf_thin_def.specs.Ends.{time_of_last, EndsAtLabels}
 use Rattle.nf_thin_laws.proofs.Ending.{PhaseParts, phase_parts}
 use Rattle.nf_phase_laws.proofs.Length.{IsPhaseLength-some}
 use Rattle.nf_thin_laws.proofs.Agree.{IsPhase-unique}
@@ -128,8 +128,8 @@ module _ (passes : Passing) (net : Network) (good : IsNetwork net) (horizon : �
   later : (a t : ℚ) → 0ℚ <ℚ t → a <ℚ a +ℚ t
   later a t k = linear_lt (a ∷ t ∷ []) (lt k ∷ []) (search reading_of depth 12) tt
 
-  pub labels_later : (reached : ℚ) → reached ≡ s.time +ℚ phase.length → (v : ℕ) (curve : GrowingCurve) → slice_get s.label_curves v ≡ Some curve → end_of curve.points <ℚ reached
-  labels_later reached e v curve at = subst (λ (x : ℚ). end_of curve.points <ℚ x) (sym e)
+  pub labels_later : (reached : ℚ) → reached ≡ s.time +ℚ phase.length → (v : ℕ) (curve : GrowingCurve) → slice_get s.label_curves v ≡ Some curve → time_of_last curve.points <ℚ reached
+  labels_later reached e v curve at = subst (λ (x : ℚ). time_of_last curve.points <ℚ x) (sym e)
       (subst (λ (x : ℚ). x <ℚ s.time +ℚ phase.length) (sym ((ends_at net good s here.well).labels v curve at)) (later s.time phase.length some))
 
   pub links_later : AllLinksEndBefore net phase.labels.items s.link_curves phase.steps.items

@@ -8,7 +8,7 @@ use Rattle.nf_model.specs.Network.{Link, Network, IsNetwork, IsLink}
 use Rattle.nf_model.specs.Equilibrium.{label}
 use Rattle.nf_thin_def.specs.ReportCurves.{LinkCurves}
 use Rattle.nf_thin_def.specs.PhaseRun.{Standing, flow_of}
-use Rattle.nf_thin_def.specs.Ends.{end_of, EndsAtLabels}
+use Rattle.nf_thin_def.specs.Ends.{time_of_last, EndsAtLabels}
 use Rattle.nf_phase_laws.proofs.WellRun.{label_points, inflow_points, outflow_points, queue_points}
 use Rattle.nf_rational_laws.proofs.Entries.{entry}
 use Rattle.nf_phase_def.specs.Restoring.{EndsAtItsLabels}
@@ -32,8 +32,8 @@ module _ (passes : Passing) (net : Network) (good : IsNetwork net) (s : Standing
 
   pub ends_told : EndsAtItsLabels net (flow_of s)
   ends_told = record {
-    labels = λ v h. (let c = entry s.label_curves v (let n = stands.well.label_count in omega arith) in ap end_of (label_points s v c.0 c.1) ∙ ends.labels v c.0 c.1);
-    inflows = λ e link p. (let c = curves_at e link p in ap end_of (inflow_points s e c.0 c.1) ∙ ends.inflows e link c.0 p c.1 ∙ kept link.tail (good.tails e link p));
-    outflows = λ e link p. (let c = curves_at e link p in ap end_of (outflow_points s e c.0 c.1) ∙ ends.outflows e link c.0 p c.1 ∙ kept link.head (good.heads e link p));
-    queues = λ e link p. (let c = curves_at e link p in ap end_of (queue_points s e c.0 c.1) ∙ ends.queues e link c.0 p c.1 ∙ kept link.tail (good.tails e link p));
+    labels = λ v h. (let c = entry s.label_curves v (let n = stands.well.label_count in omega arith) in ap time_of_last (label_points s v c.0 c.1) ∙ ends.labels v c.0 c.1);
+    inflows = λ e link p. (let c = curves_at e link p in ap time_of_last (inflow_points s e c.0 c.1) ∙ ends.inflows e link c.0 p c.1 ∙ kept link.tail (good.tails e link p));
+    outflows = λ e link p. (let c = curves_at e link p in ap time_of_last (outflow_points s e c.0 c.1) ∙ ends.outflows e link c.0 p c.1 ∙ kept link.head (good.heads e link p));
+    queues = λ e link p. (let c = curves_at e link p in ap time_of_last (queue_points s e c.0 c.1) ∙ ends.queues e link c.0 p c.1 ∙ kept link.tail (good.tails e link p));
   }

@@ -10,7 +10,7 @@ use Rattle.nf_net_def.specs.Report.{Report, IsWellFormed}
 use Rattle.nf_thin_def.specs.PhaseRun.{Standing, Bounds, IsRunReport, IsShortFlow, report_of}
 use Rattle.nf_phase_def.specs.Open.{RunsOn}
 use Rattle.nf_phase_laws.specs.RunLaws.{KeepsLabels, reached_by}
-use Rattle.nf_curve.specs.Flows.{flow_of}
+use Rattle.nf_curve.specs.Flows.{seen_flow}
 use Rattle.nf_phase_def.specs.Restoring.{EndsAtItsLabels}
 use Rattle.nf_thin.specs.declared.fault.SearchFault.TheVariants as SearchFault
 use Rattle.nf_phase.specs.declared.fault.StepFault.{StepFault}
@@ -35,8 +35,8 @@ abbrev pub stop_after : Bool → ℕ → Option (Cause ℚ)
 stop_after below made = if below then Some (Cause.Phases made) else None
 
 -- The report of a solution.
-abbrev pub report_in : ℚ → Solution → Report
-report_in horizon s = record { horizon = horizon; flow = flow_of s.flow; stop = s.stopped; last = s.last }
+abbrev pub solution_report : ℚ → Solution → Report
+solution_report horizon s = record { horizon = horizon; flow = seen_flow s.flow; stop = s.stopped; last = s.last }
 
 -- Every phase sequence to the horizon with as many phases ends with the departure and the labels reached.
 abbrev pub EndsAll : Network → ℚ → Standing → Type 0

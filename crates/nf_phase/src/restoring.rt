@@ -6,7 +6,7 @@ ghost use Rattle.nf_frac_def.specs.Checked.{at_part, Gives};
 ghost use Rattle.nf_model.specs.Equilibrium.{Equilibrium};
 ghost use Rattle.nf_thin_def.specs.PhaseRun.{IsShortFlow, flow_of};
 ghost use Rattle.nf_phase_def.specs.Restoring.{value_at_end, restore_list};
-ghost use Rattle.nf_curve.specs.Flows.{flow_of as flow_in};
+ghost use Rattle.nf_curve.specs.Flows.{seen_flow as flow_in};
 ghost use Rattle.nf_phase_def.specs.Restoring.{EndsAtItsLabels, NoneFull};
 ghost use Rattle.nf_phase.specs.Stepping.{IsRunState};
 

@@ -6,7 +6,7 @@ ghost use Rattle.nf_thin_def.specs.PhaseRun.{IsStart, Goes, flow_of};
 ghost use Rattle.nf_phase_def.specs.Open.{Continues, Steps};
 ghost use Rattle.nf_phase_def.specs.ToEnd.{GoesToEnd, GoesForever};
 ghost use Rattle.nf_phase_laws.specs.RunLaws.{reached_by};
-ghost use Rattle.nf_curve.specs.Flows.{flow_of as flow_in};
+ghost use Rattle.nf_curve.specs.Flows.{seen_flow as flow_in};
 ghost use Rattle.nf_phase.specs.Stepping.{Reaches, IsRunState, IsCause, IsCauseOn, LeadsOnlyTo, tail_by};
 
 use crate::fault::StepFault;

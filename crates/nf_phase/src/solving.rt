@@ -6,9 +6,9 @@ ghost use Rattle.nf_frac_def.specs.Passing.{passes_Q};
 ghost use Rattle.nf_net_def.specs.WellNamed.{IsNamed};
 ghost use Rattle.nf_thin_def.specs.PhaseRun.{flow_of};
 ghost use Rattle.nf_phase_def.specs.Open.{RunsOn};
-ghost use Rattle.nf_curve.specs.Flows.{flow_of as flow_in};
+ghost use Rattle.nf_curve.specs.Flows.{seen_flow as flow_in};
 ghost use Rattle.nf_phase.specs.Stepping.{Reaches};
-ghost use Rattle.nf_phase.specs.Solution.{IsRunSolution, IsFinished, bounds_of, report_in, stop_after};
+ghost use Rattle.nf_phase.specs.Solution.{IsRunSolution, IsFinished, bounds_of, solution_report, stop_after};
 
 use crate::run::Run;
 use crate::solution::{Budgets, Solution};
@@ -103,7 +103,7 @@ impl Run {
         requires fresh { self.made ≡ 0 }
         requires horizon { self.time ≤ℚ horizon }
         ensures finished { IfOk result (λ s. IsFinished net.now.net
-            (bounds_of horizon budgets) self s.phases (report_in horizon s)) }
+            (bounds_of horizon budgets) self s.phases (solution_report horizon s)) }
     {
         // Proof: the network is that of an accepted file.
         net.recall();
@@ -125,7 +125,7 @@ pub fn solve(
 ) -> Result<Solution, AllocError>
     requires { 0ℚ ≤ℚ horizon }
     ensures solution { IfOk result
-        (λ s. IsRunSolution net.now.net (bounds_of horizon budgets) s.phases (report_in horizon s)) }
+        (λ s. IsRunSolution net.now.net (bounds_of horizon budgets) s.phases (solution_report horizon s)) }
 {
     // Proof: the network is that of an accepted file.
     net.recall();

@@ -8,14 +8,14 @@ use Rattle.nf_rational.specs.Operations.{0ℚ}
 use Rattle.nf_rational.specs.Order.{◌<ℚ◌}
 use Rattle.nf_model.specs.Curve.{Point}
 use Rattle.nf_model.specs.Entries.{number_at}
-use Rattle.nf_thin_def.specs.Ends.{end_of}
+use Rattle.nf_thin_def.specs.Ends.{time_of_last}
 
 pub number_read : (numbers : List ℚ) (v i : ℕ) (number : ℚ) → i ≡ v → v < length numbers → number ≡ get_or numbers i number → number_at numbers v ≡ number
 number_read numbers v i number same inside is =
     ap (λ (j : ℕ). number_at numbers j) (sym same)
     ∙ ap (λ (o : Option ℚ). unwrap_or o 0ℚ) (slice_get_read numbers (length numbers) i number refl (subst (λ (j : ℕ). j < length numbers) (sym same) inside) is)
 
-pub ends_before : {A : Type 0} (step : Option A) (points : List Point) (time label : ℚ) → time ≡ label → ((x : A) → step ≡ Some x → end_of points <ℚ time)
-    → IsSome step → end_of points <ℚ label
-ends_before (Some x) points time label e later some = subst (λ (t : ℚ). end_of points <ℚ t) e (later x refl)
+pub ends_before : {A : Type 0} (step : Option A) (points : List Point) (time label : ℚ) → time ≡ label → ((x : A) → step ≡ Some x → time_of_last points <ℚ time)
+    → IsSome step → time_of_last points <ℚ label
+ends_before (Some x) points time label e later some = subst (λ (t : ℚ). time_of_last points <ℚ t) e (later x refl)
 ends_before None points time label e later some = absurd (false≢true some)

@@ -11,7 +11,7 @@ use Rattle.nf_rational_laws.proofs.Tests.{lt_ℚ_cases}
 use Rattle.nf_model.specs.Curve.{Point}
 use Rattle.nf_model.specs.Equilibrium.{Trace}
 use Rattle.nf_thin_def.specs.ReportCurves.{GrowingCurve, keeps_slope, with_point, with_rate, curve_with, trace_with}
-use Rattle.nf_thin_def.specs.Ends.{end_of}
+use Rattle.nf_thin_def.specs.Ends.{time_of_last}
 use Rattle.nf_phase_laws.proofs.Points.{end-append}
 use Rattle.nf_rational_laws.proofs.SignTests.{same_of_test}
 use Rattle.nf_curve.specs.Points.{last_time}
@@ -21,7 +21,7 @@ use Rattle.nf_rational_laws.proofs.Entries.{last-append}
 use Rattle.nf_rational_laws.proofs.Chains.{<ℚ_trans}
 
 -- ---- the last point
-last_time-end : (points : List Point) → last_time points ≡ end_of points
+last_time-end : (points : List Point) → last_time points ≡ time_of_last points
 last_time-end [] = refl
 last_time-end (p ∷ []) = refl
 last_time-end (p ∷ q ∷ rest) = last_time-end (q ∷ rest)
@@ -43,7 +43,7 @@ value_at_last points p h =
 
 -- ---- a new end
 
-pub still_after : (kept : Bool) (corners : List Point) (end : Option End) (time : ℚ) → IsAfter corners end → end_of (points_to corners end) <ℚ time
+pub still_after : (kept : Bool) (corners : List Point) (end : Option End) (time : ℚ) → IsAfter corners end → time_of_last (points_to corners end) <ℚ time
     → last_time (corners_by kept corners end) <ℚ time
 still_after true corners None time after later = subst (λ (t : ℚ). t <ℚ time) (sym (last_time-end corners)) later
 still_after true corners (Some e) time after later = <ℚ_trans _ e.time time after (subst (λ (t : ℚ). t <ℚ time) (end-append corners (e.time, e.value)) later)

@@ -10,7 +10,7 @@ use Rattle.nf_model.specs.Curve.{Point}
 use Rattle.nf_model.specs.Equilibrium.{Trace}
 use Rattle.nf_model.specs.Codes.{coded_points}
 use Rattle.nf_thin_def.specs.ReportCurves.{GrowingCurve, LinkCurves}
-use Rattle.nf_thin_def.specs.Ends.{end_of}
+use Rattle.nf_thin_def.specs.Ends.{time_of_last}
 use Rattle.nf_curve.specs.Points.{last_time}
 use Rattle.nf_phase_curves.specs.declared.growing.End.{End}
 
@@ -64,7 +64,7 @@ rates_by false rates last = rates ++ option_to_list last
 
 -- The curves end before `time`.
 abbrev pub AllEndBefore : ℚ → List GrowingCurve → Type 0
-AllEndBefore time curves = (v : ℕ) (curve : GrowingCurve) → slice_get curves v ≡ Some curve → end_of curve.points <ℚ time
+AllEndBefore time curves = (v : ℕ) (curve : GrowingCurve) → slice_get curves v ≡ Some curve → time_of_last curve.points <ℚ time
 
 -- ---- injective codes of these values
 abbrev pub coded_roomy : {A : Type 0} → Coded A → Coded (Roomy A)

@@ -6,13 +6,13 @@ use Rattle.nf_model.specs.Entries.{number_at}
 use Rattle.nf_model.specs.Network.{Link, Network, IsLink}
 use Rattle.nf_thin_def.specs.CurveList.{QueueStep, LinkStep}
 use Rattle.nf_thin_def.specs.ReportCurves.{LinkCurves}
-use Rattle.nf_thin_def.specs.Ends.{end_of}
+use Rattle.nf_thin_def.specs.Ends.{time_of_last}
 
 -- Each curve of the link that the step extends ends before the label to which the step extends it.
 pub record LinkEndsBefore (labels : List ℚ) (link : Link) (curves : LinkCurves) (step : LinkStep) : Type 0 where
-  pub inflow : (rate : ℚ) → step.inflow_rate ≡ Some rate → end_of curves.inflow.points <ℚ number_at labels link.tail
-  pub outflow : (rate : ℚ) → step.outflow_rate ≡ Some rate → end_of curves.outflow.points <ℚ number_at labels link.head
-  pub queue : (queue : QueueStep) → step.queue ≡ Some queue → end_of curves.queue.points <ℚ number_at labels link.tail
+  pub inflow : (rate : ℚ) → step.inflow_rate ≡ Some rate → time_of_last curves.inflow.points <ℚ number_at labels link.tail
+  pub outflow : (rate : ℚ) → step.outflow_rate ≡ Some rate → time_of_last curves.outflow.points <ℚ number_at labels link.head
+  pub queue : (queue : QueueStep) → step.queue ≡ Some queue → time_of_last curves.queue.points <ℚ number_at labels link.tail
 
 -- `LinkEndsBefore` holds for every link.
 abbrev pub AllLinksEndBefore : Network → List ℚ → List LinkCurves → List LinkStep → Type 0

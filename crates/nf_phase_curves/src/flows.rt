@@ -1,6 +1,6 @@
 // The flow over time by growing curves.
 ghost use Rattle.std.specs.Prelude.{◌≡◌, [], map, IfOk, OnOk};
-ghost use Rattle.nf_curve.specs.Flows.{trace_of, flow_of};
+ghost use Rattle.nf_curve.specs.Flows.{seen_trace, seen_flow};
 ghost use Rattle.nf_phase_curves.specs.Growing.{all_grown};
 ghost use Rattle.nf_phase_curves.specs.Flows.{with_link, flow_so_far};
 
@@ -36,7 +36,7 @@ fn copy_labels(alloc: Global, growing: &[GrowingCurve]) -> Result<Vec<Curve>, Al
 
 // Returns the flow up to the departure `reached` with these label curves, before the first link.
 fn without_links(alloc: Global, reached: Q, labels: Vec<Curve>) -> Flow
-    ensures { flow_of result ≡ record {
+    ensures { seen_flow result ≡ record {
       reached = reached;
       labels = map (λ c. c.points) labels.items;
       inflows = [];
@@ -56,8 +56,8 @@ fn without_links(alloc: Global, reached: Q, labels: Vec<Curve>) -> Flow
 // Appends the flow of the next link. Fails if an allocation fails.
 fn add_link(flow: &mut Flow, link: LinkFlow) -> Result<(), AllocError>
     ensures { OnOk result
-        (flow_of flow.new ≡ with_link (flow_of flow.old) (trace_of link.inflow)
-        (trace_of link.outflow) link.queue.points) }
+        (seen_flow flow.new ≡ with_link (seen_flow flow.old) (seen_trace link.inflow)
+        (seen_trace link.outflow) link.queue.points) }
 {
     let LinkFlow {
         inflow,
@@ -77,7 +77,7 @@ pub fn finish_flow(
     labels: Vec<GrowingCurve>,
     links: Vec<LinkCurves>,
 ) -> Result<Flow, AllocError>
-    ensures { IfOk result (λ flow. flow_of flow
+    ensures { IfOk result (λ flow. seen_flow flow
         ≡ flow_so_far reached (all_grown labels.items) (all_grown links.items)) }
 {
     let labels = finish_labels(alloc, labels)?;
@@ -97,7 +97,7 @@ pub fn copy_flow(
     links: &[LinkCurves],
 ) -> Result<Flow, AllocError>
     ensures { IfOk result
-        (λ flow. flow_of flow ≡ flow_so_far reached (all_grown labels.now) (all_grown links.now)) }
+        (λ flow. seen_flow flow ≡ flow_so_far reached (all_grown labels.now) (all_grown links.now)) }
 {
     let labels = copy_labels(alloc, labels)?;
     let mut flow = without_links(alloc, reached, labels);

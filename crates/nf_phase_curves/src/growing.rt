@@ -5,8 +5,8 @@ ghost use Rattle.nf_frac_def.specs.declared.Part.TheVariants.{Curve as CurvePart
 ghost use Rattle.nf_frac_def.specs.Passing.{passes_Q};
 ghost use Rattle.nf_frac_def.specs.Checked.{at_part, Gives};
 ghost use Rattle.nf_rational.specs.Signs.{is_positive};
-ghost use Rattle.nf_thin_def.specs.Ends.{end_of};
-ghost use Rattle.nf_thin_def.specs.ReportCurves.{keeps_slope as keeps_slope_by, curve_with, queue_after};
+ghost use Rattle.nf_thin_def.specs.Ends.{time_of_last};
+ghost use Rattle.nf_thin_def.specs.ReportCurves.{keeps_slope as keeps_slope_by, curve_with, queue_curve_after};
 ghost use Rattle.nf_thin_def.specs.ReportCurves.{first_label_curve, first_queue as queue_at_start};
 ghost use Rattle.nf_phase_def.specs.Restoring.{growing as growing_by};
 ghost use Rattle.nf_phase_curves.specs.Growing.{HasReserve, IsAfter, corners_by, points_to, end_value};
@@ -197,7 +197,7 @@ impl GrowingCurve {
     /// Extends the curve to a later point, with this slope. Memory for a corner must be reserved.
     pub(crate) fn extend(&mut self, time: Q, value: Q, slope: Q)
         requires room { HasReserve self.old }
-        requires later { end_of self.old.grown.points <ℚ time }
+        requires later { time_of_last self.old.grown.points <ℚ time }
         ensures { self.new.grown ≡ curve_with self.old.grown (time, value) slope }
     {
         let kept = self.keeps_slope(slope);
@@ -209,8 +209,8 @@ impl GrowingCurve {
     /// unchanged.
     pub(crate) fn extend_or_hold(&mut self, label: Q, step: Option<QueueStep>)
         requires room { HasReserve self.old }
-        requires later { IsSome step → end_of self.old.grown.points <ℚ label }
-        ensures { self.new.grown ≡ queue_after self.old.grown label step }
+        requires later { IsSome step → time_of_last self.old.grown.points <ℚ label }
+        ensures { self.new.grown ≡ queue_curve_after self.old.grown label step }
     {
         if let Some(queue) = step {
             self.extend(label, queue.size, queue.slope);

@@ -5,10 +5,10 @@ ghost use Rattle.nf_frac_def.specs.declared.Part.TheVariants.{Curve as CurvePart
 ghost use Rattle.nf_frac_def.specs.Passing.{passes_Q};
 ghost use Rattle.nf_frac_def.specs.Checked.{at_part, Gives};
 ghost use Rattle.nf_model.specs.Curve.{AreSlopes};
-ghost use Rattle.nf_curve.specs.Flows.{trace_of};
+ghost use Rattle.nf_curve.specs.Flows.{seen_trace};
 ghost use Rattle.nf_rational.specs.Signs.{is_positive};
-ghost use Rattle.nf_thin_def.specs.Ends.{end_of};
-ghost use Rattle.nf_thin_def.specs.ReportCurves.{trace_after, queue_after, first_trace, first_queue, amount_so_far};
+ghost use Rattle.nf_thin_def.specs.Ends.{time_of_last};
+ghost use Rattle.nf_thin_def.specs.ReportCurves.{trace_after, queue_curve_after, first_trace, first_queue, amount_so_far};
 ghost use Rattle.nf_phase_curves.specs.Growing.{HasReserve};
 ghost use Rattle.nf_phase_curves.specs.Restoring.{of_link};
 
@@ -83,11 +83,11 @@ impl LinkCurves {
         outflow: &Trace,
         queue: &Curve,
     ) -> Result<LinkCurves, Halt<Q>>
-        requires inflow { AreSlopes (trace_of inflow.now).points (trace_of inflow.now).rates }
-        requires outflow { AreSlopes (trace_of outflow.now).points (trace_of outflow.now).rates }
+        requires inflow { AreSlopes (seen_trace inflow.now).points (seen_trace inflow.now).rates }
+        requires outflow { AreSlopes (seen_trace outflow.now).points (seen_trace outflow.now).rates }
         ensures { Gives (λ c. c.grown) (λ q. q) result
             (at_part CurvePart
-            (of_link passes_Q (trace_of inflow.now) (trace_of outflow.now) queue.now.points)) }
+            (of_link passes_Q (seen_trace inflow.now) (seen_trace outflow.now) queue.now.points)) }
     {
         let inflow = GrowingTrace::of(alloc, inflow)?;
         let outflow = GrowingTrace::of(alloc, outflow)?;
@@ -122,16 +122,16 @@ impl LinkCurves {
     pub(crate) fn extend(&mut self, tail_label: Q, head_label: Q, step: &LinkStep)
         requires room { HasReserve self.old }
         requires inflow { IsSome step.now.inflow_rate
-            → end_of self.old.grown.inflow.points <ℚ tail_label }
+            → time_of_last self.old.grown.inflow.points <ℚ tail_label }
         requires outflow { IsSome step.now.outflow_rate
-            → end_of self.old.grown.outflow.points <ℚ head_label }
-        requires queue { IsSome step.now.queue → end_of self.old.grown.queue.points <ℚ tail_label }
+            → time_of_last self.old.grown.outflow.points <ℚ head_label }
+        requires queue { IsSome step.now.queue → time_of_last self.old.grown.queue.points <ℚ tail_label }
         ensures inflow { self.new.grown.inflow
             ≡ trace_after self.old.grown.inflow tail_label step.now.amount step.now.inflow_rate }
         ensures outflow { self.new.grown.outflow
             ≡ trace_after self.old.grown.outflow head_label step.now.amount step.now.outflow_rate }
         ensures queue { self.new.grown.queue
-            ≡ queue_after self.old.grown.queue tail_label step.now.queue }
+            ≡ queue_curve_after self.old.grown.queue tail_label step.now.queue }
     {
         self.inflow
             .extend_or_hold(tail_label, step.amount, step.inflow_rate);
@@ -142,8 +142,8 @@ impl LinkCurves {
 
     /// Returns the curves so far, and ends their growth. Fails if an allocation fails.
     pub(crate) fn finish(self) -> Result<LinkFlow, AllocError>
-        ensures inflow { IfOk result (λ link. trace_of link.inflow ≡ self.grown.inflow) }
-        ensures outflow { IfOk result (λ link. trace_of link.outflow ≡ self.grown.outflow) }
+        ensures inflow { IfOk result (λ link. seen_trace link.inflow ≡ self.grown.inflow) }
+        ensures outflow { IfOk result (λ link. seen_trace link.outflow ≡ self.grown.outflow) }
         ensures queue { IfOk result (λ link. link.queue.points ≡ self.grown.queue.points) }
     {
         let LinkCurves {
@@ -160,8 +160,8 @@ impl LinkCurves {
 
     /// Returns copies of the curves so far. Fails if an allocation fails.
     pub(crate) fn copy(&self, alloc: Global) -> Result<LinkFlow, AllocError>
-        ensures inflow { IfOk result (λ link. trace_of link.inflow ≡ self.now.grown.inflow) }
-        ensures outflow { IfOk result (λ link. trace_of link.outflow ≡ self.now.grown.outflow) }
+        ensures inflow { IfOk result (λ link. seen_trace link.inflow ≡ self.now.grown.inflow) }
+        ensures outflow { IfOk result (λ link. seen_trace link.outflow ≡ self.now.grown.outflow) }
         ensures queue { IfOk result (λ link. link.queue.points ≡ self.now.grown.queue.points) }
     {
         Ok(LinkFlow {

@@ -4,7 +4,7 @@ ghost use Rattle.nf_frac_def.specs.declared.Part.TheVariants.{Curve as CurvePart
 ghost use Rattle.nf_frac_def.specs.Passing.{passes_Q};
 ghost use Rattle.nf_frac_def.specs.Checked.{at_part, Gives};
 ghost use Rattle.nf_model.specs.Equilibrium.{HasSlopes};
-ghost use Rattle.nf_curve.specs.Flows.{trace_of};
+ghost use Rattle.nf_curve.specs.Flows.{seen_trace};
 ghost use Rattle.nf_thin_def.specs.ReportCurves.{amount_so_far, first_curves, curves_after, link_curves_after};
 ghost use Rattle.nf_phase_curves.specs.Growing.{HasReserve, AllHaveRoom, all_grown};
 ghost use Rattle.nf_phase_curves.specs.LinkGrowth.{LinkEndsBefore, AllLinksEndBefore};
@@ -68,10 +68,10 @@ pub fn restore_links(
 ) -> Result<Vec<LinkCurves>, Halt<Q>>
     requires outflows { length outflows.now ≡ length inflows.now }
     requires queues { length queues.now ≡ length inflows.now }
-    requires inflow_rates { HasSlopes (map trace_of inflows.now) }
-    requires outflow_rates { HasSlopes (map trace_of outflows.now) }
+    requires inflow_rates { HasSlopes (map seen_trace inflows.now) }
+    requires outflow_rates { HasSlopes (map seen_trace outflows.now) }
     ensures { Gives (λ curves. all_grown curves.items) (λ q. q) result
-        (at_part CurvePart (of_links passes_Q (map trace_of inflows.now) (map trace_of outflows.now)
+        (at_part CurvePart (of_links passes_Q (map seen_trace inflows.now) (map seen_trace outflows.now)
         (map (λ c. c.points) queues.now))) }
 {
     let mut curves = Vec::new(alloc);

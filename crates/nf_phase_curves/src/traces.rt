@@ -3,9 +3,9 @@ ghost use Rattle.std.specs.Prelude.{◌≡◌, ◌<◌, ◌≤◌, ◌++◌, IfO
 ghost use Rattle.std.specs.Option.{option_to_list};
 ghost use Rattle.nf_rational.specs.Order.{◌<ℚ◌};
 ghost use Rattle.nf_model.specs.Curve.{AreSlopes};
-ghost use Rattle.nf_curve.specs.Flows.{trace_of};
+ghost use Rattle.nf_curve.specs.Flows.{seen_trace};
 ghost use Rattle.nf_rational.specs.Signs.{is_positive};
-ghost use Rattle.nf_thin_def.specs.Ends.{end_of};
+ghost use Rattle.nf_thin_def.specs.Ends.{time_of_last};
 ghost use Rattle.nf_thin_def.specs.ReportCurves.{trace_with, trace_after, first_trace};
 ghost use Rattle.nf_phase_curves.specs.Growing.{HasReserve, rates_by, end_value};
 
@@ -81,8 +81,8 @@ impl GrowingTrace {
 
     /// Returns the growing trace with the points and rates of `trace`. Fails if an allocation fails.
     pub(crate) fn of(alloc: Global, trace: &Trace) -> Result<GrowingTrace, AllocError>
-        requires { AreSlopes (trace_of trace.now).points (trace_of trace.now).rates }
-        ensures { IfOk result (λ t. t.grown ≡ trace_of trace.now) }
+        requires { AreSlopes (seen_trace trace.now).points (seen_trace trace.now).rates }
+        ensures { IfOk result (λ t. t.grown ≡ seen_trace trace.now) }
     {
         let mut rates = trace.rates.as_slice().to_vec(alloc)?;
         let last = rates.pop();
@@ -110,7 +110,7 @@ impl GrowingTrace {
     /// Extends the trace to a later point, at this rate. Memory for a corner must be reserved.
     pub(crate) fn extend(&mut self, time: Q, amount: Q, rate: Q)
         requires room { HasReserve self.old }
-        requires later { end_of self.old.grown.points <ℚ time }
+        requires later { time_of_last self.old.grown.points <ℚ time }
         ensures { self.new.grown ≡ trace_with self.old.grown (time, amount) rate }
     {
         let kept = self.curve.keeps_slope(rate);
@@ -123,7 +123,7 @@ impl GrowingTrace {
     /// unchanged.
     pub(crate) fn extend_or_hold(&mut self, label: Q, amount: Q, rate: Option<Q>)
         requires room { HasReserve self.old }
-        requires later { IsSome rate → end_of self.old.grown.points <ℚ label }
+        requires later { IsSome rate → time_of_last self.old.grown.points <ℚ label }
         ensures { self.new.grown ≡ trace_after self.old.grown label amount rate }
     {
         if let Some(rate) = rate {
@@ -133,7 +133,7 @@ impl GrowingTrace {
 
     /// Returns the trace so far. Fails if an allocation fails.
     pub(crate) fn finish(self) -> Result<Trace, AllocError>
-        ensures { IfOk result (λ t. trace_of t ≡ self.grown) }
+        ensures { IfOk result (λ t. seen_trace t ≡ self.grown) }
     {
         let GrowingTrace { curve, rates } = self;
         let rates = with_last(rates, curve.slope())?;
@@ -143,7 +143,7 @@ impl GrowingTrace {
 
     /// Returns a copy of the trace so far. Fails if an allocation fails.
     pub(crate) fn copy(&self, alloc: Global) -> Result<Trace, AllocError>
-        ensures { IfOk result (λ t. trace_of t ≡ self.now.grown) }
+        ensures { IfOk result (λ t. seen_trace t ≡ self.now.grown) }
     {
         let rates = self.rates.as_slice().to_vec(alloc)?;
         let rates = with_last(rates, self.curve.slope())?;

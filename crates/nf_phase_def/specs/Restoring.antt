@@ -13,7 +13,7 @@ use Rattle.nf_model.specs.Pattern.{Pattern, HasState}
 use Rattle.nf_model.specs.Equilibrium.{Trace, Flow, points_at, points_of, label, Equilibrium}
 use Rattle.nf_thin_def.specs.ReportCurves.{GrowingCurve, LinkCurves}
 use Rattle.nf_thin_def.specs.PhaseRun.{Standing, IsShortFlow}
-use Rattle.nf_thin_def.specs.Ends.{end_of}
+use Rattle.nf_thin_def.specs.Ends.{time_of_last}
 use Rattle.nf_curve_def.specs.Lines.{checked_slope}
 
 -- The value of the last point.
@@ -63,12 +63,12 @@ module _ (passes : Passing) where
 -- Each label curve ends at the departure reached. Each inflow and queue ends at the label of the link's tail there, each outflow at the
 -- label of its head.
 pub record EndsAtItsLabels (net : Network) (flow : Flow) : Type 0 where
-  pub labels : (v : ℕ) → v < net.nodes → end_of (points_at flow.labels v) ≡ flow.reached
+  pub labels : (v : ℕ) → v < net.nodes → time_of_last (points_at flow.labels v) ≡ flow.reached
   pub inflows : (e : ℕ) (link : Link) → IsLink net e link
-      → end_of (points_at (points_of flow.inflows) e) ≡ label flow link.tail flow.reached
+      → time_of_last (points_at (points_of flow.inflows) e) ≡ label flow link.tail flow.reached
   pub outflows : (e : ℕ) (link : Link) → IsLink net e link
-      → end_of (points_at (points_of flow.outflows) e) ≡ label flow link.head flow.reached
-  pub queues : (e : ℕ) (link : Link) → IsLink net e link → end_of (points_at flow.queues e) ≡ label flow link.tail flow.reached
+      → time_of_last (points_at (points_of flow.outflows) e) ≡ label flow link.head flow.reached
+  pub queues : (e : ℕ) (link : Link) → IsLink net e link → time_of_last (points_at flow.queues e) ≡ label flow link.tail flow.reached
 
 -- No unbounded link is Full.
 abbrev pub NoneFull : Network → Pattern → Type 0

@@ -13,7 +13,7 @@ use Rattle.nf_frac_def.proofs.Each.{each_length}
 use Rattle.nf_model.specs.Pattern.{Pattern}
 use Rattle.nf_thin_def.specs.ReportCurves.{GrowingCurve, LinkCurves}
 use Rattle.nf_thin_def.specs.PhaseRun.{Standing, flow_of}
-use Rattle.nf_thin_def.specs.Ends.{end_of}
+use Rattle.nf_thin_def.specs.Ends.{time_of_last}
 use Rattle.nf_curve_def.specs.Lines.{checked_slope}
 use Rattle.nf_curve_laws.proofs.Operations.{then_ok, checked_slope-is}
 use Rattle.nf_phase_def.specs.Restoring.{value_at_end, link_curves_of, standing_of, last_slope, growing, EndsAtItsLabels}
@@ -89,11 +89,11 @@ last_of : (x : Point) (rest : List Point) → (p : Point) × (front : List Point
 last_of x [] = (x, [], refl)
 last_of x (y ∷ rest) = let w = last_of y rest in (w.0, x ∷ w.1, ap (λ (l : List Point). x ∷ l) w.2)
 
-pub LastPoint-end : (points : List Point) (last : ℚ) → IsCurve points → end_of points ≡ last → LastPoint points (last, value points last)
+pub LastPoint-end : (points : List Point) (last : ℚ) → IsCurve points → time_of_last points ≡ last → LastPoint points (last, value points last)
 LastPoint-end [] last c e = absurd c
 LastPoint-end (x ∷ rest) last c e =
     let w : (p : Point) × (front : List Point) × (x ∷ rest ≡ front ++ p ∷ []) = last_of x rest in
-    let time : w.0.0 ≡ last = sym (ap end_of w.2 ∙ end-append w.1 w.0) ∙ e in
+    let time : w.0.0 ≡ last = sym (ap time_of_last w.2 ∙ end-append w.1 w.0) ∙ e in
     let end : value (x ∷ rest) last ≡ w.0.1 =
     EndsAt-value (x ∷ rest) w.0 last (record { front = w.1; same = w.2; curve = c }) (subst (λ (z : ℚ). z ≤ℚ last) (sym time) (≤ℚ_refl last)) in
     record { front = w.1; same = w.2 ∙ ap (λ (p : Point). w.1 ++ p ∷ []) (point_is w.0 last (value (x ∷ rest) last) time (sym end)); curve = c }

@@ -28,7 +28,7 @@ pub use Rattle.nf_phase_laws.specs.CurveRun.{Curves, FirstCurves, GrowByPhases, 
 pub use Rattle.nf_phase_laws.specs.CurveSteps.{CurvesGoOn, CurvesStand, GoesOnTo, LastPoint, at}
 pub use Rattle.nf_phase_laws.specs.Description.{DescribesLinks, DescriptionGoesOn}
 pub use Rattle.nf_phase_laws.specs.DescriptionCurves.{DescriptionCurvesGoOn, DescriptionStands}
-pub use Rattle.nf_phase_laws.specs.Invariant.{GoesOn, HoldsUpTo, IsStart, LabelsAre, link_slack, queue_by_slack, sent, tail_or}
+pub use Rattle.nf_phase_laws.specs.Invariant.{GoesOn, HoldsUpTo, StartsEmpty, LabelsAre, link_slack, queue_by_slack, sent, tail_or}
 pub use Rattle.nf_rational.specs.Operations.{0ℚ, 1ℚ, ◌*ℚ◌, ◌+ℚ◌, ◌-ℚ◌, ◌/ℚ◌}
 pub use Rattle.nf_rational.specs.Order.{le_ℚ, lt_ℚ, max_ℚ, min_ℚ, ◌<ℚ◌, ◌≤ℚ◌}
 pub use Rattle.nf_rational.specs.Rational.{ℚ}
@@ -56,7 +56,7 @@ pub use Rattle.nf_thin_def.specs.ReportCurves.{
   keeps_slope,
   label_curves_after,
   link_curves_after,
-  queue_after,
+  queue_curve_after,
   trace_after,
   trace_with,
   with_point,

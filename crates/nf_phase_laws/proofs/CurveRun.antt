@@ -2,7 +2,7 @@
 use Rattle.std.proofs.Common.{◌≡◌, ℕ, ◌<◌, List, [], ◌∷◌, if◌then◌else◌, Bool, true, false, ⊎_elim, sym, ap, subst, refl, ◌∙◌}
 use Rattle.nf_phase_laws.proofs.Common.{ℚ, 0ℚ, ◌+ℚ◌, ◌-ℚ◌, ◌*ℚ◌, ◌≤ℚ◌, ◌<ℚ◌, lt_ℚ, reading_of, ≤ℚ_antisymm, lt_ℚ_cases, eq, eq_times, linear_eq, number_at}
 use Rattle.nf_phase_laws.proofs.Common.{Point, value, slope, Link, Network, IsNetwork, IsLink, hops, rate_at, slacks_of, AreStartLabels, Lasts, IsPhase, Flow}
-use Rattle.nf_phase_laws.proofs.Common.{HasShape, HasSlopes, Equilibrium, quotient-gap, same_from_times, by_first, rate_from-not_negative, HoldsUpTo, IsStart}
+use Rattle.nf_phase_laws.proofs.Common.{HasShape, HasSlopes, Equilibrium, quotient-gap, same_from_times, by_first, rate_from-not_negative, HoldsUpTo, StartsEmpty}
 use Rattle.nf_phase_laws.proofs.Common.{GoesOn, DescribesLinks, DescriptionGoesOn, LastPoint, at, CurvesStand, CurvesGoOn, DescriptionStands}
 use Rattle.nf_phase_laws.proofs.Common.{DescriptionCurvesGoOn, Curves, first_points, FirstCurves, GrowByPhases, begin, grow, curves_of}
 use Rattle.nf_phase_laws.proofs.Holds.{IsNashFlow-from_HoldsUpTo, link_within}
@@ -61,7 +61,7 @@ module _ (net : Network) (good : IsNetwork net) (labels : List ℚ) (curves : Cu
   first_label : (v : ℕ) → v < net.nodes → at curves.labels v 0ℚ ≡ number_at labels v
   first_label v h = ap (λ (ps : List Point). value ps 0ℚ) (first.label_curves v h)
 
-  start : IsStart net labels (at curves.inflows) (at curves.labels)
+  start : StartsEmpty net labels (at curves.inflows) (at curves.labels)
   start = record {
     nothing = λ e time h _. let l : (link : Link) × IsLink net e link = link_within net e h in
         ap (λ (ps : List Point). value ps time) (first.inflows e l.0 l.1) ∙ first_value (number_at labels l.0.tail) time;

@@ -3,7 +3,7 @@ use Rattle.std.proofs.Common.{◌≡◌, ℕ, ◌<◌, List, [], ◌∷◌, ⊎_
 use Rattle.nf_phase_laws.proofs.Common.{ℚ, 0ℚ, ◌+ℚ◌, ◌-ℚ◌, ◌*ℚ◌, ◌≤ℚ◌, ◌<ℚ◌, max_ℚ, reading_of, ≤ℚ_of_lt, ≤ℚ_antisymm, lt_or_le_ℚ, le, eq, le_times, eq_times}
 use Rattle.nf_phase_laws.proofs.Common.{linear_le, linear_eq, number_at, Within, Link, Network, IsNetwork, IsLink, hops, rate_at, IsQueue, IsOutflow, slacks_of}
 use Rattle.nf_phase_laws.proofs.Common.{sets_at, IsThinFlow, Lasts, AreStartLabels, IsAffine, same_from_times, link_slack, queue_by_slack, sent, HoldsUpTo}
-use Rattle.nf_phase_laws.proofs.Common.{LabelsAre, IsStart, GoesOn, DescribesLinks, DescriptionGoesOn, ≤ℚ_refl, ≤ℚ_trans, max0_none, max0_of}
+use Rattle.nf_phase_laws.proofs.Common.{LabelsAre, StartsEmpty, GoesOn, DescribesLinks, DescriptionGoesOn, ≤ℚ_refl, ≤ℚ_trans, max0_none, max0_of}
 use Rattle.nf_phase_laws.proofs.Idle.{queue_by_slack-low}
 use Rattle.nf_phase_laws.proofs.Holds as held
 use Rattle.nf_phase_laws.proofs.Start.{at_first, label_not_negative, nothing_sent, slack_none}
@@ -173,7 +173,7 @@ module _ (net : Network) (amount label : ℕ → ℚ → ℚ) (until length rate
   }
 
 -- ---- the theorems by lists
-pub DescribesLinks-start : (net : Network) (labels : List ℚ) (amount label outflow queue : ℕ → ℚ → ℚ) → IsNetwork net → AreStartLabels net labels → IsStart net labels amount label
+pub DescribesLinks-start : (net : Network) (labels : List ℚ) (amount label outflow queue : ℕ → ℚ → ℚ) → IsNetwork net → AreStartLabels net labels → StartsEmpty net labels amount label
     → ((e : ℕ) (link : Link) (time : ℚ) → IsLink net e link → 0ℚ ≤ℚ time → outflow e time ≡ 0ℚ) → ((e : ℕ) (link : Link) (time : ℚ) → IsLink net e link → 0ℚ ≤ℚ time → queue e time ≡ 0ℚ)
     → DescribesLinks net amount label outflow queue 0ℚ
 DescribesLinks-start net labels amount label outflow queue good least begun out wait = record {

@@ -4,7 +4,7 @@ use Rattle.nf_model_laws.proofs.Curves.{IsCurve-rises}
 use Rattle.nf_phase_laws.proofs.Common.{◌-◌, ◌+◌, Option, Some, None, take, last_or, option_map_or, same_Some, ℚ, 0ℚ, ◌-ℚ◌, ◌*ℚ◌, ◌<ℚ◌, reading_of, less_ps, eq}
 use Rattle.nf_phase_laws.proofs.Common.{linear_eq, Point, slope, AreSlopes, same_from_times, slope-times, TimesRise-rest, keeps_slope}
 use Rattle.nf_phase_laws.proofs.Common.{with_point, with_rate, LastPoint, GoesOnTo, last-append, false≢true}
-use Rattle.nf_thin_def.specs.Ends.{end_of}
+use Rattle.nf_thin_def.specs.Ends.{time_of_last}
 use Rattle.nf_phase_laws.proofs.CurveSteps.{GoesOnTo-appended, GoesOnTo-replaced}
 use Rattle.nf_rational_laws.proofs.SignTests.{same_of_test}
 
@@ -25,7 +25,7 @@ slope-joined : (p q s : Point) (r : ℚ) → p.0 <ℚ q.0 → q.0 <ℚ s.0 → p
 slope-joined p q s r h k l e f = slope_is p s r l (add_times p.0 p.1 q.0 q.1 s.0 s.1 (slope p q) (slope q s) r (slope-times p q h) (slope-times q s k) e f)
 
 -- ---- the time of the last point
-pub end-append : (points : List Point) (p : Point) → end_of (points ++ p ∷ []) ≡ p.0
+pub end-append : (points : List Point) (p : Point) → time_of_last (points ++ p ∷ []) ≡ p.0
 end-append points p = ap (λ (o : Option Point). option_map_or (λ q. q.0) o 0ℚ) (last-append None points p)
 
 -- ---- the list without its last entry

@@ -1,7 +1,7 @@
 -- Curves in short form stay in short form when extended by a point: no inner point has equal slopes on both sides.
 use Rattle.std.proofs.Common.{◌≡◌, List, [], ◌∷◌, ◌++◌, length, Bool, true, false, sym, ap, subst, refl, ◌∙◌, append_assoc, ◌-◌, Option, Some, None, take}
 use Rattle.nf_phase_laws.proofs.Common.{last_or, same_Some, ℚ, Point, slope, AreSlopes, IsShort, Trace, is_same, GrowingCurve, keeps_slope, with_point}
-use Rattle.nf_phase_laws.proofs.Common.{with_rate, curve_with, trace_with, trace_after, queue_after, QueueStep, last-append, false≢true}
+use Rattle.nf_phase_laws.proofs.Common.{with_rate, curve_with, trace_with, trace_after, queue_curve_after, QueueStep, last-append, false≢true}
 use Rattle.nf_phase_laws.proofs.Points.{taken, EndsWithSlope, LastSlope, LastSlope-rates}
 use Rattle.nf_rational_laws.proofs.SignTests.{same_of_test, is_same-itself}
 
@@ -79,7 +79,7 @@ pub IsShortCurve-with : (curve : GrowingCurve) (new : Point) (r : ℚ) → LastS
 IsShortCurve-with curve new r s is ends = record { short = IsShort-after curve.points curve.slope new r s is.one is.short ends; one = tt }
 
 pub IsShortCurve-queue : (curve : GrowingCurve) (label : ℚ) (step : Option QueueStep) → LastSlope curve.points curve.slope → IsShortCurve curve
-    → LastSlope (queue_after curve label step).points (queue_after curve label step).slope → IsShortCurve (queue_after curve label step)
+    → LastSlope (queue_curve_after curve label step).points (queue_curve_after curve label step).slope → IsShortCurve (queue_curve_after curve label step)
 IsShortCurve-queue curve label None s is ends = is
 IsShortCurve-queue curve label (Some step) s is ends = IsShortCurve-with curve (label, step.size) step.slope s is ends
 

@@ -2,13 +2,13 @@
 use Rattle.std.proofs.Common.{◌≡◌, ℕ, ◌<◌, List, length, sym, ap, subst, ◌∙◌, arith, Option, None}
 use Rattle.nf_phase_laws.proofs.Common.{option_map_or, slice_get_within, ℚ, 0ℚ, ◌≤ℚ◌, number_at, Point, Within, Link, Network, IsNetwork, IsLink, hop_of, slack}
 use Rattle.nf_phase_laws.proofs.Common.{Standing, flow_of, LastPoint, at, Curves, curves_of, last-append, ≤ℚ_refl}
-use Rattle.nf_thin_def.specs.Ends.{end_of, EndsAtLabels}
+use Rattle.nf_thin_def.specs.Ends.{time_of_last, EndsAtLabels}
 use Rattle.nf_phase_laws.proofs.CurveRun.{Grown}
 use Rattle.nf_phase_laws.proofs.Thin.{slack-is}
 use Rattle.nf_phase_laws.proofs.WellRun.{label_points, inflow_points, outflow_points, queue_points, WellRun}
 
-pub end-last : (points : List Point) (last : Point) → LastPoint points last → end_of points ≡ last.0
-end-last points last l = ap end_of l.same ∙ ap (λ (o : Option Point). option_map_or (λ (p : Point). p.0) o 0ℚ) (last-append None l.front last)
+pub end-last : (points : List Point) (last : Point) → LastPoint points last → time_of_last points ≡ last.0
+end-last points last l = ap time_of_last l.same ∙ ap (λ (o : Option Point). option_map_or (λ (p : Point). p.0) o 0ℚ) (last-append None l.front last)
 
 module _ (net : Network) (good : IsNetwork net) (s : Standing) (well : WellRun net s) where
   abbrev curves : Curves
@@ -36,11 +36,11 @@ module _ (net : Network) (good : IsNetwork net) (s : Standing) (well : WellRun n
   pub ends_at : EndsAtLabels net s
   ends_at = record {
     labels = λ v c here. (let inside : v < net.nodes = (let n = well.label_count in let w = slice_get_within s.label_curves v c here in omega arith) in
-        ap end_of (sym (label_points s v c here)) ∙ end-last _ _ (grown_at.curves_stand.labels_end v inside));
-    inflows = λ e link c p here. (ap end_of (sym (inflow_points s e c here)) ∙ end-last _ _ (grown_at.curves_stand.inflows_end e link p)
+        ap time_of_last (sym (label_points s v c here)) ∙ end-last _ _ (grown_at.curves_stand.labels_end v inside));
+    inflows = λ e link c p here. (ap time_of_last (sym (inflow_points s e c here)) ∙ end-last _ _ (grown_at.curves_stand.inflows_end e link p)
         ∙ grown_at.stands.same link.tail (good.tails e link p));
-    outflows = λ e link c p here. (ap end_of (sym (outflow_points s e c here)) ∙ end-last _ _ (grown_at.description_stands.outflows_end e link p)
+    outflows = λ e link c p here. (ap time_of_last (sym (outflow_points s e c here)) ∙ end-last _ _ (grown_at.description_stands.outflows_end e link p)
         ∙ grown_at.stands.same link.head (good.heads e link p));
-    queues = λ e link c p here. (ap end_of (sym (queue_points s e c here)) ∙ end-last _ _ (grown_at.description_stands.queues_end e link p)
+    queues = λ e link c p here. (ap time_of_last (sym (queue_points s e c here)) ∙ end-last _ _ (grown_at.description_stands.queues_end e link p)
         ∙ grown_at.stands.same link.tail (good.tails e link p));
   }

@@ -5,7 +5,7 @@ use Rattle.nf_phase_laws.proofs.Common.{slice_get_within, ℚ, 0ℚ, ◌+ℚ◌,
 use Rattle.nf_phase_laws.proofs.Common.{linear_eq, number_at, Within, IsWalk, IsLeastTransit, transit_sum, Link, Network, IsNetwork, IsLink, hops, sum_in}
 use Rattle.nf_phase_laws.proofs.Common.{sum_out, supply, IsQueue, AreStartLabels, AreTransitLabels, IsWalk-starts, StartsWith, transit_of-is, IsPositive-link}
 use Rattle.nf_phase_laws.proofs.Common.{sum_in-same, sum_out-same, sum_in-none, sum_out-none, supplied-begins, link_slack, queue_by_slack, sent, HoldsUpTo}
-use Rattle.nf_phase_laws.proofs.Common.{IsStart, ≤ℚ_refl}
+use Rattle.nf_phase_laws.proofs.Common.{StartsEmpty, ≤ℚ_refl}
 use Rattle.nf_model_laws.proofs.EarliestTransits.{AreTransitLabels-least}
 use Rattle.nf_phase_laws.proofs.Idle.{queue_by_slack-low, IsQueue-before_any}
 use Rattle.nf_phase_laws.proofs.Holds.{sent-is}
@@ -17,7 +17,7 @@ transit_sum-not_negative net good (e ∷ walk) u v w =
     let s : StartsWith net e walk u v = IsWalk-starts net e walk u v w in
     nn_plus _ _ (subst (λ (t : ℚ). 0ℚ ≤ℚ t) (sym (transit_of-is net e s.link s.is_link)) (good.transits e s.link s.is_link)) (transit_sum-not_negative net good walk s.link.head v s.rest)
 
-module _ (net : Network) (labels : List ℚ) (amount label : ℕ → ℚ → ℚ) (good : IsNetwork net) (least : AreStartLabels net labels) (start : IsStart net labels amount label) where
+module _ (net : Network) (labels : List ℚ) (amount label : ℕ → ℚ → ℚ) (good : IsNetwork net) (least : AreStartLabels net labels) (start : StartsEmpty net labels amount label) where
   transit_labels : AreTransitLabels net (number_at labels)
   transit_labels = AreTransitLabels-least net (number_at labels) good least.each
 

@@ -3,7 +3,7 @@
 use Rattle.std.proofs.Common.{◌≡◌, List, [], ◌∷◌, Bool, true, false, sym, subst, refl, Option, None}
 use Rattle.nf_phase_laws.proofs.Common.{last_or, ℚ, 0ℚ, ◌+ℚ◌, ◌-ℚ◌, ◌*ℚ◌, ◌/ℚ◌, ◌<ℚ◌, reading_of, ps_times, ≤ℚ_of_same, not_both_ℚ, lt, eq, eq_times, linear_lt}
 use Rattle.nf_phase_laws.proofs.Common.{linear_eq, Point, AreSlopes, Trace, quotient-times, is_positive, LinkPhase, GrowingCurve, keeps_slope, with_point}
-use Rattle.nf_phase_laws.proofs.Common.{with_rate, trace_after, queue_after, queue_by_slack, LastPoint, GoesOnTo}
+use Rattle.nf_phase_laws.proofs.Common.{with_rate, trace_after, queue_curve_after, queue_by_slack, LastPoint, GoesOnTo}
 use Rattle.nf_phase_laws.proofs.Points.{slope_is, LastSlope, Went, went, AreSlopes-after}
 use Rattle.nf_phase_laws.proofs.StepValues.{filled_slope, rate_value, queue_value, positive_of, none_of}
 
@@ -68,7 +68,7 @@ module _ (curve : GrowingCurve) (link : LinkPhase) (flow sl : ℚ) (points : Lis
     (l : LastPoint points (a, y)) (some : 0ℚ <ℚ t) (label_is : label ≡ a +ℚ sl *ℚ t)
     (size_is : queue_by_slack link.capacity (link.head_label -ℚ (link.tail_label +ℚ link.transit)) ≡ size)
     (times : 0ℚ <ℚ sl → filled_slope link.filled link.capacity (flow /ℚ sl) *ℚ (sl *ℚ t) ≡ size -ℚ y) where
-  queue_by : (b : Bool) → is_positive sl ≡ b → QueueStepped points (queue_after curve label (queue_value link (rate_value b flow sl))) a y t sl size
+  queue_by : (b : Bool) → is_positive sl ≡ b → QueueStepped points (queue_curve_after curve label (queue_value link (rate_value b flow sl))) a y t sl size
   queue_by true h =
       let moves : 0ℚ <ℚ sl = positive_of sl h in
       let w = went_to points curve.points curve.slope (filled_slope link.filled link.capacity (flow /ℚ sl)) (a, y) (a +ℚ sl *ℚ t, size)
@@ -77,5 +77,5 @@ module _ (curve : GrowingCurve) (link : LinkPhase) (flow sl : ℚ) (points : Lis
       record { goes = λ _. w.goes; stays = λ e. absurd (not_both_ℚ 0ℚ sl moves (≤ℚ_of_same _ _ e)); slopes = w.slopes }
   queue_by false h = record { goes = λ m. absurd (not_both_ℚ 0ℚ sl m (none_of sl h)); stays = λ _. sym same; slopes = last_slope }
 
-  pub QueueStepped-after : QueueStepped points (queue_after curve label (queue_value link (rate_value (is_positive sl) flow sl))) a y t sl size
+  pub QueueStepped-after : QueueStepped points (queue_curve_after curve label (queue_value link (rate_value (is_positive sl) flow sl))) a y t sl size
   QueueStepped-after = queue_by (is_positive sl) refl

@@ -11,7 +11,7 @@ use Rattle.nf_model.specs.Equilibrium.{Flow, label, inflow, outflow, queue, HasS
 use Rattle.nf_model.specs.ThinFlow.{slacks_of, sets_at, IsThinFlow}
 use Rattle.nf_model.specs.Phases.{Lasts, AreStartLabels}
 use Rattle.nf_model_laws.specs.Affine.{IsAffine}
-use Rattle.nf_phase_laws.specs.Invariant.{link_slack, queue_by_slack, sent, HoldsUpTo, LabelsAre, IsStart, GoesOn}
+use Rattle.nf_phase_laws.specs.Invariant.{link_slack, queue_by_slack, sent, HoldsUpTo, LabelsAre, StartsEmpty, GoesOn}
 
 -- For each departure, the outflow by the label of the head equals the amount sent into the link. The queue at the label of the tail is the
 -- queue of the slack. Before the labels of departure 0 both are 0.
@@ -53,7 +53,7 @@ pub record DescriptionIsRight : Type 0 where
 -- The description holds at the start, where outflows and queues are 0, and each phase preserves it.
 pub record PhasesKeepDescription : Type 0 where
   pub begins : (net : Network) (labels : List ℚ) (amount label outflow queue : ℕ → ℚ → ℚ) → IsNetwork net → AreStartLabels net labels
-      → IsStart net labels amount label
+      → StartsEmpty net labels amount label
       → ((e : ℕ) (link : Link) (time : ℚ) → IsLink net e link → 0ℚ ≤ℚ time → outflow e time ≡ 0ℚ)
       → ((e : ℕ) (link : Link) (time : ℚ) → IsLink net e link → 0ℚ ≤ℚ time → queue e time ≡ 0ℚ)
       → DescribesLinks net amount label outflow queue 0ℚ

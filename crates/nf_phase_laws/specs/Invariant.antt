@@ -82,7 +82,7 @@ abbrev pub LabelsAre : Network → (ℕ → ℚ → ℚ) → ℚ → List ℚ �
 LabelsAre net label departure labels = (v : ℕ) → v < net.nodes → label v departure ≡ number_at labels v
 
 -- The start: nothing enters a link, and `labels` are the labels of departure 0.
-pub record IsStart (net : Network) (labels : List ℚ) (amount label : ℕ → ℚ → ℚ) : Type 0 where
+pub record StartsEmpty (net : Network) (labels : List ℚ) (amount label : ℕ → ℚ → ℚ) : Type 0 where
   pub nothing : (e : ℕ) (time : ℚ) → e < length net.links → 0ℚ ≤ℚ time → amount e time ≡ 0ℚ
   pub labels_are : LabelsAre net label 0ℚ labels
 

@@ -7,7 +7,7 @@ use Rattle.nf_model.specs.Network.{Network, IsNetwork, hops, rate_at}
 use Rattle.nf_model.specs.ThinFlow.{slacks_of, sets_at, IsThinFlow}
 use Rattle.nf_model.specs.Equilibrium.{IsNashFlow}
 use Rattle.nf_model.specs.Phases.{Lasts, AreStartLabels}
-use Rattle.nf_phase_laws.specs.Invariant.{HoldsUpTo, LabelsAre, IsStart, GoesOn}
+use Rattle.nf_phase_laws.specs.Invariant.{HoldsUpTo, LabelsAre, StartsEmpty, GoesOn}
 use Rattle.nf_phase_laws.specs.Run.{GoesByPhases}
 
 -- A flow that satisfies the invariant up to a departure is a Nash flow over time up to that departure.
@@ -18,7 +18,7 @@ NashFromInvariant = (net : Network) (amount label : ℕ → ℚ → ℚ) (until 
 -- The invariant holds up to time 0 at the start, where nothing has entered a link and the labels are the least transit sums.
 abbrev pub StartHasInvariant : Type 0
 StartHasInvariant = (net : Network) (labels : List ℚ) (amount label : ℕ → ℚ → ℚ) → IsNetwork net → AreStartLabels net labels
-    → IsStart net labels amount label
+    → StartsEmpty net labels amount label
     → HoldsUpTo net amount label 0ℚ
 
 -- The invariant holds up to a departure with these labels. The flow is extended by a thin flow for the sets of their slacks and the supply

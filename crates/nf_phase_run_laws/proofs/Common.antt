@@ -86,7 +86,7 @@ pub use Rattle.nf_thin_def.specs.ReportCurves.{
   keeps_slope,
   label_curves_after,
   link_curves_after,
-  queue_after,
+  queue_curve_after,
   trace_after,
   with_point,
   with_rate,

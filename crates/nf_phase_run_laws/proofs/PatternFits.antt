@@ -8,7 +8,7 @@ use Rattle.nf_frac_def.specs.declared.Passed.{Passed}
 use Rattle.nf_model.specs.declared.State.{State}
 use Rattle.nf_model.specs.declared.State.TheVariants.{Tight, Full, Zero}
 use Rattle.nf_linear_def.specs.Table.{table_list}
-use Rattle.nf_thin_def.specs.Equations.{Unknown, SlopeOf, FlowOn, unknowns, row, source_factor, leaves_less_enters, node_factor, node_row, fills_factor, link_factor, link_rows, equations, slopes_in, onto_links, flows_in}
+use Rattle.nf_thin_def.specs.Equations.{Unknown, SlopeOf, FlowOn, unknowns, row, source_factor, leaves_less_enters, node_factor, node_row, fills_factor, link_factor, link_rows, equations, slopes_in, onto_links, link_flows_in}
 use Rattle.nf_thin_def.specs.Verdict.{bound_on, bound_of, verdict_list}
 use Rattle.nf_thin_def.specs.Accepted.{Solved, after_table, pattern_lists}
 use Rattle.nf_thin_equation_laws.specs.Equations.{IsPatternIn, SolvesAlone}
@@ -97,7 +97,7 @@ module _ (net : Network) (has : HasFractions net) (sets : Sets) (rate : ℚ) (is
   slopes_fit : (values : List ℚ) → AreFractions values → AreFractions (slopes_in net.nodes values)
   slopes_fit values h = all_take IsFraction net.nodes values h
 
-  flows_fit : (values : List ℚ) → AreFractions values → AreFractions (flows_in net.nodes sets.active values)
+  flows_fit : (values : List ℚ) → AreFractions values → AreFractions (link_flows_in net.nodes sets.active values)
   flows_fit values h = onto_fractions sets.active (drop net.nodes values) (all_drop IsFraction net.nodes values h)
 
   abbrev AreSolved : Solved → Type 0
@@ -109,7 +109,7 @@ module _ (net : Network) (has : HasFractions net) (sets : Sets) (rate : ℚ) (is
       let slopes : List ℚ = slopes_in net.nodes values in
       then_fits (at_part Verdict (verdict_list passes_Q net pattern slopes)) _ (part_fits Verdict (verdict_list passes_Q net pattern slopes) (verdict_fits slopes (slopes_fit values h)))
       (λ bounds k. ok_fits AreOperandsAt (OrNone AreSolved) (Some (record {
-        flows = flows_in net.nodes sets.active values;
+        flows = link_flows_in net.nodes sets.active values;
         slopes = slopes;
         bounds =
             bounds;
@@ -128,7 +128,7 @@ module _ (net : Network) (has : HasFractions net) (sets : Sets) (rate : ℚ) (is
     by_values : (values : Option (List ℚ)) → table_list passes_Q (equations net sets rate pattern) ≡ Ok values → OrNone AreFractions values → AreFractions flows × AreFractions slopes
     by_values None e h = absurd (solves_not_alone net sets rate pattern is_in passes_Q flows slopes e alone)
     by_values (Some values) e h =
-        let same = solution.only (flows_in net.nodes sets.active values) (slopes_in net.nodes values) (solves_alone net sets rate pattern is_in passes_Q values e).solves in
+        let same = solution.only (link_flows_in net.nodes sets.active values) (slopes_in net.nodes values) (solves_alone net sets rate pattern is_in passes_Q values e).solves in
         (subst AreFractions same.0 (flows_fit values h), subst AreFractions same.1 (slopes_fit values h))
 
     by_table : (r : Result (Option (List ℚ)) (Passed ℚ)) → table_list passes_Q (equations net sets rate pattern) ≡ r

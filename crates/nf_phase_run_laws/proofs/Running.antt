@@ -4,7 +4,7 @@ use Rattle.nf_phase_run_laws.proofs.Common.{◌-◌, take, Option, Some, None, i
 use Rattle.nf_phase_run_laws.proofs.Common.{passes_Q, number_at, Has, Point, Link, Network, hop_of, hops, unbounded, rate_at, slack, slacks_of, sets_at}
 use Rattle.nf_phase_run_laws.proofs.Common.{Pattern, IsListedIn, Trace, Cause, Named, IsFraction, IsNamed, Report, is_positive, QueueStep, LinkStep}
 use Rattle.nf_phase_run_laws.proofs.Common.{GrowingCurve, LinkCurves, keeps_slope, with_point, with_rate, first_label_curve, first_trace, first_queue}
-use Rattle.nf_phase_run_laws.proofs.Common.{first_curves, label_curves_after, trace_after, queue_after, link_curves_after, amount_so_far, Standing, Bounds}
+use Rattle.nf_phase_run_laws.proofs.Common.{first_curves, label_curves_after, trace_after, queue_curve_after, link_curves_after, amount_so_far, Standing, Bounds}
 use Rattle.nf_phase_run_laws.proofs.Common.{IsStart, standing_after, cause_of_search, Seeks, phase_lists, Goes, Fails, at_slack, at_search, at_lists, Runs}
 use Rattle.nf_phase_run_laws.proofs.Common.{at_horizon, at_phases, fails, goes, report_of, IsRunReport, from_map, WellRun, WellRun-start, WellRun-goes, IsCount}
 use Rattle.nf_phase_run_laws.proofs.Common.{IsFractionOrNone, IsFractionPoint, AreFractionPoints, IsFractionTrace, IsReadableCause, IsReadable, AreReadable}
@@ -47,7 +47,7 @@ trace_fractions trace label amount (Some rate) h k l m = (
 )
 
 queue_fractions : (curve : GrowingCurve) (label : ℚ) (step : Option QueueStep) → IsFractionCurve curve → IsFraction label → IsFractionQueueOrNone step
-    → IsFractionCurve (queue_after curve label step)
+    → IsFractionCurve (queue_curve_after curve label step)
 queue_fractions curve label None h k l = h
 queue_fractions curve label (Some step) h k l = point_added (keeps_slope curve.slope step.slope) curve.points (label, step.size) h (k, l.size)
 

@@ -12,9 +12,9 @@ use Rattle.nf_frac_def.specs.declared.Part.TheVariants as Part
 use Rattle.nf_frac_def.specs.Checked.{Checked, Stops, at_part, ◌>>=◌}
 use Rattle.nf_model.specs.Network.{Network, IsNetwork}
 use Rattle.nf_quick_def.specs.Steps.{IsLimited}
-use Rattle.nf_quick_def.specs.Quick.{Quick, QuickStanding, Pushed, Done, OverBudget, QuickAnswer, FoundQuick, Budget, start_of, nothing, push_up_to, finish_list, answer_list, quickest_of, quickest_list}
+use Rattle.nf_quick_def.specs.Quick.{Quick, QuickStanding, Pushed, Done, OverBudget, QuickOutcome, FoundQuick, Budget, start_of, nothing, push_up_to, finish_list, answer_list, quickest_of, quickest_list}
 use Rattle.nf_quick_def.specs.Answers.{IsQuickFlow}
-use Rattle.nf_quick_laws.proofs.Start.{IsSound-zeros, value_of-zeros, cost_of-zeros}
+use Rattle.nf_quick_laws.proofs.Start.{IsSound-zeros, flow_value-zeros, cost_of-zeros}
 use Rattle.nf_quick_laws.proofs.Joined.{IsReached, EndsWell, EndsWell-list}
 use Rattle.nf_quick_laws.proofs.Nothing.{IsQuickFlow-list, IsMade-list, EndsAtBudget-list}
 use Rattle.nf_residual.proofs.Stopping.{ok_of_part, stopped, goes_on}
@@ -35,10 +35,10 @@ module _ (passes : Passing) (net : Network) (amount : ℚ) (augments : ℕ) wher
     abbrev pushes : Checked Pushed
     pushes = push_up_to passes net amount augments (start_of net)
 
-    abbrev whole : Checked QuickAnswer
+    abbrev whole : Checked QuickOutcome
     whole = quickest_list passes net amount augments
 
-    abbrev answer : Pushed → Checked QuickAnswer
+    abbrev answer : Pushed → Checked QuickOutcome
     answer pushed = answer_list passes net amount pushed
 
     opened : whole ≡ (pushes >>= answer)
@@ -56,7 +56,7 @@ module _ (passes : Passing) (net : Network) (amount : ℚ) (augments : ℕ) wher
     has_time good s came =
         let above : 0ℚ <ℚ amount = lt_of_test amount 0ℚ some in
         let start : IsReached passes net amount good limited above (start_of net) =
-        record { sound = IsSound-zeros net good; rate = sym (value_of-zeros net good); cost = sym (cost_of-zeros net good); time = (refl, refl, refl) } in
+        record { sound = IsSound-zeros net good; rate = sym (flow_value-zeros net good); cost = sym (cost_of-zeros net good); time = (refl, refl, refl) } in
         let ends : EndsWell passes net amount good limited above augments (start_of net) (Done s) =
         EndsWell-list passes net amount good limited above augments (start_of net) (Done s) start (ok_of_part pushes (Done s) came) in
         ap is_some ends.0.time_is
@@ -66,7 +66,7 @@ module _ (passes : Passing) (net : Network) (amount : ℚ) (augments : ℕ) wher
       abbrev finished : Checked Quick
       finished = finish_list passes net amount flows time
 
-      abbrev found : Quick → Checked QuickAnswer
+      abbrev found : Quick → Checked QuickOutcome
       found quick = Ok (FoundQuick quick)
 
       then_finish : whole ≡ (finished >>= found)

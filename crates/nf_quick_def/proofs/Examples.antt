@@ -13,7 +13,7 @@ use Rattle.nf_quick_def.specs.Cuts.{node_times_list, value_list}
 use Rattle.nf_frac_def.specs.Passing.{Passing}
 use Rattle.nf_model.specs.Network.{Network}
 use Rattle.nf_quick_def.specs.Rounds.{round_list, reaches_list, distances_list, shortest_list}
-use Rattle.nf_quick_def.specs.Quick.{QuickAnswer, FoundQuick, Budget, finish_list, quickest_list}
+use Rattle.nf_quick_def.specs.Quick.{QuickOutcome, FoundQuick, Budget, finish_list, quickest_list}
 
 never : Passing
 never op x y = false
@@ -44,7 +44,7 @@ parts : ℚ → ℤ × ℕ
 parts x = (x.num, x.den)
 
 -- The result in parts: the time, the rates with the walks, the cut, and its value.
-seen : Checked QuickAnswer → List (ℤ × ℕ) × List (List ℕ)
+seen : Checked QuickOutcome → List (ℤ × ℕ) × List (List ℕ)
 seen (Ok (FoundQuick q)) = (map parts (q.time ∷ q.value ∷ map (λ (fed : Fed). fed.rate) q.walks ++ q.cut), map (λ (fed : Fed). fed.walk) q.walks)
 seen answer = ([], [])
 

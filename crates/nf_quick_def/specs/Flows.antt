@@ -24,8 +24,8 @@ pub record IsSound (net : Network) (flows : List ℚ) : Type 0 where
   pub out_of_sink : (e : ℕ) (link : Link) → IsLink net e link → link.tail ≡ net.sink → number_at flows e ≡ 0ℚ
 
 -- The value of a flow, a rate: the flow out of the source.
-abbrev pub value_of : Network → List ℚ → ℚ
-value_of net flows = sum_out net.links (number_at flows) net.source
+abbrev pub flow_value : Network → List ℚ → ℚ
+flow_value net flows = sum_out net.links (number_at flows) net.source
 
 -- The cost of a flow, an amount: the sum over the links of transit time times flow.
 abbrev pub cost_from : List Link → (ℕ → ℚ) → ℚ

@@ -6,7 +6,7 @@ use Rattle.nf_rational.specs.Order.{◌≤ℚ◌, ◌<ℚ◌}
 use Rattle.nf_model.specs.Entries.{number_at}
 use Rattle.nf_model.specs.Network.{Network}
 use Rattle.nf_quick_def.specs.Steps.{Step, IsResidualWalk, walk_length}
-use Rattle.nf_quick_def.specs.Flows.{value_of, cost_of}
+use Rattle.nf_quick_def.specs.Flows.{flow_value, cost_of}
 use Rattle.nf_quick_def.specs.Rounds.{Walk}
 use Rattle.nf_quick_def.specs.Quick.{Augment, Quick}
 use Rattle.nf_quick_def.specs.Answers.{IsShortestWalk}
@@ -17,11 +17,11 @@ use Rattle.nf_quick_def.specs.NodeTimes.{AreNodeTimes}
 -- ---- repetition of a static flow over time
 -- The amount that a static flow, repeated until `time`, delivers to the sink by then: time times value, minus cost.
 abbrev pub repeated : Network → List ℚ → ℚ → ℚ
-repeated net flows time = time *ℚ value_of net flows -ℚ cost_of net flows
+repeated net flows time = time *ℚ flow_value net flows -ℚ cost_of net flows
 
 -- `time` is the time by which the repeated flow delivers the amount; a flow of value 0 has no such time.
 pub record IsTimeOf (net : Network) (amount : ℚ) (flows : List ℚ) (time : ℚ) : Type 0 where
-  pub some : 0ℚ <ℚ value_of net flows
+  pub some : 0ℚ <ℚ flow_value net flows
   pub comes : repeated net flows time ≡ amount
 
 -- `length` is below the time of the flow, if the flow has a time.

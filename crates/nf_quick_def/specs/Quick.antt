@@ -101,25 +101,25 @@ module _ (passes : Passing) (net : Network) (amount : ℚ) where
     Ok (record { time = time; walks = walks; cut = cut; value = value })
 
 -- The quickest flow, or the pushed walks if the budget is exceeded.
-pub data QuickAnswer : Type 0 where
-  FoundQuick : Quick → QuickAnswer
-  Budget : List Augment → QuickAnswer
+pub data QuickOutcome : Type 0 where
+  FoundQuick : Quick → QuickOutcome
+  Budget : List Augment → QuickOutcome
 
 -- The result for the amount 0: time 0, no walks, a cut of zeros.
 abbrev pub nothing : Network → Quick
 nothing net = record { time = 0ℚ; walks = []; cut = replicate net.nodes 0ℚ; value = 0ℚ }
 
 module _ (passes : Passing) (net : Network) (amount : ℚ) where
-  abbrev pub answer_list : Pushed → Checked QuickAnswer
+  abbrev pub answer_list : Pushed → Checked QuickOutcome
   answer_list (OverBudget pushed) = Ok (Budget pushed)
   answer_list (Done s) = do
     quick ← finish_list passes net amount s.flows (unwrap_or s.time 0ℚ)
     Ok (FoundQuick quick)
 
-  abbrev pub quickest_of : Bool → ℕ → Checked QuickAnswer
+  abbrev pub quickest_of : Bool → ℕ → Checked QuickOutcome
   quickest_of true augments = Ok (FoundQuick (nothing net))
   quickest_of false augments = push_up_to passes net amount augments (start_of net) >>= answer_list
 
   -- The definition has a meaning only for networks in which each walk from source to sink has a link with a capacity.
-  unfoldable pub quickest_list : ℕ → Checked QuickAnswer
+  unfoldable pub quickest_list : ℕ → Checked QuickOutcome
   quickest_list augments = quickest_of (le_ℚ amount 0ℚ) augments

@@ -42,14 +42,14 @@ pub use Rattle.nf_model_laws.proofs.Sums.{
 pub use Rattle.nf_model_laws.proofs.Ways.{distinct_more, distinct_none, few_below, way_back}
 pub use Rattle.nf_quick_def.specs.Answers.{AreLeastLengths, IsFedWithin, IsQuickFlow, IsRoom, IsShortest, IsShortestWalk}
 pub use Rattle.nf_quick_def.specs.Cuts.{node_times_list, value_list}
-pub use Rattle.nf_quick_def.specs.Flows.{IsSound, cost_from, cost_of, value_of}
+pub use Rattle.nf_quick_def.specs.Flows.{IsSound, cost_from, cost_of, flow_value}
 pub use Rattle.nf_quick_def.specs.NodeTimes.{AreNodeTimes, IsCandidate, IsNodeTime}
 pub use Rattle.nf_quick_def.specs.Order.{AreFewerOrFirst, AreFirst, IsAtMost, Reach, are_before, are_fewer_or_before, is_better}
 pub use Rattle.nf_quick_def.specs.Pushed.{IsPushed, crossed}
 pub use Rattle.nf_quick_def.specs.Pushes.{push_list, push_step}
 pub use Rattle.nf_quick_def.specs.Rounds.{Known, Walk, along, along_step, better_of, capacity_of, distances_list, known_at, lesser, offered, op_of, room_after, room_along, shortest_list}
 pub use Rattle.nf_quick_def.specs.Shortest.{HasRoom, HasRoomAlong, HasRoomOn, IsFirstWalk, IsLeastLength, reach_of}
-pub use Rattle.nf_quick_def.specs.Steps.{IsLimited, IsResidualWalk, IsUnboundedWalk, Leads, Step, begin_of, can_go, end_of, is_below, place, signed, step_length, walk_length}
+pub use Rattle.nf_quick_def.specs.Steps.{IsLimited, IsResidualWalk, IsUnboundedWalk, Leads, Step, begin_of, can_go, end_of, is_below, place, directed, step_length, walk_length}
 pub use Rattle.nf_quick_def.specs.Through.{cost_along, rate_of, through, through_walk}
 pub use Rattle.nf_quick_def.specs.Walks.{first_out, head_of, least_along, take_link, take_list, walk_and, walks_off, way_from, way_out}
 pub use Rattle.nf_quick_laws.specs.ResidualLaws.{EachHasLeast, IsFoundAt, IsPush, NoneNegative}

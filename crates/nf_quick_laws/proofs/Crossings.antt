@@ -5,7 +5,7 @@ use Rattle.nf_rational_laws.proofs.Facts.{term_and_none}
 use Rattle.nf_rational_laws.proofs.Signs.{first_is_zero}
 use Rattle.nf_quick_laws.proofs.Common.{eqb_tells, ℚ, 0ℚ, 1ℚ, ◌+ℚ◌, ◌-ℚ◌, ◌*ℚ◌, reading_of, eq, eq_times, linear_eq, both_are_zero, first_and_zero}
 use Rattle.nf_quick_laws.proofs.Common.{term_and_zero, zero_of_zero_times, same_terms, same_differences, same_sums, Link, Network, sum_in, sum_out, sum_in-same}
-use Rattle.nf_quick_laws.proofs.Common.{sum_out-same, sum_in-none, sum_out-none, transit_of-is, only_at, out_less_in, Step, begin_of, end_of, signed, Leads}
+use Rattle.nf_quick_laws.proofs.Common.{sum_out-same, sum_in-none, sum_out-none, transit_of-is, only_at, out_less_in, Step, begin_of, end_of, directed, Leads}
 use Rattle.nf_quick_laws.proofs.Common.{IsResidualWalk, step_length, walk_length, cost_from, crossed, same_Some}
 use Rattle.nf_quick_laws.proofs.Apart.{EachStep, Takes, AreApart}
 
@@ -30,7 +30,7 @@ pub record IsTaken (P : Step → Type 0) (walk : List Step) (e : ℕ) : Type 0 w
   pub step : Step
   pub holds : P step
   pub link : step.link ≡ e
-  pub once : crossed walk e ≡ signed step.forward 1ℚ
+  pub once : crossed walk e ≡ directed step.forward 1ℚ
 
 pub crossed-cases : (P : Step → Type 0) (walk : List Step) (e : ℕ) → AreApart walk → EachStep P walk → (crossed walk e ≡ 0ℚ) ⊎ IsTaken P walk e
 crossed-cases P [] e apart each = inl refl
@@ -126,9 +126,9 @@ cost_from-same (link ∷ links) f g h = same_terms link.transit _ _ _ _ (h 0) (c
 
 -- ---- one step
 abbrev pub stepped : Step → ℕ → ℚ
-stepped step e = if eqb step.link e then signed step.forward 1ℚ else 0ℚ
+stepped step e = if eqb step.link e then directed step.forward 1ℚ else 0ℚ
 
-stepped-here : (step : Step) → stepped step step.link ≡ signed step.forward 1ℚ
+stepped-here : (step : Step) → stepped step step.link ≡ directed step.forward 1ℚ
 stepped-here step = ⊎_elim
     (λ (w : (eqb step.link step.link ≡ true) × (step.link ≡ step.link)). choose _ _ _ w.0)
     (λ (w : (eqb step.link step.link ≡ false) × (step.link ≢ step.link)). absurd (w.1 refl)) (eqb_tells step.link step.link)
@@ -138,7 +138,7 @@ stepped-else step e h = ⊎_elim
     (λ (w : (eqb step.link e ≡ true) × (step.link ≡ e)). absurd (h w.1))
     (λ (w : (eqb step.link e ≡ false) × (step.link ≢ e)). choose_not _ _ _ w.0) (eqb_tells step.link e)
 
-sign_balance : (d s t : Bool) → (if s then signed d 1ℚ else 0ℚ) -ℚ (if t then signed d 1ℚ else 0ℚ)
+sign_balance : (d s t : Bool) → (if s then directed d 1ℚ else 0ℚ) -ℚ (if t then directed d 1ℚ else 0ℚ)
     ≡ (if (if d then s else t) then 1ℚ else 0ℚ) -ℚ (if (if d then t else s) then 1ℚ else 0ℚ)
 sign_balance true s t = refl
 sign_balance false true true = linear_eq [] [] (search reading_of) tt tt
@@ -163,7 +163,7 @@ stepped-balance net flows step x y v l =
     ∙ sign_balance step.forward (eqb l.link.tail v) (eqb l.link.head v) ∙ at_ends step.forward l.link v
     ∙ same_differences _ _ _ _ (ap (λ (k : ℕ). only_at k 1ℚ v) l.begins) (ap (λ (k : ℕ). only_at k 1ℚ v) l.ends)
 
-times_sign : (d : Bool) (r : ℚ) → r *ℚ signed d 1ℚ ≡ signed d r
+times_sign : (d : Bool) (r : ℚ) → r *ℚ directed d 1ℚ ≡ directed d r
 times_sign true r = linear_eq (r ∷ []) [] (search reading_of) tt tt
 times_sign false r = linear_eq (r ∷ []) [] (search reading_of) tt tt
 
@@ -171,7 +171,7 @@ stepped-cost : (net : Network) (flows : List ℚ) (step : Step) (x y : ℕ) → 
 stepped-cost net flows step x y l =
     cost_from-only net.links (stepped step) step.link l.link l.is_link (stepped-else step)
     ∙ ap (λ (z : ℚ). l.link.transit *ℚ z) (stepped-here step) ∙ times_sign step.forward l.link.transit
-    ∙ ap (λ (r : ℚ). signed step.forward r) (sym (transit_of-is net step.link l.link l.is_link))
+    ∙ ap (λ (r : ℚ). directed step.forward r) (sym (transit_of-is net step.link l.link l.is_link))
 
 -- ---- a walk
 less_plus : (a b c d : ℚ) (s t : ℚ) → s ≡ a +ℚ b → t ≡ c +ℚ d → s -ℚ t ≡ (a -ℚ c) +ℚ (b -ℚ d)

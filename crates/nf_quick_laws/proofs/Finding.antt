@@ -1,7 +1,7 @@
 -- Round by round: after k rounds the known path of each node is a residual walk, and is at most each walk of at most k steps.
 use Rattle.std.proofs.Common.{◌≡◌, ◌≢◌, ℕ, zero, suc, ◌+◌, ◌<◌, ◌≤◌, List, [], ◌∷◌, ◌++◌, length, ◌⊎◌, inl, inr, ⊎_elim, Bool, true, false, eqb, Option, Some, None, slice_get, Ok, replicate, sym, ap, subst, refl, ◌∙◌, arith, length-append}
 use Rattle.nf_quick_laws.proofs.Common.{eqb_tells, length-set, length-replicate, ℚ, 0ℚ, ◌+ℚ◌, reading_of, eq, linear_eq, Passing, result_of, number_at, Link}
-use Rattle.nf_quick_laws.proofs.Common.{Network, IsLink, IsNetwork, transit_of-is, Step, begin_of, end_of, signed, can_go, Leads, IsResidualWalk, step_length}
+use Rattle.nf_quick_laws.proofs.Common.{Network, IsLink, IsNetwork, transit_of-is, Step, begin_of, end_of, directed, can_go, Leads, IsResidualWalk, step_length}
 use Rattle.nf_quick_laws.proofs.Common.{walk_length, Reach, IsAtMost, reach_of, same_Some, same_Ok}
 use Rattle.nf_quick_def.specs.Rounds.{Known, known_at, op_of, steps_from, round_list, rounds_list, first_known}
 use Rattle.nf_quick_laws.proofs.ResidualWalks.{IsResidualWalk-append, IsResidualWalk-one, walk_length-append}
@@ -41,13 +41,13 @@ in-steps k (l ∷ links) (suc e) link d p =
 abbrev pub longer : Network → Reach → Step → Reach
 longer net b step = record { distance = b.distance +ℚ step_length net step; steps = b.steps ++ step ∷ [] }
 
-by_sign : (d : Bool) (x r : ℚ) → result_of (op_of d) x r ≡ x +ℚ signed d r
+by_sign : (d : Bool) (x r : ℚ) → result_of (op_of d) x r ≡ x +ℚ directed d r
 by_sign true x r = refl
 by_sign false x r = linear_eq (x ∷ r ∷ []) [] (search reading_of) tt tt
 
 pub extended-is : (net : Network) (b : Reach) (step : Step) (link : Link) → IsLink net step.link link → extended b step link ≡ longer net b step
 extended-is net b step link p = ap (λ (z : ℚ). record { distance = z; steps = b.steps ++ step ∷ [] })
-    (by_sign step.forward b.distance link.transit ∙ ap (λ (r : ℚ). b.distance +ℚ signed step.forward r) (sym (transit_of-is net step.link link p)))
+    (by_sign step.forward b.distance link.transit ∙ ap (λ (r : ℚ). b.distance +ℚ directed step.forward r) (sym (transit_of-is net step.link link p)))
 
 pub record IsRound (net : Network) (flows : List ℚ) (before next : Known) : Type 0 where
   pub count : length next ≡ length before

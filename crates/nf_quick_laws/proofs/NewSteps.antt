@@ -4,7 +4,7 @@ use Rattle.nf_rational_laws.proofs.Facts.{moved_by_one}
 use Rattle.nf_quick_laws.proofs.Common.{same_Some, append-nil, ℚ, 0ℚ, 1ℚ, ◌+ℚ◌, ◌-ℚ◌, ◌*ℚ◌, ◌≤ℚ◌, ◌<ℚ◌, lt_ℚ, reading_of, less_of_test, le, lt, eq, eq_times}
 use Rattle.nf_quick_laws.proofs.Common.{linear_le, linear_eq, moved_by_zero, zero_not_above, number_at, Link, Network, IsLink, IsNetwork, hops, sum_in, sum_out}
 use Rattle.nf_quick_laws.proofs.Common.{transit_of, sum_in-same, sum_out-same, sum_in-none, sum_in-line, sum_out-line, only_at, only_at-here, only_at-else}
-use Rattle.nf_quick_laws.proofs.Common.{Step, begin_of, end_of, signed, can_go, Leads, IsResidualWalk, step_length, walk_length, IsSound, value_of, cost_of}
+use Rattle.nf_quick_laws.proofs.Common.{Step, begin_of, end_of, directed, can_go, Leads, IsResidualWalk, step_length, walk_length, IsSound, flow_value, cost_of}
 use Rattle.nf_quick_laws.proofs.Common.{IsLeastLength, IsFirstWalk, HasRoomAlong, HasRoom, HasRoomOn, crossed, IsPushed, EachHasLeast}
 use Rattle.nf_quick_laws.proofs.ResidualWalks.{Leads-turn}
 use Rattle.nf_quick_laws.proofs.Potentials.{ArePotentials, ArePotentials-walk, ArePotentials-between, ArePotentials-least, IsLeastLength-one}
@@ -34,11 +34,11 @@ same_nn : (x y : ℚ) → 0ℚ ≤ℚ x → y ≡ x → 0ℚ ≤ℚ y
 same_nn x y h e = linear_le (x ∷ y ∷ []) (le h ∷ eq e ∷ []) (search reading_of) tt
 
 -- By the direction in which the link is used.
-new_nn : (d : Bool) (capacity : Option ℚ) (x y c a : ℚ) → 0ℚ ≤ℚ x → 0ℚ <ℚ a → c ≡ signed d 1ℚ → y ≡ x +ℚ c *ℚ a → HasRoomAlong d capacity x a → 0ℚ ≤ℚ y
+new_nn : (d : Bool) (capacity : Option ℚ) (x y c a : ℚ) → 0ℚ ≤ℚ x → 0ℚ <ℚ a → c ≡ directed d 1ℚ → y ≡ x +ℚ c *ℚ a → HasRoomAlong d capacity x a → 0ℚ ≤ℚ y
 new_nn true capacity x y c a h k e f room = more_nn x y a h k (moved_by_one x y c a e f)
 new_nn false capacity x y c a h k e f room = less_nn x y a room (shrinks x y c a e f)
 
-new_within : (d : Bool) (capacity : Option ℚ) (x y c a most : ℚ) → capacity ≡ Some most → x ≤ℚ most → 0ℚ <ℚ a → c ≡ signed d 1ℚ → y ≡ x +ℚ c *ℚ a → HasRoomAlong d capacity x a
+new_within : (d : Bool) (capacity : Option ℚ) (x y c a most : ℚ) → capacity ≡ Some most → x ≤ℚ most → 0ℚ <ℚ a → c ≡ directed d 1ℚ → y ≡ x +ℚ c *ℚ a → HasRoomAlong d capacity x a
     → y ≤ℚ most
 new_within true None x y c a most p h k e f room = absurd (cc)
 new_within true (Some capacity) x y c a most p h k e f room = more_within x y a most (subst (λ (m : ℚ). x +ℚ a ≤ℚ m) (same_Some capacity most p) room) (moved_by_one x y c a e f)
@@ -51,7 +51,7 @@ same_ways false true = inr (λ e. cc)
 same_ways false false = inl refl
 
 -- The length of a backward step.
-turned_length : (c d : Bool) (r : ℚ) → (c ≡ d → ⊥) → signed c r ≡ 0ℚ -ℚ signed d r
+turned_length : (c d : Bool) (r : ℚ) → (c ≡ d → ⊥) → directed c r ≡ 0ℚ -ℚ directed d r
 turned_length true true r h = absurd (h refl)
 turned_length true false r h = linear_eq (r ∷ []) [] (search reading_of) tt tt
 turned_length false true r h = refl
@@ -188,7 +188,7 @@ module _ (net : Network) (flows new : List ℚ) (walk : List Step) (amount : ℚ
       )
     where
       length_back : (step : Step) (t : IsTurned step) → step_length net step ≡ 0ℚ -ℚ step_length net t.back
-      length_back step t = ap (λ (k : ℕ). signed step.forward (transit_of (hops net) k)) (sym t.link) ∙ turned_length step.forward t.back.forward _ (λ e. t.other (sym e))
+      length_back step t = ap (λ (k : ℕ). directed step.forward (transit_of (hops net) k)) (sym t.link) ∙ turned_length step.forward t.back.forward _ (λ e. t.other (sym e))
 
   -- The least lengths before the push are still potentials.
   pub fits_new : ArePotentials net new At
@@ -273,8 +273,8 @@ module _ (net : Network) (flows new : List ℚ) (walk : List Step) (amount : ℚ
   none_in : (xs : List ℚ) → ((e : ℕ) (link : Link) → IsLink net e link → link.head ≡ net.source → number_at xs e ≡ 0ℚ) → sum_in net.links (number_at xs) net.source ≡ 0ℚ
   none_in xs h = sum_in-same net.links (number_at xs) (λ _. 0ℚ) net.source (λ e link p at. h e link p at) ∙ sum_in-none net.links net.source
 
-  pub value_of-pushed : value_of net new ≡ value_of net flows +ℚ amount
-  value_of-pushed = value_more _ _ _ _ _ _ (only_at net.source 1ℚ net.source) (only_at net.sink 1ℚ net.source) amount (out_new net.source) (in_new net.source)
+  pub flow_value-pushed : flow_value net new ≡ flow_value net flows +ℚ amount
+  flow_value-pushed = value_more _ _ _ _ _ _ (only_at net.source 1ℚ net.source) (only_at net.sink 1ℚ net.source) amount (out_new net.source) (in_new net.source)
       (none_in flows sound.into_source) (none_in new into_source) (crossed-balance net flows walk net.source net.sink net.source first.is_walk)
       (only_at-here net.source 1ℚ) (only_at-else net.sink 1ℚ net.source (λ e. good.apart (sym e)))
 

@@ -2,7 +2,7 @@
 use Rattle.std.proofs.Common.{◌≡◌, ◌≢◌, ℕ, zero, suc, ◌<◌, List, [], ◌∷◌, length, ◌⊎◌, inl, inr, ⊎_elim, Bool, true, false, if◌then◌else◌, eqb, Option, Some, None, unwrap_or, option_map, Ok, set, sym, ap, subst, refl, ◌∙◌, arith}
 use Rattle.nf_quick_laws.proofs.Common.{eqb_tells, length-set, ℚ, 0ℚ, 1ℚ, ◌+ℚ◌, ◌-ℚ◌, ◌*ℚ◌, ◌≤ℚ◌, ◌<ℚ◌, reading_of, less_of_test, le, eq, eq_times, linear_le}
 use Rattle.nf_quick_laws.proofs.Common.{linear_eq, Passing, result_of, Checked, checked, fold_checked, Difference, checked-is, number_at, Link, Network, IsLink}
-use Rattle.nf_quick_laws.proofs.Common.{Step, begin_of, end_of, signed, can_go, IsResidualWalk, IsUnboundedWalk, HasRoomAlong, HasRoom, HasRoomOn, op_of}
+use Rattle.nf_quick_laws.proofs.Common.{Step, begin_of, end_of, directed, can_go, IsResidualWalk, IsUnboundedWalk, HasRoomAlong, HasRoom, HasRoomOn, op_of}
 use Rattle.nf_quick_laws.proofs.Common.{lesser, capacity_of, room_along, room_after, IsPushed, ≤ℚ_refl, ≤ℚ_trans, min_left, min_right, min_keeps, same_Ok}
 use Rattle.nf_quick_laws.proofs.Common.{plus_zero_times, less_ps}
 use Rattle.nf_quick_def.specs.Pushes.{push_step, push_list}
@@ -24,7 +24,7 @@ number_at-else (y ∷ xs) (suc v) zero x h = refl
 number_at-else (y ∷ xs) (suc v) (suc w) x h = number_at-else xs v w x (λ e. h (ap suc e))
 
 -- ---- a push
-moved : (d : Bool) (x a : ℚ) → result_of (op_of d) x a ≡ x +ℚ signed d 1ℚ *ℚ a
+moved : (d : Bool) (x a : ℚ) → result_of (op_of d) x a ≡ x +ℚ directed d 1ℚ *ℚ a
 moved true x a = linear_eq (x ∷ a ∷ []) [] (search reading_of) tt tt
 moved false x a = linear_eq (x ∷ a ∷ []) [] (search reading_of) tt tt
 
@@ -39,10 +39,10 @@ one_more x y z s c a e f = linear_eq (x ∷ y ∷ z ∷ s ∷ c ∷ a ∷ []) (e
 
 module _ (passes : Passing) (amount : ℚ) where
   after_step : (flows : List ℚ) (step : Step) (z : ℚ) → step.link < length flows → z ≡ result_of (op_of step.forward) (number_at flows step.link) amount → (e : ℕ)
-      → number_at (set flows step.link z) e ≡ number_at flows e +ℚ (if eqb step.link e then signed step.forward 1ℚ else 0ℚ) *ℚ amount
+      → number_at (set flows step.link z) e ≡ number_at flows e +ℚ (if eqb step.link e then directed step.forward 1ℚ else 0ℚ) *ℚ amount
   after_step flows step z h is e = ⊎_elim
       (λ (w : (eqb step.link e ≡ true) × (step.link ≡ e)).
-      subst (λ (k : ℕ). number_at (set flows step.link z) k ≡ number_at flows k +ℚ (if eqb step.link e then signed step.forward 1ℚ else 0ℚ) *ℚ amount) w.1
+      subst (λ (k : ℕ). number_at (set flows step.link z) k ≡ number_at flows k +ℚ (if eqb step.link e then directed step.forward 1ℚ else 0ℚ) *ℚ amount) w.1
       (number_at-set flows step.link z h ∙ is ∙ moved step.forward (number_at flows step.link) amount ∙ same_moved _ amount _ _ (choose (eqb step.link e) _ _ w.0)))
       (λ (w : (eqb step.link e ≡ false) × (step.link ≢ e)). number_at-else flows step.link e z w.1 ∙ none_moved _ amount _ (choose_not (eqb step.link e) _ _ w.0))
       (eqb_tells step.link e)

@@ -3,7 +3,7 @@ use Rattle.std.proofs.Common.{◌≡◌, ℕ, List, [], ◌∷◌, length, Bool,
 use Rattle.nf_model.proofs.Entries.{number_at-zeros}
 use Rattle.nf_quick_laws.proofs.Common.{length-replicate, ℚ, 0ℚ, ◌≤ℚ◌, ◌<ℚ◌, ≤ℚ_of_lt, ≤ℚ_of_same, nn_plus, less_of_test, test_of_less, number_at, Hop, IsWalk}
 use Rattle.nf_quick_laws.proofs.Common.{transit_of, Link, Network, IsLink, IsNetwork, hops, hop_of, sum_out, sum_in-same, sum_out-same, sum_in-none}
-use Rattle.nf_quick_laws.proofs.Common.{sum_out-none, transit_of-is, link_at, Step, signed, is_below, can_go, IsResidualWalk, walk_length, IsSound, value_of}
+use Rattle.nf_quick_laws.proofs.Common.{sum_out-none, transit_of-is, link_at, Step, directed, is_below, can_go, IsResidualWalk, walk_length, IsSound, flow_value}
 use Rattle.nf_quick_laws.proofs.Common.{cost_of, ≤ℚ_refl, zero_not_above}
 use Rattle.nf_quick_laws.proofs.Crossings.{cost_from-none}
 
@@ -21,7 +21,7 @@ module _ (net : Network) (good : IsNetwork net) where
   pub walk_nn : (walk : List Step) (v w : ℕ) → IsResidualWalk net zeros walk v w → 0ℚ ≤ℚ walk_length net walk
   walk_nn [] v w p = ≤ℚ_refl 0ℚ
   walk_nn (step ∷ walk) v w p = nn_plus _ _
-      (subst (λ (d : Bool). 0ℚ ≤ℚ signed d (transit_of (hops net) step.link)) (sym (no_way_back step.forward p.1.link.capacity (number_at zeros step.link) (none step.link) p.1.goes))
+      (subst (λ (d : Bool). 0ℚ ≤ℚ directed d (transit_of (hops net) step.link)) (sym (no_way_back step.forward p.1.link.capacity (number_at zeros step.link) (none step.link) p.1.goes))
       (subst (λ (r : ℚ). 0ℚ ≤ℚ r) (sym (transit_of-is net step.link p.1.link p.1.is_link)) (good.transits step.link p.1.link p.1.is_link)))
       (walk_nn walk p.0 w p.2)
 
@@ -41,8 +41,8 @@ module _ (net : Network) (good : IsNetwork net) where
     out_of_sink = λ e link p h. none e;
   }
 
-  pub value_of-zeros : value_of net zeros ≡ 0ℚ
-  value_of-zeros = sum_out-zeros net.source
+  pub flow_value-zeros : flow_value net zeros ≡ 0ℚ
+  flow_value-zeros = sum_out-zeros net.source
 
   pub cost_of-zeros : cost_of net zeros ≡ 0ℚ
   cost_of-zeros = cost_from-none net.links (number_at zeros) none

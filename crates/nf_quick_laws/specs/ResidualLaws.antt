@@ -6,7 +6,7 @@ use Rattle.nf_rational.specs.Order.{◌≤ℚ◌, ◌<ℚ◌}
 use Rattle.nf_frac_def.specs.Passing.{Passing}
 use Rattle.nf_model.specs.Network.{Network, IsNetwork}
 use Rattle.nf_quick_def.specs.Steps.{Step, IsResidualWalk, walk_length, IsLimited}
-use Rattle.nf_quick_def.specs.Flows.{IsSound, value_of, cost_of}
+use Rattle.nf_quick_def.specs.Flows.{IsSound, flow_value, cost_of}
 use Rattle.nf_quick_def.specs.Order.{Reach}
 use Rattle.nf_quick_def.specs.Rounds.{Known, known_at, Walk, reaches_list, distances_list, shortest_list}
 use Rattle.nf_quick_def.specs.Pushes.{push_list}
@@ -44,7 +44,7 @@ pub record PushKeepsSound : Type 0 where
   pub sound : (net : Network) (flows new : List ℚ) (walk : List Step) (amount : ℚ) → IsNetwork net → IsPush net flows new walk amount
       → IsSound net new
   pub value : (net : Network) (flows new : List ℚ) (walk : List Step) (amount : ℚ) → IsNetwork net → IsPush net flows new walk amount
-      → value_of net new ≡ value_of net flows +ℚ amount
+      → flow_value net new ≡ flow_value net flows +ℚ amount
   pub cost : (net : Network) (flows new : List ℚ) (walk : List Step) (amount : ℚ) → IsNetwork net → IsPush net flows new walk amount
       → cost_of net new ≡ cost_of net flows +ℚ walk_length net walk *ℚ amount
   pub later : (net : Network) (flows new : List ℚ) (walk other : List Step) (amount : ℚ) → IsNetwork net → IsPush net flows new walk amount

@@ -13,7 +13,7 @@ use Rattle.nf_frac_def.specs.declared.PassedAt.{PassedAt}
 use Rattle.nf_frac_def.specs.Checked.{Checked, at_part, ◌>>=◌}
 use Rattle.nf_model.specs.Network.{Piece, Network, ArePieces, supplied}
 use Rattle.nf_model_laws.proofs.Supply.{StartsRise-pieces}
-use Rattle.nf_net.specs.Supply.{with_piece, checked_supply}
+use Rattle.nf_net.specs.Supply.{plus_piece, checked_supply}
 use Rattle.nf_net.proofs.Supplied.{value_supplied}
 use Rattle.nf_quick_def.specs.Departures.{within_piece, last_piece, by_next, departs, departure_of, departure_list, IsDeparture}
 use Rattle.nf_quick_laws.proofs.Departing.{IsBefore, rate_before_next, before_next, before_first, IsDeparture-list}
@@ -128,17 +128,17 @@ module _ (passes : Passing) (net : Network) (amount : ℚ) (good : ArePieces net
       n = next_of (slice_get net.pieces (k + 1)) start follows
 
       -- The supply by the next start continues the supply by this start.
-      from_start : supply_at n.0.start ≡ with_piece passes known piece start
+      from_start : supply_at n.0.start ≡ plus_piece passes known piece start
       from_start =
           supply_goes_on passes net.pieces k piece n.0 0ℚ (StartsRise-pieces net.pieces good) is (ap (λ (i : ℕ). slice_get net.pieces i) (sym (add-one k)) ∙ n.1)
-          ∙ ap (λ (r : Checked ℚ). r >>= λ x. with_piece passes x piece n.0.start) (comes.supply piece is) ∙ ap (λ (t : ℚ). with_piece passes known piece t) n.2
+          ∙ ap (λ (r : Checked ℚ). r >>= λ x. plus_piece passes x piece n.0.start) (comes.supply piece is) ∙ ap (λ (t : ℚ). plus_piece passes known piece t) n.2
 
-      pub next_passes : (p : PassedAt ℚ) → Err p ≡ at_part Part.Quick (with_piece passes known piece start) → Err p ≡ at_part Part.Quick (departs passes supply_at amount 0ℚ net.pieces)
+      pub next_passes : (p : PassedAt ℚ) → Err p ≡ at_part Part.Quick (plus_piece passes known piece start) → Err p ≡ at_part Part.Quick (departs passes supply_at amount 0ℚ net.pieces)
       next_passes p e = sym (supply_passes known k comes piece is n.0 n.1 p (ap (at_part Part.Quick) from_start ∙ sym e))
 
-      module _ (u : ℚ) (gives : Ok u ≡ at_part Part.Quick (with_piece passes known piece start)) where
+      module _ (u : ℚ) (gives : Ok u ≡ at_part Part.Quick (plus_piece passes known piece start)) where
         supplied_by : supply_at n.0.start ≡ Ok u
-        supplied_by = from_start ∙ ok_of_part (with_piece passes known piece start) u (sym gives)
+        supplied_by = from_start ∙ ok_of_part (plus_piece passes known piece start) u (sym gives)
 
         pub rate_is_some : le_ℚ amount u ≡ true → 0ℚ <ℚ piece.rate
         rate_is_some t = has_rate known k comes piece is n.0 n.1 u supplied_by t

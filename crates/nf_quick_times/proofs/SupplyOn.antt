@@ -16,7 +16,7 @@ use Rattle.nf_frac_def.specs.Checked.{Checked, ◌>>=◌}
 use Rattle.nf_frac_def.proofs.Binding.{bind_same, bind_end}
 use Rattle.nf_model.specs.Network.{Piece}
 use Rattle.nf_model_laws.proofs.Supply.{StartsRise}
-use Rattle.nf_net.specs.Supply.{end_before, with_piece, supplied_after}
+use Rattle.nf_net.specs.Supply.{end_before, plus_piece, supplied_after}
 use Rattle.nf_residual.proofs.LegByLeg.{bind_more}
 
 at_or_after : (q : Piece) (later : List Piece) (k : ℕ) (piece : Piece) → StartsRise (q ∷ later) → slice_get (q ∷ later) k ≡ Some piece → q.start ≤ℚ piece.start
@@ -28,7 +28,7 @@ module _ (passes : Passing) where
   -- A piece that starts before the time, or not, and then the later pieces.
   abbrev from_piece : Bool → ℚ → Piece → List Piece → ℚ → Checked ℚ
   from_piece b so_far p later time =
-      if b then (with_piece passes so_far p (end_before later time) >>= λ sum. supplied_after passes sum later time) else supplied_after passes so_far later time
+      if b then (plus_piece passes so_far p (end_before later time) >>= λ sum. supplied_after passes sum later time) else supplied_after passes so_far later time
 
   -- Pieces that start at the time or later supply nothing by then.
   none_yet : (p : Piece) (later : List Piece) (time so_far : ℚ) → StartsRise (p ∷ later) → time ≤ℚ p.start → supplied_after passes so_far (p ∷ later) time ≡ Ok so_far
@@ -38,35 +38,35 @@ module _ (passes : Passing) where
 
   -- The whole amount of a piece that ends before the time.
   whole_piece : (p q : Piece) (later : List Piece) (time so_far : ℚ) → p.start <ℚ time → q.start ≤ℚ time
-      → supplied_after passes so_far (p ∷ q ∷ later) time ≡ (with_piece passes so_far p q.start >>= λ sum. supplied_after passes sum (q ∷ later) time)
+      → supplied_after passes so_far (p ∷ q ∷ later) time ≡ (plus_piece passes so_far p q.start >>= λ sum. supplied_after passes sum (q ∷ later) time)
   whole_piece p q later time so_far h k =
       ap (λ (b : Bool). from_piece b so_far p (q ∷ later) time) (test_of_less p.start time h)
-      ∙ ap (λ (end : ℚ). with_piece passes so_far p end >>= λ sum. supplied_after passes sum (q ∷ later) time) (min_is_right time q.start k)
+      ∙ ap (λ (end : ℚ). plus_piece passes so_far p end >>= λ sum. supplied_after passes sum (q ∷ later) time) (min_is_right time q.start k)
 
   pub supply_goes_on : (pieces : List Piece) (k : ℕ) (piece next : Piece) (so_far : ℚ) → StartsRise pieces → slice_get pieces k ≡ Some piece → slice_get pieces (suc k) ≡ Some next
-      → supplied_after passes so_far pieces next.start ≡ (supplied_after passes so_far pieces piece.start >>= λ known. with_piece passes known piece next.start)
+      → supplied_after passes so_far pieces next.start ≡ (supplied_after passes so_far pieces piece.start >>= λ known. plus_piece passes known piece next.start)
   supply_goes_on [] k piece next so_far s e f = absurd (cc)
   supply_goes_on (p ∷ []) k piece next so_far s e f = absurd (cc)
   supply_goes_on (p ∷ q ∷ later) zero piece next so_far s e f =
       subst (λ (n : Piece). supplied_after passes so_far (p ∷ q ∷ later) n.start
-      ≡ (supplied_after passes so_far (p ∷ q ∷ later) piece.start >>= λ known. with_piece passes known piece n.start)) (same_Some q next f)
+      ≡ (supplied_after passes so_far (p ∷ q ∷ later) piece.start >>= λ known. plus_piece passes known piece n.start)) (same_Some q next f)
       (subst (λ (a : Piece). supplied_after passes so_far (p ∷ q ∷ later) q.start
-      ≡ (supplied_after passes so_far (p ∷ q ∷ later) a.start >>= λ known. with_piece passes known a q.start)) (same_Some p piece e) first)
+      ≡ (supplied_after passes so_far (p ∷ q ∷ later) a.start >>= λ known. plus_piece passes known a q.start)) (same_Some p piece e) first)
     where
-      first : supplied_after passes so_far (p ∷ q ∷ later) q.start ≡ (supplied_after passes so_far (p ∷ q ∷ later) p.start >>= λ known. with_piece passes known p q.start)
+      first : supplied_after passes so_far (p ∷ q ∷ later) q.start ≡ (supplied_after passes so_far (p ∷ q ∷ later) p.start >>= λ known. plus_piece passes known p q.start)
       first =
           whole_piece p q later q.start so_far s.0 (≤ℚ_refl q.start)
-          ∙ bind_same (with_piece passes so_far p q.start) (λ sum. supplied_after passes sum (q ∷ later) q.start) (λ sum. Ok sum)
+          ∙ bind_same (plus_piece passes so_far p q.start) (λ sum. supplied_after passes sum (q ∷ later) q.start) (λ sum. Ok sum)
           (λ sum. none_yet q later q.start sum s.1 (≤ℚ_refl q.start))
-          ∙ bind_end (with_piece passes so_far p q.start)
-          ∙ ap (λ (r : Checked ℚ). r >>= λ known. with_piece passes known p q.start) (sym (none_yet p (q ∷ later) p.start so_far s (≤ℚ_refl p.start)))
+          ∙ bind_end (plus_piece passes so_far p q.start)
+          ∙ ap (λ (r : Checked ℚ). r >>= λ known. plus_piece passes known p q.start) (sym (none_yet p (q ∷ later) p.start so_far s (≤ℚ_refl p.start)))
   supply_goes_on (p ∷ q ∷ later) (suc k) piece next so_far s e f =
       let to_piece : q.start ≤ℚ piece.start = at_or_after q later k piece s.1 e in
       let to_next : q.start ≤ℚ next.start = at_or_after q later (suc k) next s.1 f in
       whole_piece p q later next.start so_far (before p.start q.start next.start s.0 to_next) to_next
-      ∙ bind_more (with_piece passes so_far p q.start) (λ sum. supplied_after passes sum (q ∷ later) piece.start) (λ known. with_piece passes known piece next.start)
+      ∙ bind_more (plus_piece passes so_far p q.start) (λ sum. supplied_after passes sum (q ∷ later) piece.start) (λ known. plus_piece passes known piece next.start)
       (λ sum. supplied_after passes sum (q ∷ later) next.start) (λ sum. supply_goes_on (q ∷ later) k piece next sum s.1 e f)
-      ∙ ap (λ (r : Checked ℚ). r >>= λ known. with_piece passes known piece next.start)
+      ∙ ap (λ (r : Checked ℚ). r >>= λ known. plus_piece passes known piece next.start)
       (sym (whole_piece p q later piece.start so_far (before p.start q.start piece.start s.0 to_piece) to_piece))
     where
       before : (x y z : ℚ) → x <ℚ y → y ≤ℚ z → x <ℚ z

@@ -6,7 +6,7 @@ ghost use Rattle.nf_rational.specs.Order.{◌≤ℚ◌, ◌<ℚ◌, lt_ℚ};
 ghost use Rattle.nf_frac_def.specs.declared.Part.TheVariants.{Quick};
 ghost use Rattle.nf_frac_def.specs.Passing.{passes_Q};
 ghost use Rattle.nf_frac_def.specs.Checked.{Checked, at_part};
-ghost use Rattle.nf_net.specs.Supply.{with_piece as with_piece_by, checked_supply};
+ghost use Rattle.nf_net.specs.Supply.{plus_piece as with_piece_by, checked_supply};
 ghost use Rattle.nf_quick_def.specs.Departures.{within_piece, last_piece, departs as departs_by, departure_list, IsDeparture};
 
 use nf_frac::{Part, PassedAt, Q};

@@ -7,7 +7,7 @@ use Rattle.nf_rational.specs.Rational.{ℚ}
 use Rattle.nf_rational_laws.proofs.Results.{not_both}
 use Rattle.nf_model.specs.Network.{Link, Network, IsLink, IsNetwork}
 use Rattle.nf_quick_def.specs.Steps.{IsUnboundedWalk}
-use Rattle.nf_quick_walks.specs.Ways.{Ways, way_at, leads_on, LeadsToNew, NoneLeadsOn, AreWays, AreAllWays}
+use Rattle.nf_quick_walks.specs.Ways.{Ways, walk_to, leads_on, LeadsToNew, NoneLeadsOn, AreWays, AreAllWays}
 
 -- ---- the number of nodes without a walk
 abbrev pub unknown : Ways → ℕ
@@ -15,7 +15,7 @@ unknown [] = 0
 unknown (None ∷ ways) = suc (unknown ways)
 unknown (Some way ∷ ways) = unknown ways
 
-pub fewer_unknown : (ways : Ways) (v : ℕ) (way : List ℕ) → v < length ways → way_at ways v ≡ None → unknown (set ways v (Some way)) < unknown ways
+pub fewer_unknown : (ways : Ways) (v : ℕ) (way : List ℕ) → v < length ways → walk_to ways v ≡ None → unknown (set ways v (Some way)) < unknown ways
 fewer_unknown [] v way h e = absurd (omega arith)
 fewer_unknown (None ∷ ways) zero way h e = omega arith
 fewer_unknown (Some x ∷ ways) zero way h e = absurd (cc)
@@ -23,19 +23,19 @@ fewer_unknown (None ∷ ways) (suc v) way h e = let more : unknown (set ways v (
 fewer_unknown (Some x ∷ ways) (suc v) way h e = fewer_unknown ways v way (omega arith) e
 
 -- ---- an entry is set
-at_same : (ways : Ways) (v : ℕ) (o : Option (List ℕ)) → v < length ways → way_at (set ways v o) v ≡ o
+at_same : (ways : Ways) (v : ℕ) (o : Option (List ℕ)) → v < length ways → walk_to (set ways v o) v ≡ o
 at_same [] v o h = absurd (omega arith)
 at_same (x ∷ ways) zero o h = refl
 at_same (x ∷ ways) (suc v) o h = at_same ways v o (omega arith)
 
-at_other : (ways : Ways) (v u : ℕ) (o : Option (List ℕ)) → (v ≡ u → ⊥) → way_at (set ways v o) u ≡ way_at ways u
+at_other : (ways : Ways) (v u : ℕ) (o : Option (List ℕ)) → (v ≡ u → ⊥) → walk_to (set ways v o) u ≡ walk_to ways u
 at_other [] v u o n = refl
 at_other (x ∷ ways) zero zero o n = absurd (n refl)
 at_other (x ∷ ways) zero (suc u) o n = refl
 at_other (x ∷ ways) (suc v) zero o n = refl
 at_other (x ∷ ways) (suc v) (suc u) o n = at_other ways v u o (λ e. n (ap suc e))
 
-at_none : (n v : ℕ) → way_at (replicate n None) v ≡ None
+at_none : (n v : ℕ) → walk_to (replicate n None) v ≡ None
 at_none zero v = refl
 at_none (suc n) zero = refl
 at_none (suc n) (suc v) = at_none n v
@@ -52,22 +52,22 @@ no_some o way e f = cc
 record Leading (ways : Ways) (link : Link) : Type 0 where
   unbounded : link.capacity ≡ None
   way : List ℕ
-  tail : way_at ways link.tail ≡ Some way
-  head : way_at ways link.head ≡ None
+  tail : walk_to ways link.tail ≡ Some way
+  head : walk_to ways link.head ≡ None
 
 is_leading : (ways : Ways) (link : Link) → leads_on ways link ≡ true → Leading ways link
-is_leading ways link e = parts link.capacity (way_at ways link.tail) (way_at ways link.head) refl refl refl e
+is_leading ways link e = parts link.capacity (walk_to ways link.tail) (walk_to ways link.head) refl refl refl e
   where
-    parts : (c : Option ℚ) (t h : Option (List ℕ)) → link.capacity ≡ c → way_at ways link.tail ≡ t → way_at ways link.head ≡ h
+    parts : (c : Option ℚ) (t h : Option (List ℕ)) → link.capacity ≡ c → walk_to ways link.tail ≡ t → walk_to ways link.head ≡ h
         → (is_none c && (is_some t && not (is_some h))) ≡ true → Leading ways link
     parts None (Some way) None p q r e = record { unbounded = p; way = way; tail = q; head = r }
     parts None (Some way) (Some other) p q r e = absurd (cc)
     parts None None h p q r e = absurd (cc)
     parts (Some c) t h p q r e = absurd (cc)
 
-leads : (ways : Ways) (link : Link) (way : List ℕ) → link.capacity ≡ None → way_at ways link.tail ≡ Some way → way_at ways link.head ≡ None → leads_on ways link ≡ true
-leads ways link way p q r = ap (λ (c : Option ℚ). is_none c && (is_some (way_at ways link.tail) && not (is_some (way_at ways link.head)))) p
-    ∙ ap (λ (t : Option (List ℕ)). is_some t && not (is_some (way_at ways link.head))) q ∙ ap (λ (h : Option (List ℕ)). not (is_some h)) r
+leads : (ways : Ways) (link : Link) (way : List ℕ) → link.capacity ≡ None → walk_to ways link.tail ≡ Some way → walk_to ways link.head ≡ None → leads_on ways link ≡ true
+leads ways link way p q r = ap (λ (c : Option ℚ). is_none c && (is_some (walk_to ways link.tail) && not (is_some (walk_to ways link.head)))) p
+    ∙ ap (λ (t : Option (List ℕ)). is_some t && not (is_some (walk_to ways link.head))) q ∙ ap (λ (h : Option (List ℕ)). not (is_some h)) r
 
 -- ---- a walk extended by an unbounded link
 link_more : (net : Network) (walk : List ℕ) (v e : ℕ) (link : Link) → IsUnboundedWalk net walk v link.tail → IsLink net e link → link.capacity ≡ None
@@ -87,12 +87,12 @@ module _ (net : Network) (good : IsNetwork net) where
         (eqb_tells net.source v);
   })
     where
-      there : way_at (set (replicate net.nodes None) net.source (Some [])) net.source ≡ Some []
+      there : walk_to (set (replicate net.nodes None) net.source (Some [])) net.source ≡ Some []
       there = at_same (replicate net.nodes None) net.source (Some []) (subst (λ (n : ℕ). net.source < n) (sym (length-replicate net.nodes None)) good.source)
 
-      only : (v : ℕ) (way : List ℕ) → net.source ≡ v → way_at (set (replicate net.nodes None) net.source (Some [])) v ≡ Some way → IsUnboundedWalk net way net.source v
+      only : (v : ℕ) (way : List ℕ) → net.source ≡ v → walk_to (set (replicate net.nodes None) net.source (Some [])) v ≡ Some way → IsUnboundedWalk net way net.source v
       only v way same f =
-          let none : ◌≡◌ {A = Option (List ℕ)} (Some []) (Some way) = sym there ∙ ap (λ (u : ℕ). way_at (set (replicate net.nodes None) net.source (Some [])) u) same ∙ f in
+          let none : ◌≡◌ {A = Option (List ℕ)} (Some []) (Some way) = sym there ∙ ap (λ (u : ℕ). walk_to (set (replicate net.nodes None) net.source (Some [])) u) same ∙ f in
           let is : [] ≡ way = cc in subst (λ (w : List ℕ). IsUnboundedWalk net w net.source v) is same
 
   module _ (ways : Ways) (are : AreWays net ways) (e : ℕ) (on : LeadsToNew net ways e) (link : Link) (is : IsLink net e link) where
@@ -105,7 +105,7 @@ module _ (net : Network) (good : IsNetwork net) where
     pub head_below : link.head < length ways
     head_below = subst (λ (n : ℕ). link.head < n) (sym are.count) (good.heads e link is)
 
-    module _ (longer : List ℕ) (long : (way : List ℕ) → way_at ways link.tail ≡ Some way → longer ≡ way ++ e ∷ []) (at : ℕ) (at_head : at ≡ link.head) where
+    module _ (longer : List ℕ) (long : (way : List ℕ) → walk_to ways link.tail ≡ Some way → longer ≡ way ++ e ∷ []) (at : ℕ) (at_head : at ≡ link.head) where
       is_longer : IsUnboundedWalk net longer net.source link.head
       is_longer = subst (λ (w : List ℕ). IsUnboundedWalk net w net.source link.head) (sym (long leading.way leading.tail))
           (link_more net leading.way net.source e link (are.walks link.tail leading.way leading.tail) is leading.unbounded)
@@ -119,7 +119,7 @@ module _ (net : Network) (good : IsNetwork net) where
         source = (
           are.source.0,
           at_other ways link.head net.source (Some longer)
-              (λ (h : link.head ≡ net.source). no_some _ are.source.0 (ap (λ (v : ℕ). way_at ways v) (sym h) ∙ leading.head) are.source.1) ∙ are.source.1,
+              (λ (h : link.head ≡ net.source). no_some _ are.source.0 (ap (λ (v : ℕ). walk_to ways v) (sym h) ∙ leading.head) are.source.1) ∙ are.source.1,
         );
         walks = λ v way f. ⊎_elim
             (λ (w : (eqb link.head v ≡ true) × (link.head ≡ v)). new v way w.1 f)
@@ -127,26 +127,26 @@ module _ (net : Network) (good : IsNetwork net) where
             (eqb_tells link.head v);
       })
         where
-          new : (v : ℕ) (way : List ℕ) → link.head ≡ v → way_at (set ways link.head (Some longer)) v ≡ Some way → IsUnboundedWalk net way net.source v
+          new : (v : ℕ) (way : List ℕ) → link.head ≡ v → walk_to (set ways link.head (Some longer)) v ≡ Some way → IsUnboundedWalk net way net.source v
           new v way same f =
               let one : ◌≡◌ {A = Option (List ℕ)} (Some longer) (Some way) = sym (at_same ways link.head (Some longer) head_below)
-              ∙ ap (λ (u : ℕ). way_at (set ways link.head (Some longer)) u) same ∙ f in
+              ∙ ap (λ (u : ℕ). walk_to (set ways link.head (Some longer)) u) same ∙ f in
               let w : longer ≡ way = cc in
               subst (λ (l : List ℕ). IsUnboundedWalk net l net.source v) w (subst (λ (u : ℕ). IsUnboundedWalk net longer net.source u) same is_longer)
 
   -- ---- if no link leads to a new node, all walks are known
   module _ (ways : Ways) (none : NoneLeadsOn net ways) where
-    next : (link : Link) (e v : ℕ) (way : List ℕ) → way_at ways v ≡ Some way → IsLink net e link → link.capacity ≡ None → link.tail ≡ v
-        → (other : List ℕ) × (way_at ways link.head ≡ Some other)
+    next : (link : Link) (e v : ℕ) (way : List ℕ) → walk_to ways v ≡ Some way → IsLink net e link → link.capacity ≡ None → link.tail ≡ v
+        → (other : List ℕ) × (walk_to ways link.head ≡ Some other)
     next link e v way known is free begins = ⊎_elim
-        (λ (h : way_at ways link.head ≡ None). absurd (not_both (leads_on ways link) (leads ways link way free (ap (λ (u : ℕ). way_at ways u) begins ∙ known) h) (none e link is)))
-        (λ (h : (other : List ℕ) × (way_at ways link.head ≡ Some other)). h)
-        (known_or (way_at ways link.head))
+        (λ (h : walk_to ways link.head ≡ None). absurd (not_both (leads_on ways link) (leads ways link way free (ap (λ (u : ℕ). walk_to ways u) begins ∙ known) h) (none e link is)))
+        (λ (h : (other : List ℕ) × (walk_to ways link.head ≡ Some other)). h)
+        (known_or (walk_to ways link.head))
 
-    reached : (walk : List ℕ) (v w : ℕ) (way : List ℕ) → way_at ways v ≡ Some way → IsUnboundedWalk net walk v w → (other : List ℕ) × (way_at ways w ≡ Some other)
-    reached [] v w way known p = (way, ap (λ (u : ℕ). way_at ways u) (sym p) ∙ known)
+    reached : (walk : List ℕ) (v w : ℕ) (way : List ℕ) → walk_to ways v ≡ Some way → IsUnboundedWalk net walk v w → (other : List ℕ) × (walk_to ways w ≡ Some other)
+    reached [] v w way known p = (way, ap (λ (u : ℕ). walk_to ways u) (sym p) ∙ known)
     reached (e ∷ walk) v w way known p =
-        let n : (other : List ℕ) × (way_at ways p.0.head ≡ Some other) = next p.0 e v way known p.1 p.2 p.3 in
+        let n : (other : List ℕ) × (walk_to ways p.0.head ≡ Some other) = next p.0 e v way known p.1 p.2 p.3 in
         reached walk p.0.head w n.0 n.1 p.4
 
     pub all_known : AreWays net ways → AreAllWays net ways

@@ -1,7 +1,7 @@
 // Walks of unbounded links from source to sink.
 ghost use Rattle.std.specs.Prelude.{◌≡◌, ℕ, ◌<◌, List, [], ◌∷◌, ◌++◌, length, set, replicate, Some, None, is_some, IfOk, MatchOption};
 ghost use Rattle.nf_quick_def.specs.Steps.{IsUnboundedWalk, IsLimited};
-ghost use Rattle.nf_quick_walks.specs.Ways.{way_at, leads_on as leads_on_by, LeadsToNew, NoneLeadsOn, AreAllWays};
+ghost use Rattle.nf_quick_walks.specs.Ways.{walk_to, leads_on as leads_on_by, LeadsToNew, NoneLeadsOn, AreAllWays};
 
 use nf_graph::NodeId;
 use nf_net::{Link, LinkId, Network};
@@ -28,7 +28,7 @@ impl Model for Way {
 // Returns whether a walk to the node is known.
 fn is_known(ways: &[Option<Way>], node: NodeId) -> bool
     requires { node < length ways.now }
-    ensures { result ≡ is_some (way_at ways.now node) }
+    ensures { result ≡ is_some (walk_to ways.now node) }
 {
     ways[node.index()].is_some()
 }
@@ -67,7 +67,7 @@ fn longer(
 ) -> Result<Way, AllocError>
     requires { node < length ways.now }
     ensures { IfOk result
-        (λ longer. (way : List ℕ) → way_at ways.now node ≡ Some way → longer ≡ way ++ link ∷ []) }
+        (λ longer. (way : List ℕ) → walk_to ways.now node ≡ Some way → longer ≡ way ++ link ∷ []) }
 {
     let mut links = Vec::new(alloc);
     if let Some(way) = &ways[node.index()] {

@@ -6,7 +6,7 @@ ghost use Rattle.nf_edge.specs.Writing.{state_of, Wrote};
 ghost use Rattle.nf_model.specs.Equilibrium.{HasShape};
 ghost use Rattle.nf_net_def.specs.Report.{IsWellFormed, report_text};
 ghost use Rattle.nf_report_def.specs.ReportFile.{report_in};
-ghost use Rattle.nf_curve.specs.Flows.{flow_of};
+ghost use Rattle.nf_curve.specs.Flows.{seen_flow};
 ghost use Rattle.nf_report_pages.specs.Pages.{GatheredLines};
 ghost use Rattle.nf_report.specs.Parts.{head_lines, body_lines};
 
@@ -56,10 +56,10 @@ fn put_body<O: Sink>(
     flow: &Flow,
     last: &Pattern,
 ) -> Result<(), SinkFault>
-    requires shape { HasShape net.now.net (flow_of flow.now) }
+    requires shape { HasShape net.now.net (seen_flow flow.now) }
     requires states { length last.now ≡ length net.now.net.links }
     ensures { GatheredLines (state_of O.Sink out.old) (state_of O.Sink out.new) page.old page.new
-        (body_lines net.now (flow_of flow.now) last.now) result }
+        (body_lines net.now (seen_flow flow.now) last.now) result }
 {
     put_flow(out, page, net, flow)?;
     put_states(out, page, net, last)?;
@@ -80,14 +80,14 @@ pub fn write_report<O: Sink>(
     out: &mut O,
 ) -> Result<(), SinkFault>
     requires { IsWellFormed net.now.net
-        (record { horizon = horizon; flow = flow_of flow.now; stop = option_copied stopped; last = last.now }) }
+        (record { horizon = horizon; flow = seen_flow flow.now; stop = option_copied stopped; last = last.now }) }
     ensures wrote { Wrote (state_of O.Sink out.old) (state_of O.Sink out.new) (report_text net.now
-        (record { horizon = horizon; flow = flow_of flow.now; stop = option_copied stopped.entry; last = last.now }))
+        (record { horizon = horizon; flow = seen_flow flow.now; stop = option_copied stopped.entry; last = last.now }))
         result }
     ensures reads_back { report_in net.now
         (report_text net.now
-        (record { horizon = horizon; flow = flow_of flow.now; stop = option_copied stopped.entry; last = last.now }))
-        ≡ Ok (record { horizon = horizon; flow = flow_of flow.now; stop = option_copied stopped.entry; last = last.now }) }
+        (record { horizon = horizon; flow = seen_flow flow.now; stop = option_copied stopped.entry; last = last.now }))
+        ≡ Ok (record { horizon = horizon; flow = seen_flow flow.now; stop = option_copied stopped.entry; last = last.now }) }
 {
     // Proof: all numbers and counts of the report can be read.
     written_reads_back(net, horizon, flow, stopped, last);

@@ -35,8 +35,8 @@ part_of word = first_named word (
     (codes "slack", Slack) ∷ (codes "table", Table) ∷ (codes "verdict", Verdict) ∷ (codes "extend", Extend) ∷ (codes "advance", Advance)
     ∷ (codes "curve", Curve) ∷ (codes "load", Load) ∷ (codes "check", Check) ∷ (codes "quick", Quick) ∷ [])
 
-abbrev pub op_of : List ℕ → Option Op
-op_of word = first_named word
+abbrev pub op_of_word : List ℕ → Option Op
+op_of_word word = first_named word
     ((codes "sum", Sum) ∷ (codes "difference", Difference) ∷ (codes "product", Product) ∷ (codes "quotient", Quotient) ∷ [])
 
 -- returns a value, or the broken rule if the value is missing
@@ -78,7 +78,7 @@ passed_cause (phase ∷ part ∷ place ∷ op ∷ left ∷ right ∷ []) = do
   left ← or_rule P8 (printed_number left)
   right ← or_rule P8 (printed_number right)
   part ← or_rule P9 (part_of part)
-  op ← or_rule P9 (op_of op)
+  op ← or_rule P9 (op_of_word op)
   Ok (Some (Passed phase place (record { part = part; op = op; left = left; right = right })))
 passed_cause words = Err P6
 

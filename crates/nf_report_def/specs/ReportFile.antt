@@ -38,14 +38,14 @@ report_draft n [] = Err (record { rule = P4; line = 1 })
 report_draft n (line ∷ rest) = report_lines_from n (empty_report n) (line ∷ rest)
 
 -- ---- the report that the parser state gives
-abbrev pub curves_of : Kind → List ReadCurve → List ReadCurve
-curves_of kind curves = filter (λ curve. bytes_eq (key_word curve.key.kind) (key_word kind)) curves
+abbrev pub curves_of_kind : Kind → List ReadCurve → List ReadCurve
+curves_of_kind kind curves = filter (λ curve. bytes_eq (key_word curve.key.kind) (key_word kind)) curves
 
 abbrev pub points_read : Kind → List ReadCurve → List (List Point)
-points_read kind curves = map (λ curve. curve.points) (curves_of kind curves)
+points_read kind curves = map (λ curve. curve.points) (curves_of_kind kind curves)
 
 abbrev pub traces_read : Kind → List ReadCurve → List Trace
-traces_read kind curves = map (λ curve. record { points = curve.points; rates = curve.rates }) (curves_of kind curves)
+traces_read kind curves = map (λ curve. record { points = curve.points; rates = curve.rates }) (curves_of_kind kind curves)
 
 abbrev pub report_of_draft : ReportDraft → Report
 report_of_draft draft = record {

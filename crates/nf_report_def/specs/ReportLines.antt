@@ -103,9 +103,9 @@ abbrev pub version_line : Named → ReportDraft → List (List ℕ) → Result R
 version_line n draft words = if is_version n words then Ok (record draft { stage = AtHorizon }) else Err P4
 
 -- returns the words after a keyword
-abbrev pub behind : List ℕ → List (List ℕ) → Result (List (List ℕ)) ReportRule
-behind key [] = Err P5
-behind key (word ∷ words) = if bytes_eq word key then Ok words else Err P5
+abbrev pub after_keyword : List ℕ → List (List ℕ) → Result (List (List ℕ)) ReportRule
+after_keyword key [] = Err P5
+after_keyword key (word ∷ words) = if bytes_eq word key then Ok words else Err P5
 
 abbrev pub number_alone : List (List ℕ) → Result ℚ ReportRule
 number_alone (word ∷ []) = or_rule P8 (printed_number word)
@@ -113,19 +113,19 @@ number_alone words = Err P6
 
 abbrev pub horizon_line : ReportDraft → List (List ℕ) → Result ReportDraft ReportRule
 horizon_line draft words = do
-  rest ← behind (codes "horizon") words
+  rest ← after_keyword (codes "horizon") words
   horizon ← number_alone rest
   if lt_ℚ horizon 0ℚ then Err P10 else Ok (record draft { stage = AtReached; horizon = horizon })
 
 abbrev pub reached_line : ReportDraft → List (List ℕ) → Result ReportDraft ReportRule
 reached_line draft words = do
-  rest ← behind (codes "reached") words
+  rest ← after_keyword (codes "reached") words
   reached ← number_alone rest
   if lt_ℚ reached 0ℚ || lt_ℚ draft.horizon reached then Err P10 else Ok (record draft { stage = AtCause; reached = reached })
 
 abbrev pub cause_line : ReportDraft → List (List ℕ) → Result ReportDraft ReportRule
 cause_line draft words = do
-  rest ← behind (codes "cause") words
+  rest ← after_keyword (codes "cause") words
   stop ← cause_in rest
   if are_alike (is_none stop) (is_same draft.reached draft.horizon) then Ok (record draft { stage = InBody; stop = stop }) else Err P10
 

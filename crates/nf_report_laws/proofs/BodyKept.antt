@@ -1,7 +1,7 @@
 -- Each line after the head leads to a parser state whose lines are those read so far.
 use Rattle.std.proofs.Common.{◌≡◌, ◌⊎◌, inl, inr, ⊎_elim, ℕ, zero, suc, ◌<◌, ◌≤◌, ◌==◌, Bool, true, false, not, ◌||◌, nat_lt, List, [], ◌∷◌, ◌++◌, length, flat_map, set, Option, Some, None, Result, Ok, Err, refl, sym, ap, subst, ◌∙◌, codes, arith, append_assoc, append-nil}
 use Rattle.nf_report_laws.proofs.Common.{length-set, AllByRecursion, ltb-false, or_parts, not-false, ℚ, State, Tight, Full, Zero, Link, IsLink, Pattern}
-use Rattle.nf_report_laws.proofs.Common.{HasState, Name, has_name, place_of, name_at, Named, state_word, state_line, place_below, name_at-place, ReportRule, P3}
+use Rattle.nf_report_laws.proofs.Common.{HasState, Name, has_name, place_of, name_at, Named, state_word, written_state, place_below, name_at-place, ReportRule, P3}
 use Rattle.nf_report_laws.proofs.Common.{P5, P6, P7, P9, P13, P14, or_rule, Kind, OfLabel, OfNever, OfInflow, OfOutflow, OfQueue, CurveKey, key_word}
 use Rattle.nf_report_laws.proofs.Common.{curve_keys, Stage, InBody, AtEnd, ReportDraft, begins_with, with_current, has_all, state_in, state_of_link}
 use Rattle.nf_report_laws.proofs.Common.{capacity_of, capacity_at, end_line, LineKind, OfCurve, OfState, OfEnd, never_kinds, line_kind, line_of_kind, body_line}
@@ -23,7 +23,7 @@ Blank (suc k) (s ∷ states) = Blank k states
 pub blank_lines : (names : List Name) (states : Pattern) → Blank 0 states → state_lines_of names states ≡ []
 blank_lines [] states h = refl
 blank_lines (name ∷ names) [] h = refl
-blank_lines (name ∷ names) (s ∷ states) h = λ i. state_line name (h.0 i) ++ blank_lines names states h.1 i
+blank_lines (name ∷ names) (s ∷ states) h = λ i. written_state name (h.0 i) ++ blank_lines names states h.1 i
 
 state_added : (names : List Name) (states : Pattern) (e : ℕ) (state : State) (k : ℕ) → Blank k states → k ≤ e → e < length states → length states ≡ length names
     → state_lines_of names (set states e (Some state)) ≡ state_lines_of names states ++ (codes "state" ∷ name_at names e ∷ state_word state ∷ []) ∷ []
@@ -31,12 +31,12 @@ state_added names [] e state k h low below c = absurd (omega arith)
 state_added [] (s ∷ states) e state k h low below c = absurd (omega arith)
 state_added (name ∷ names) (s ∷ states) zero state zero h low below c =
     ap (λ l. (codes "state" ∷ name ∷ state_word state ∷ []) ∷ l) (blank_lines names states h.1)
-    ∙ sym (λ i. state_line name (h.0 i) ++ blank_lines names states h.1 i ++ (codes "state" ∷ name ∷ state_word state ∷ []) ∷ [])
+    ∙ sym (λ i. written_state name (h.0 i) ++ blank_lines names states h.1 i ++ (codes "state" ∷ name ∷ state_word state ∷ []) ∷ [])
 state_added (name ∷ names) (s ∷ states) zero state (suc k) h low below c = absurd (omega arith)
 state_added (name ∷ names) (s ∷ states) (suc e) state zero h low below c =
-    ap (λ l. state_line name s ++ l) (state_added names states e state zero h.1 (omega arith) (omega arith) (omega arith)) ∙ sym (append_assoc (state_line name s) (state_lines_of names states) ((codes "state" ∷ name_at names e ∷ state_word state ∷ []) ∷ []))
+    ap (λ l. written_state name s ++ l) (state_added names states e state zero h.1 (omega arith) (omega arith) (omega arith)) ∙ sym (append_assoc (written_state name s) (state_lines_of names states) ((codes "state" ∷ name_at names e ∷ state_word state ∷ []) ∷ []))
 state_added (name ∷ names) (s ∷ states) (suc e) state (suc k) h low below c =
-    ap (λ l. state_line name s ++ l) (state_added names states e state k h (omega arith) (omega arith) (omega arith)) ∙ sym (append_assoc (state_line name s) (state_lines_of names states) ((codes "state" ∷ name_at names e ∷ state_word state ∷ []) ∷ []))
+    ap (λ l. written_state name s ++ l) (state_added names states e state k h (omega arith) (omega arith) (omega arith)) ∙ sym (append_assoc (written_state name s) (state_lines_of names states) ((codes "state" ∷ name_at names e ∷ state_word state ∷ []) ∷ []))
 
 blank_set : (states : Pattern) (e : ℕ) (state : Option State) (k : ℕ) → Blank k states → k ≤ e → Blank (suc e) (set states e state)
 blank_set [] e state k h low = tt

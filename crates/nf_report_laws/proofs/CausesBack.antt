@@ -1,7 +1,7 @@
 -- The words of a cause are read as that cause, and nothing else is.
 use Rattle.std.proofs.Common.{◌≡◌, ℕ, List, [], ◌∷◌, Option, Some, None, Ok, refl, sym, ap, subst, ◌∙◌, codes}
 use Rattle.nf_report_laws.proofs.Common.{ℚ, ◌>>=◌, digits_of, count_of, printed, Cause, part_word, op_word, count_word, cause_words, P6, P8, P9, or_rule}
-use Rattle.nf_report_laws.proofs.Common.{printed_number, place_in, part_of, op_of, done_cause, phases_cause, patterns_cause, passed_cause, nopattern_cause}
+use Rattle.nf_report_laws.proofs.Common.{printed_number, place_in, part_of, op_of_word, done_cause, phases_cause, patterns_cause, passed_cause, nopattern_cause}
 use Rattle.nf_report_laws.proofs.Common.{CauseKind, IsDone, IsPhases, IsPatterns, IsPassed, IsNoPattern, cause_kind, cause_of_kind, cause_in, IsCount}
 use Rattle.nf_report_laws.proofs.Common.{IsReadableCause, same_Ok}
 use Rattle.nf_frac_def.specs.declared.Op.{Op}
@@ -29,13 +29,13 @@ part_is word part e = named_is part_word word (
     ∷ (codes "curve", Curve) ∷ (codes "load", Load) ∷ (codes "check", Check) ∷ (codes "quick", Quick) ∷ []) part
     (refl, (refl, (refl, (refl, (refl, (refl, (refl, (refl, (refl, tt))))))))) e
 
-op_back : (op : Op) → op_of (op_word op) ≡ Some op
+op_back : (op : Op) → op_of_word (op_word op) ≡ Some op
 op_back Sum = refl
 op_back Difference = refl
 op_back Product = refl
 op_back Quotient = refl
 
-op_is : (word : List ℕ) (op : Op) → op_of word ≡ Some op → word ≡ op_word op
+op_is : (word : List ℕ) (op : Op) → op_of_word word ≡ Some op → word ≡ op_word op
 op_is word op e = named_is op_word word ((codes "sum", Sum) ∷ (codes "difference", Difference) ∷ (codes "product", Product) ∷ (codes "quotient", Quotient) ∷ []) op (refl, (refl, (refl, (refl, tt)))) e
 
 -- ---- forward
@@ -47,17 +47,17 @@ cause_back (Some (Patterns phase tried)) h =
     ∙ ap (λ o. or_rule P8 o >>= λ tried. Ok (Some (Patterns phase tried))) (count_back tried h.1)
 cause_back (Some (Passed phase place at)) h =
     ap (λ o. or_rule P8 o >>= λ phase. (or_rule P8 (place_in (count_word place)) >>= λ place. (or_rule P8 (printed_number (printed at.left)) >>= λ left.
-    (or_rule P8 (printed_number (printed at.right)) >>= λ right. (or_rule P9 (part_of (part_word at.part)) >>= λ part. (or_rule P9 (op_of (op_word at.op)) >>= λ op.
+    (or_rule P8 (printed_number (printed at.right)) >>= λ right. (or_rule P9 (part_of (part_word at.part)) >>= λ part. (or_rule P9 (op_of_word (op_word at.op)) >>= λ op.
     Ok (Some (Passed phase place (record { part = part; op = op; left = left; right = right }))))))))) (count_back phase h.0)
     ∙ ap (λ o. or_rule P8 o >>= λ place. (or_rule P8 (printed_number (printed at.left)) >>= λ left.
-    (or_rule P8 (printed_number (printed at.right)) >>= λ right. (or_rule P9 (part_of (part_word at.part)) >>= λ part. (or_rule P9 (op_of (op_word at.op)) >>= λ op.
+    (or_rule P8 (printed_number (printed at.right)) >>= λ right. (or_rule P9 (part_of (part_word at.part)) >>= λ part. (or_rule P9 (op_of_word (op_word at.op)) >>= λ op.
     Ok (Some (Passed phase place (record { part = part; op = op; left = left; right = right })))))))) (place_back place h.1)
     ∙ ap (λ o. or_rule P8 o >>= λ left.
-    (or_rule P8 (printed_number (printed at.right)) >>= λ right. (or_rule P9 (part_of (part_word at.part)) >>= λ part. (or_rule P9 (op_of (op_word at.op)) >>= λ op.
+    (or_rule P8 (printed_number (printed at.right)) >>= λ right. (or_rule P9 (part_of (part_word at.part)) >>= λ part. (or_rule P9 (op_of_word (op_word at.op)) >>= λ op.
     Ok (Some (Passed phase place (record { part = part; op = op; left = left; right = right }))))))) (number_back at.left h.2)
-    ∙ ap (λ o. or_rule P8 o >>= λ right. (or_rule P9 (part_of (part_word at.part)) >>= λ part. (or_rule P9 (op_of (op_word at.op)) >>= λ op.
+    ∙ ap (λ o. or_rule P8 o >>= λ right. (or_rule P9 (part_of (part_word at.part)) >>= λ part. (or_rule P9 (op_of_word (op_word at.op)) >>= λ op.
     Ok (Some (Passed phase place (record { part = part; op = op; left = at.left; right = right })))))) (number_back at.right h.3)
-    ∙ ap (λ o. or_rule P9 o >>= λ part. (or_rule P9 (op_of (op_word at.op)) >>= λ op.
+    ∙ ap (λ o. or_rule P9 o >>= λ part. (or_rule P9 (op_of_word (op_word at.op)) >>= λ op.
     Ok (Some (Passed phase place (record { part = part; op = op; left = at.left; right = at.right }))))) (part_back at.part)
     ∙ ap (λ o. or_rule P9 o >>= λ op.
     Ok (Some (Passed phase place (record { part = at.part; op = op; left = at.left; right = at.right })))) (op_back at.op)
@@ -103,13 +103,13 @@ passed_is (phase ∷ part ∷ place ∷ op ∷ left ∷ right ∷ []) stop e =
     let w2 = both_ok (or_rule P8 (printed_number left)) _ stop w1.next in
     let w3 = both_ok (or_rule P8 (printed_number right)) _ stop w2.next in
     let w4 = both_ok (or_rule P9 (part_of part)) _ stop w3.next in
-    let w5 = both_ok (or_rule P9 (op_of op)) _ stop w4.next in
+    let w5 = both_ok (or_rule P9 (op_of_word op)) _ stop w4.next in
     let k0 = count_is phase w0.between (or_ok P8 (count_of phase) w0.between w0.first) in
     let k1 = place_is place w1.between (or_ok P8 (place_in place) w1.between w1.first) in
     let k2 = number_is left w2.between (or_ok P8 (printed_number left) w2.between w2.first) in
     let k3 = number_is right w3.between (or_ok P8 (printed_number right) w3.between w3.first) in
     let k4 = part_is part w4.between (or_ok P9 (part_of part) w4.between w4.first) in
-    let k5 = op_is op w5.between (or_ok P9 (op_of op) w5.between w5.first) in
+    let k5 = op_is op w5.between (or_ok P9 (op_of_word op) w5.between w5.first) in
     subst (Says (codes "passed" ∷ phase ∷ part ∷ place ∷ op ∷ left ∷ right ∷ [])) (same_Ok _ stop w5.next)
     ((λ i. codes "passed" ∷ k0.0 i ∷ k4 i ∷ k1.0 i ∷ k5 i ∷ k2.0 i ∷ k3.0 i ∷ []), (k0.1, k1.1, k2.1, k3.1))
 passed_is words stop e = absurd (no_err P6 stop e)

@@ -11,7 +11,7 @@ pub use Rattle.nf_model.specs.declared.State.TheVariants.{Full, Tight, Zero}
 pub use Rattle.nf_net_def.specs.Causes.{cause_words, count_word, op_word, part_word}
 pub use Rattle.nf_net_def.specs.Named.{Named, ends, names_of}
 pub use Rattle.nf_net_def.specs.Names.{Name, has_name, is_name, name_at, place_of, with_names, without}
-pub use Rattle.nf_net_def.specs.Report.{HaveRates, IsWellFormed, Report, point_lines, report_lines, report_text, state_line, state_word, trace_at, trace_lines}
+pub use Rattle.nf_net_def.specs.Report.{HaveRates, IsWellFormed, Report, point_lines, report_lines, report_text, written_state, state_word, trace_at, trace_lines}
 pub use Rattle.nf_net_def.specs.WellNamed.{IsFraction, IsNamed}
 pub use Rattle.nf_net_def.specs.declared.Cause.{Cause}
 pub use Rattle.nf_net_laws.proofs.AcceptedNamed.{every_append}
@@ -37,7 +37,7 @@ pub use Rattle.nf_report_def.specs.ReportCauses.{
   first_named,
   if_printed,
   nopattern_cause,
-  op_of,
+  op_of_word,
   or_rule,
   part_of,
   passed_cause,
@@ -47,7 +47,7 @@ pub use Rattle.nf_report_def.specs.ReportCauses.{
   printed_number,
   some_place,
 }
-pub use Rattle.nf_report_def.specs.ReportFile.{ReportBroken, curves_of, in_report_line, next_words, points_read, report_in, report_lines_from, traces_read}
+pub use Rattle.nf_report_def.specs.ReportFile.{ReportBroken, curves_of_kind, in_report_line, next_words, points_read, report_in, report_lines_from, traces_read}
 pub use Rattle.nf_report_def.specs.ReportLines.{
   AtCause,
   AtEnd,
@@ -73,7 +73,7 @@ pub use Rattle.nf_report_def.specs.ReportLines.{
   are_alike,
   begins_with,
   begun,
-  behind,
+  after_keyword,
   body_line,
   capacity_at,
   capacity_of,

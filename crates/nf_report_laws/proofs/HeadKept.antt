@@ -2,7 +2,7 @@
 use Rattle.std.proofs.Common.{◌≡◌, ◌↔◌, ℕ, Bool, true, false, not, ◌||◌, List, [], ◌∷◌, Option, Some, None, is_none, Ok, refl, sym, ap, subst, ◌∙◌, codes, bytes_eq}
 use Rattle.nf_report_laws.proofs.Common.{ℚ, 0ℚ, ◌≤ℚ◌, lt_ℚ, not_less_of_test, digits_of, printed, Cause, cause_words, Named, IsFraction, same_names, is_same}
 use Rattle.nf_report_laws.proofs.Common.{P4, P5, P6, P8, P10, printed_number, cause_in, AtVersion, AtHorizon, AtReached, AtCause, InBody, AtEnd, ReportDraft}
-use Rattle.nf_report_laws.proofs.Common.{empty_report, are_alike, is_version, behind, number_alone, horizon_line, reached_line, cause_line, IsReadableCause}
+use Rattle.nf_report_laws.proofs.Common.{empty_report, are_alike, is_version, after_keyword, number_alone, horizon_line, reached_line, cause_line, IsReadableCause}
 use Rattle.nf_report_laws.proofs.Common.{and_parts, or_parts, same_Ok, test_of_same, same_of_test}
 use Rattle.nf_report_laws.proofs.Outcomes.{both_ok, no_err, where_true, where_false, or_ok}
 use Rattle.nf_report_laws.proofs.NumbersBack.{number_is}
@@ -21,7 +21,7 @@ version_is n (key ∷ version ∷ []) e =
     λ i. same_names key (codes "report") w.0 i ∷ same_names version (digits_of n.version) w.1 i ∷ []
 version_is n (key ∷ version ∷ more ∷ words) e = absurd (cc)
 
-behind_is : (key : List ℕ) (words rest : List (List ℕ)) → behind key words ≡ Ok rest → words ≡ key ∷ rest
+behind_is : (key : List ℕ) (words rest : List (List ℕ)) → after_keyword key words ≡ Ok rest → words ≡ key ∷ rest
 behind_is key [] rest e = absurd (no_err P5 rest e)
 behind_is key (word ∷ words) rest e =
     let w = where_true (bytes_eq word key) P5 (Ok words) rest e in
@@ -40,7 +40,7 @@ record HorizonIs (draft : ReportDraft) (words : List (List ℕ)) (next : ReportD
 
 horizon_is : (draft : ReportDraft) (words : List (List ℕ)) (next : ReportDraft) → horizon_line draft words ≡ Ok next → HorizonIs draft words next
 horizon_is draft words next e =
-    let w = both_ok (behind (codes "horizon") words) _ next e in
+    let w = both_ok (after_keyword (codes "horizon") words) _ next e in
     let v = both_ok (number_alone w.between) _ next w.next in
     let t = where_false (lt_ℚ v.between 0ℚ) P10 _ next v.next in
     let k = alone_is w.between v.between v.first in
@@ -56,7 +56,7 @@ record ReachedIs (draft : ReportDraft) (words : List (List ℕ)) (next : ReportD
 
 reached_is : (draft : ReportDraft) (words : List (List ℕ)) (next : ReportDraft) → reached_line draft words ≡ Ok next → ReachedIs draft words next
 reached_is draft words next e =
-    let w = both_ok (behind (codes "reached") words) _ next e in
+    let w = both_ok (after_keyword (codes "reached") words) _ next e in
     let v = both_ok (number_alone w.between) _ next w.next in
     let t = where_false (lt_ℚ v.between 0ℚ || lt_ℚ draft.horizon v.between) P10 _ next v.next in
     let s = or_parts (lt_ℚ v.between 0ℚ) (lt_ℚ draft.horizon v.between) t.0 in
@@ -87,7 +87,7 @@ record CauseIs (draft : ReportDraft) (words : List (List ℕ)) (next : ReportDra
 
 cause_line_is : (draft : ReportDraft) (words : List (List ℕ)) (next : ReportDraft) → cause_line draft words ≡ Ok next → CauseIs draft words next
 cause_line_is draft words next e =
-    let w = both_ok (behind (codes "cause") words) _ next e in
+    let w = both_ok (after_keyword (codes "cause") words) _ next e in
     let v = both_ok (cause_in w.between) _ next w.next in
     let t = where_true (are_alike (is_none v.between) (is_same draft.reached draft.horizon)) P10 _ next v.next in
     let k = cause_is w.between v.between v.first in

@@ -1,8 +1,8 @@
 -- The curves of a flow in the order of a report, and the lines of a report by these.
 use Rattle.std.proofs.Common.{◌≡◌, ℕ, zero, suc, ◌+◌, Bool, false, cond, List, [], ◌∷◌, ◌++◌, length, map, filter, flat_map, None, slice_get, unwrap_or, refl, sym, ap, ◌∙◌, codes, bytes_eq, arith, append_assoc, append-nil}
 use Rattle.nf_report_laws.proofs.Common.{AllByRecursion, range_with_len, ℚ, Point, IsCurve, Trace, Flow, points_at, Pattern, digits_of, printed, Name, name_at}
-use Rattle.nf_report_laws.proofs.Common.{Named, cause_words, IsFraction, Report, point_lines, trace_lines, trace_at, state_line, report_lines, Kind, OfLabel}
-use Rattle.nf_report_laws.proofs.Common.{OfNever, OfInflow, OfOutflow, OfQueue, key_word, key_of, ReadCurve, curves_of, points_read, traces_read}
+use Rattle.nf_report_laws.proofs.Common.{Named, cause_words, IsFraction, Report, point_lines, trace_lines, trace_at, written_state, report_lines, Kind, OfLabel}
+use Rattle.nf_report_laws.proofs.Common.{OfNever, OfInflow, OfOutflow, OfQueue, key_word, key_of, ReadCurve, curves_of_kind, points_read, traces_read}
 use Rattle.nf_report_laws.proofs.Common.{AreFractionPoints}
 use Rattle.std.proofs.lemmas.Grind.{flat_map-append}
 use Rattle.std.proofs.lemmas.List.Elements.{filter-append}
@@ -115,18 +115,18 @@ links_by_name (name ∷ names) (i ∷ inflows) (o ∷ outflows) (q ∷ queues) (
 
 -- ---- the lines of states
 abbrev pub state_lines_of : List Name → Pattern → List (List (List ℕ))
-state_lines_of (name ∷ names) (state ∷ states) = state_line name state ++ state_lines_of names states
+state_lines_of (name ∷ names) (state ∷ states) = written_state name state ++ state_lines_of names states
 state_lines_of names states = []
 
 states_by_name : (names : List Name) (pattern : Pattern) (c : ℕ) → length names ≡ c → length pattern ≡ c
-    → flat_map (λ e. state_line (name_at names e) (unwrap_or (slice_get pattern e) None)) (range_with_len 0 c) ≡ state_lines_of names pattern
+    → flat_map (λ e. written_state (name_at names e) (unwrap_or (slice_get pattern e) None)) (range_with_len 0 c) ≡ state_lines_of names pattern
 states_by_name [] pattern zero e f = refl
 states_by_name [] pattern (suc c) e f = absurd (omega arith)
 states_by_name (name ∷ names) [] c e f = absurd (omega arith)
 states_by_name (name ∷ names) (state ∷ pattern) zero e f = absurd (omega arith)
 states_by_name (name ∷ names) (state ∷ pattern) (suc c) e f =
-    ap (λ ls. state_line name state ++ ls)
-    (later_numbers (λ v. state_line (name_at (name ∷ names) v) (unwrap_or (slice_get (state ∷ pattern) v) None)) 0 c
+    ap (λ ls. written_state name state ++ ls)
+    (later_numbers (λ v. written_state (name_at (name ∷ names) v) (unwrap_or (slice_get (state ∷ pattern) v) None)) 0 c
     ∙ states_by_name names pattern c (omega arith) (omega arith))
 
 -- ---- the lines of a report
@@ -157,18 +157,18 @@ lines_by_curves n report h nodes links states =
 
 -- ---- the curves of a kind among them
 
-no_label : (kind : Kind) (names : List Name) (labels : List (List Point)) → bytes_eq (codes "label") (key_word kind) ≡ false → curves_of kind (label_curves names labels) ≡ []
+no_label : (kind : Kind) (names : List Name) (labels : List (List Point)) → bytes_eq (codes "label") (key_word kind) ≡ false → curves_of_kind kind (label_curves names labels) ≡ []
 no_label kind [] labels e = refl
 no_label kind (name ∷ names) [] e = refl
 no_label kind (name ∷ names) (points ∷ labels) e =
-    ap (λ (b : Bool). cond b (plain_curve OfLabel name points ∷ curves_of kind (label_curves names labels)) (curves_of kind (label_curves names labels))) e ∙ no_label kind names labels e
+    ap (λ (b : Bool). cond b (plain_curve OfLabel name points ∷ curves_of_kind kind (label_curves names labels)) (curves_of_kind kind (label_curves names labels))) e ∙ no_label kind names labels e
 
-no_never : (kind : Kind) (names : List Name) → bytes_eq (codes "never") (key_word kind) ≡ false → curves_of kind (never_curves names) ≡ []
+no_never : (kind : Kind) (names : List Name) → bytes_eq (codes "never") (key_word kind) ≡ false → curves_of_kind kind (never_curves names) ≡ []
 no_never kind [] e = refl
 no_never kind (name ∷ names) e =
-    ap (λ (b : Bool). cond b (plain_curve OfNever name [] ∷ curves_of kind (never_curves names)) (curves_of kind (never_curves names))) e ∙ no_never kind names e
+    ap (λ (b : Bool). cond b (plain_curve OfNever name [] ∷ curves_of_kind kind (never_curves names)) (curves_of_kind kind (never_curves names))) e ∙ no_never kind names e
 
-no_link : (names : List Name) (inflows outflows : List Trace) (queues : List (List Point)) → curves_of OfLabel (link_curves names inflows outflows queues) ≡ []
+no_link : (names : List Name) (inflows outflows : List Trace) (queues : List (List Point)) → curves_of_kind OfLabel (link_curves names inflows outflows queues) ≡ []
 no_link [] inflows outflows queues = refl
 no_link (name ∷ names) [] outflows queues = refl
 no_link (name ∷ names) (i ∷ inflows) [] queues = refl
@@ -223,14 +223,14 @@ gives_flow n flow h =
     let a = label_curves n.node_names flow.labels in
     let b = never_curves n.idle_nodes in
     let c = link_curves n.link_names flow.inflows flow.outflows flow.queues in
-    let parts : (kind : Kind) → curves_of kind (a ++ b ++ c) ≡ curves_of kind a ++ curves_of kind b ++ curves_of kind c =
+    let parts : (kind : Kind) → curves_of_kind kind (a ++ b ++ c) ≡ curves_of_kind kind a ++ curves_of_kind kind b ++ curves_of_kind kind c =
     λ kind. filter-append (λ curve. bytes_eq (key_word curve.key.kind) (key_word kind)) (a ++ b) c
-    ∙ ap (λ l. l ++ curves_of kind c) (filter-append (λ curve. bytes_eq (key_word curve.key.kind) (key_word kind)) a b) in
-    let of_links : (kind : Kind) → bytes_eq (codes "label") (key_word kind) ≡ false → bytes_eq (codes "never") (key_word kind) ≡ false → curves_of kind (a ++ b ++ c) ≡ curves_of kind c =
-    λ kind e f. parts kind ∙ (λ i. no_label kind n.node_names flow.labels e i ++ no_never kind n.idle_nodes f i ++ curves_of kind c) in
+    ∙ ap (λ l. l ++ curves_of_kind kind c) (filter-append (λ curve. bytes_eq (key_word curve.key.kind) (key_word kind)) a b) in
+    let of_links : (kind : Kind) → bytes_eq (codes "label") (key_word kind) ≡ false → bytes_eq (codes "never") (key_word kind) ≡ false → curves_of_kind kind (a ++ b ++ c) ≡ curves_of_kind kind c =
+    λ kind e f. parts kind ∙ (λ i. no_label kind n.node_names flow.labels e i ++ no_never kind n.idle_nodes f i ++ curves_of_kind kind c) in
     record {
-      labels = ap (map (λ curve. curve.points)) (parts OfLabel ∙ (λ i. curves_of OfLabel a ++ no_never OfLabel n.idle_nodes refl i ++ no_link n.link_names
-          flow.inflows flow.outflows flow.queues i) ∙ append-nil (curves_of OfLabel a ++ []) ∙ append-nil (curves_of OfLabel a))
+      labels = ap (map (λ curve. curve.points)) (parts OfLabel ∙ (λ i. curves_of_kind OfLabel a ++ no_never OfLabel n.idle_nodes refl i ++ no_link n.link_names
+          flow.inflows flow.outflows flow.queues i) ∙ append-nil (curves_of_kind OfLabel a ++ []) ∙ append-nil (curves_of_kind OfLabel a))
           ∙ the_labels n.node_names flow.labels h.label_count;
       inflows = ap (map (λ curve. record { points = curve.points; rates = curve.rates })) (of_links OfInflow refl refl)
           ∙ the_inflows n.link_names flow.inflows flow.outflows flow.queues h.inflow_count h.outflow_count h.queue_count;

@@ -13,11 +13,11 @@ use Rattle.nf_net_def.specs.declared.Cause.{Cause}
 use Rattle.nf_report_def.specs.declared.ReportRule.{ReportRule}
 use Rattle.nf_report_def.specs.declared.ReportRule.TheVariants.{P5, P10}
 use Rattle.nf_report_def.specs.ReportCauses.{cause_in}
-use Rattle.nf_report_def.specs.ReportLines.{ReportDraft, AtReached, AtCause, InBody, behind, number_alone, are_alike, horizon_line, reached_line, cause_line}
+use Rattle.nf_report_def.specs.ReportLines.{ReportDraft, AtReached, AtCause, InBody, after_keyword, number_alone, are_alike, horizon_line, reached_line, cause_line}
 use Rattle.nf_report_lines.proofs.WordCounts.{Words, first_word}
 
-behind_is : (key : List ℕ) (words : Words) → 0 < length words → bytes_eq (word_at words 0) key ≡ true → behind key words ≡ Ok (drop 1 words)
-behind_is key words lt same = ap (behind key) (first_word words lt) ∙ ap (λ (b : Bool). cond b (Ok (drop 1 words)) (Err P5)) same
+behind_is : (key : List ℕ) (words : Words) → 0 < length words → bytes_eq (word_at words 0) key ≡ true → after_keyword key words ≡ Ok (drop 1 words)
+behind_is key words lt same = ap (after_keyword key) (first_word words lt) ∙ ap (λ (b : Bool). cond b (Ok (drop 1 words)) (Err P5)) same
 
 alike : (a b : Bool) → not (beq a b) ≡ false → are_alike a b ≡ true
 alike true true e = refl
@@ -59,14 +59,14 @@ module _ (draft : ReportDraft) (words : Words) (lt : 0 < length words) where
       by_stop stop = cond (are_alike (is_none stop) (is_same draft.reached draft.horizon)) (Ok (record draft { stage = InBody; stop = stop })) (Err P10)
 
 -- ---- a line that isn't read
-not_behind : (key : List ℕ) (words : Words) → 0 < length words → bytes_eq (word_at words 0) key ≡ false → behind key words ≡ Err P5
-not_behind key words lt other = ap (behind key) (first_word words lt) ∙ ap (λ (b : Bool). cond b (Ok (drop 1 words)) (Err P5)) other
+not_behind : (key : List ℕ) (words : Words) → 0 < length words → bytes_eq (word_at words 0) key ≡ false → after_keyword key words ≡ Err P5
+not_behind key words lt other = ap (after_keyword key) (first_word words lt) ∙ ap (λ (b : Bool). cond b (Ok (drop 1 words)) (Err P5)) other
 
 module _ {A : Type 0} (key : List ℕ) (words : Words) (lt : 0 < length words) (f : Words → Result A ReportRule) where
-  other_key : bytes_eq (word_at words 0) key ≡ false → (behind key words >>= f) ≡ Err P5
+  other_key : bytes_eq (word_at words 0) key ≡ false → (after_keyword key words >>= f) ≡ Err P5
   other_key other = ap (λ (r : Result Words ReportRule). r >>= f) (not_behind key words lt other)
 
-  this_key : bytes_eq (word_at words 0) key ≡ true → (behind key words >>= f) ≡ f (drop 1 words)
+  this_key : bytes_eq (word_at words 0) key ≡ true → (after_keyword key words >>= f) ≡ f (drop 1 words)
   this_key same = ap (λ (r : Result Words ReportRule). r >>= f) (behind_is key words lt same)
 
 differing : (a b : Bool) → not (beq a b) ≡ true → are_alike a b ≡ false

@@ -1,7 +1,7 @@
 // The words of a cause.
 ghost use Rattle.std.specs.Prelude.{◌≡◌, ◌<◌, [], ◌∷◌, drop, length};
 ghost use Rattle.nf_report_def.specs.declared.ReportRule.TheVariants.{P9};
-ghost use Rattle.nf_report_def.specs.ReportCauses.{or_rule, part_of, op_of, done_cause, phases_cause, patterns_cause, passed_cause, nopattern_cause, cause_in};
+ghost use Rattle.nf_report_def.specs.ReportCauses.{or_rule, part_of, op_of_word, done_cause, phases_cause, patterns_cause, passed_cause, nopattern_cause, cause_in};
 
 use crate::numbers::{read_count, read_number, read_place};
 use nf_curve::Stop;
@@ -36,7 +36,7 @@ fn part_named(word: &[u8]) -> Option<Part>
 }
 
 fn op_named(word: &[u8]) -> Option<Op>
-    ensures { result ≡ op_of word.now }
+    ensures { result ≡ op_of_word word.now }
 {
     if is_word(word, b"sum") {
         Some(Op::Sum)
@@ -63,7 +63,7 @@ fn read_part(word: &[u8]) -> Result<Part, ReportRule>
 
 // Reads an operation. Otherwise fails with P9.
 fn read_op(word: &[u8]) -> Result<Op, ReportRule>
-    ensures { result ≡ or_rule P9 (op_of word.now) }
+    ensures { result ≡ or_rule P9 (op_of_word word.now) }
 {
     match op_named(word) {
         Some(op) => Ok(op),

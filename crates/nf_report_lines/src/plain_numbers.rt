@@ -1,6 +1,6 @@
 // Reading printed numbers whose numerator and denominator have at most 64 bits. The word is tested digit by digit, without printing.
 ghost use Rattle.std.specs.Prelude.{◌≡◌, ◌+◌, ◌<◌, ◌≤◌, pos, neg_ℤ, length, take, drop, IfSome, IsTrue, Some};
-ghost use Rattle.nf_frac_words.specs.Digits.{are_digits, value_of, digits_of, is_plain};
+ghost use Rattle.nf_frac_words.specs.Digits.{are_digits, value_of, digits_of, is_plain_count};
 ghost use Rattle.nf_frac_words.specs.Printed.{printed_parts};
 ghost use Rattle.nf_report_def.specs.ReportCauses.{printed_number as number_by};
 
@@ -16,7 +16,7 @@ const LEAST: u64 = 2;
 fn is_plain_to(bytes: &[u8], end: usize) -> bool
     requires within { end ≤ length bytes.now }
     requires digits { IsTrue (are_digits (take end bytes.now)) }
-    ensures { IsTrue result → IsTrue (is_plain (take end bytes.now)) }
+    ensures { IsTrue result → IsTrue (is_plain_count (take end bytes.now)) }
 {
     if end == 1 {
         return true;

@@ -11,13 +11,13 @@ use Rattle.nf_model.specs.Equilibrium.{points_at}
 use Rattle.nf_model.specs.Equilibrium as model
 use Rattle.nf_net_def.specs.Report.{for_each, trace_at}
 use Rattle.nf_curve.specs.Points.{Grown}
-use Rattle.nf_curve.specs.Flows.{trace_of}
+use Rattle.nf_curve.specs.Flows.{seen_trace}
 use Rattle.nf_curve.specs.declared.flow.Trace.{Trace}
 use Rattle.nf_text_def.specs.Words.{line_of_words}
 use Rattle.nf_net_def.specs.Names.{Name, name_at}
 use Rattle.nf_net_def.specs.Report.{point_lines, trace_lines}
 use Rattle.nf_rational_laws.proofs.Entries.{slice_get-below}
-use Rattle.nf_report_pages.specs.Written.{Line, after_words, point_line, trace_line, never_lines}
+use Rattle.nf_report_pages.specs.Written.{Line, after_words, written_point, written_trace, never_lines}
 
 -- ---- what a function makes of the elements, one after the other
 next_suc : {X A : Type 0} (f : X → List A) (xs : List X) (i : ℕ) (x : X) → slice_get xs i ≡ Some x → flat_map f (take i xs) ++ f x ≡ flat_map f (take (suc i) xs)
@@ -57,55 +57,55 @@ line_joined key words = ap (λ l. l ++ 10 ∷ []) (joined key words) ∙ sym (ap
 -- ---- the lines of a curve
 module _ (key : List ℕ) (name : Name) where
   point_next : (points : List (ℚ × ℚ)) (i : ℕ) (p : ℚ × ℚ) → slice_get points i ≡ Some p
-      → point_lines key name (take i points) ++ point_line key name p ∷ [] ≡ point_lines key name (take (suc i) points)
+      → point_lines key name (take i points) ++ written_point key name p ∷ [] ≡ point_lines key name (take (suc i) points)
   point_next [] i p h = cc
-  point_next (x ∷ points) zero p h = (let e : p ≡ x = cc in ap (λ q. point_line key name q ∷ []) e)
-  point_next (x ∷ points) (suc i) p h = ap (λ l. point_line key name x ∷ l) (point_next points i p h)
+  point_next (x ∷ points) zero p h = (let e : p ≡ x = cc in ap (λ q. written_point key name q ∷ []) e)
+  point_next (x ∷ points) (suc i) p h = ap (λ l. written_point key name x ∷ l) (point_next points i p h)
 
   pub point_lines_next : (points : List (ℚ × ℚ)) (i : ℕ) (p : ℚ × ℚ) → slice_get points i ≡ Some p
-      → point_lines key name (take i points) ++ point_line key name p ∷ [] ≡ point_lines key name (take (i + 1) points)
+      → point_lines key name (take i points) ++ written_point key name p ∷ [] ≡ point_lines key name (take (i + 1) points)
   point_lines_next points i p h = rw add-one (point_next points i p h)
 
   point_parted : (points : List (ℚ × ℚ)) (i : ℕ) → point_lines key name (take i points) ++ point_lines key name (drop i points) ≡ point_lines key name points
   point_parted points zero = refl
   point_parted [] (suc i) = refl
-  point_parted (x ∷ points) (suc i) = ap (λ l. point_line key name x ∷ l) (point_parted points i)
+  point_parted (x ∷ points) (suc i) = ap (λ l. written_point key name x ∷ l) (point_parted points i)
 
   pub point_lines_left : (points : List (ℚ × ℚ)) (i : ℕ) (p : ℚ × ℚ) → slice_get points i ≡ Some p
-      → (point_lines key name (take i points) ++ point_line key name p ∷ []) ++ point_lines key name (drop (suc i) points) ≡ point_lines key name points
+      → (point_lines key name (take i points) ++ written_point key name p ∷ []) ++ point_lines key name (drop (suc i) points) ≡ point_lines key name points
   point_lines_left points i p h = ap (λ l. l ++ point_lines key name (drop (suc i) points)) (point_next points i p h) ∙ point_parted points (suc i)
 
   -- with rates
   trace_next : (points : List (ℚ × ℚ)) (rates : List ℚ) (i : ℕ) (p : ℚ × ℚ) → slice_get points i ≡ Some p
-      → trace_lines key name (take i points) rates ++ trace_line key name p (slice_get rates i) ∷ [] ≡ trace_lines key name (take (suc i) points) rates
+      → trace_lines key name (take i points) rates ++ written_trace key name p (slice_get rates i) ∷ [] ≡ trace_lines key name (take (suc i) points) rates
   trace_next [] rates i p h = cc
-  trace_next (x ∷ points) [] zero p h = (let e : p ≡ x = cc in ap (λ q. trace_line key name q (slice_get [] 0) ∷ []) e)
-  trace_next (x ∷ points) (rate ∷ rates) zero p h = (let e : p ≡ x = cc in ap (λ q. trace_line key name q (Some rate) ∷ []) e)
-  trace_next (x ∷ points) [] (suc i) p h = ap (λ l. trace_line key name x (slice_get [] 0) ∷ l) (trace_next points [] i p h)
-  trace_next (x ∷ points) (rate ∷ rates) (suc i) p h = ap (λ l. trace_line key name x (Some rate) ∷ l) (trace_next points rates i p h)
+  trace_next (x ∷ points) [] zero p h = (let e : p ≡ x = cc in ap (λ q. written_trace key name q (slice_get [] 0) ∷ []) e)
+  trace_next (x ∷ points) (rate ∷ rates) zero p h = (let e : p ≡ x = cc in ap (λ q. written_trace key name q (Some rate) ∷ []) e)
+  trace_next (x ∷ points) [] (suc i) p h = ap (λ l. written_trace key name x (slice_get [] 0) ∷ l) (trace_next points [] i p h)
+  trace_next (x ∷ points) (rate ∷ rates) (suc i) p h = ap (λ l. written_trace key name x (Some rate) ∷ l) (trace_next points rates i p h)
 
   pub trace_lines_next : (points : List (ℚ × ℚ)) (rates : List ℚ) (i : ℕ) (p : ℚ × ℚ) (rate : Option ℚ) → slice_get points i ≡ Some p → rate ≡ slice_get rates i
-      → trace_lines key name (take i points) rates ++ trace_line key name p rate ∷ [] ≡ trace_lines key name (take (i + 1) points) rates
+      → trace_lines key name (take i points) rates ++ written_trace key name p rate ∷ [] ≡ trace_lines key name (take (i + 1) points) rates
   trace_lines_next points rates i p rate h e =
-      ap (λ r. trace_lines key name (take i points) rates ++ trace_line key name p r ∷ []) e ∙ rw add-one (trace_next points rates i p h)
+      ap (λ r. trace_lines key name (take i points) rates ++ written_trace key name p r ∷ []) e ∙ rw add-one (trace_next points rates i p h)
 
   trace_parted : (points : List (ℚ × ℚ)) (rates : List ℚ) (i : ℕ)
       → trace_lines key name (take i points) rates ++ trace_lines key name (drop i points) (drop i rates) ≡ trace_lines key name points rates
   trace_parted points rates zero = refl
   trace_parted [] rates (suc i) = refl
-  trace_parted (x ∷ points) [] (suc i) = ap (λ l. trace_line key name x (slice_get [] 0) ∷ l) (trace_parted_bare points i)
+  trace_parted (x ∷ points) [] (suc i) = ap (λ l. written_trace key name x (slice_get [] 0) ∷ l) (trace_parted_bare points i)
     where
       trace_parted_bare : (points : List (ℚ × ℚ)) (i : ℕ) → trace_lines key name (take i points) [] ++ trace_lines key name (drop i points) [] ≡ trace_lines key name points []
       trace_parted_bare points zero = refl
       trace_parted_bare [] (suc i) = refl
-      trace_parted_bare (y ∷ points) (suc i) = ap (λ l. trace_line key name y (slice_get [] 0) ∷ l) (trace_parted_bare points i)
-  trace_parted (x ∷ points) (rate ∷ rates) (suc i) = ap (λ l. trace_line key name x (Some rate) ∷ l) (trace_parted points rates i)
+      trace_parted_bare (y ∷ points) (suc i) = ap (λ l. written_trace key name y (slice_get [] 0) ∷ l) (trace_parted_bare points i)
+  trace_parted (x ∷ points) (rate ∷ rates) (suc i) = ap (λ l. written_trace key name x (Some rate) ∷ l) (trace_parted points rates i)
 
   pub trace_lines_left : (points : List (ℚ × ℚ)) (rates : List ℚ) (i : ℕ) (p : ℚ × ℚ) (rate : Option ℚ) → slice_get points i ≡ Some p → rate ≡ slice_get rates i
-      → (trace_lines key name (take i points) rates ++ trace_line key name p rate ∷ []) ++ trace_lines key name (drop (suc i) points) (drop (suc i) rates)
+      → (trace_lines key name (take i points) rates ++ written_trace key name p rate ∷ []) ++ trace_lines key name (drop (suc i) points) (drop (suc i) rates)
       ≡ trace_lines key name points rates
   trace_lines_left points rates i p rate h e =
-      ap (λ r. (trace_lines key name (take i points) rates ++ trace_line key name p r ∷ []) ++ trace_lines key name (drop (suc i) points) (drop (suc i) rates)) e
+      ap (λ r. (trace_lines key name (take i points) rates ++ written_trace key name p r ∷ []) ++ trace_lines key name (drop (suc i) points) (drop (suc i) rates)) e
       ∙ ap (λ l. l ++ trace_lines key name (drop (suc i) points) (drop (suc i) rates)) (trace_next points rates i p h) ∙ trace_parted points rates (suc i)
 
 -- ---- for each number below a count
@@ -127,9 +127,9 @@ points_there curves i curve is h =
     ap (λ (c : Grown). c.points) is ∙ sym (ap (λ o. unwrap_or o []) (mapped_there (λ (c : Grown). c.points) curves i curve h))
 
 pub trace_there : (traces : List Trace) (i : ℕ) (trace : Trace) → trace ≡ get_or traces i trace → i < length traces
-    → trace_of trace ≡ trace_at (map trace_of traces) i
+    → seen_trace trace ≡ trace_at (map seen_trace traces) i
 trace_there traces i trace is h =
-    ap trace_of is ∙ sym (ap (λ o. unwrap_or o (record { points = []; rates = [] })) (mapped_there trace_of traces i trace h))
+    ap seen_trace is ∙ sym (ap (λ o. unwrap_or o (record { points = []; rates = [] })) (mapped_there seen_trace traces i trace h))
 
 -- ---- the idle nodes
 never_suc : (names : List Name) (i : ℕ) → i < length names → never_lines (take i names) ++ (codes "never" ∷ name_at names i ∷ []) ∷ [] ≡ never_lines (take (suc i) names)

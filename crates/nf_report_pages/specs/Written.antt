@@ -22,16 +22,16 @@ abbrev pub WroteLines : {E : Type 0} → SinkState → SinkState → List Line �
 WroteLines before now lines result = Wrote before now (flat_map line_of_words lines) result
 
 -- ---- a line of a curve
-abbrev pub point_line : List ℕ → Name → ℚ × ℚ → Line
-point_line key name p = key ∷ name ∷ printed p.0 ∷ printed p.1 ∷ []
+abbrev pub written_point : List ℕ → Name → ℚ × ℚ → Line
+written_point key name p = key ∷ name ∷ printed p.0 ∷ printed p.1 ∷ []
 
 -- the rate from a point on, or `-` if there is none
-abbrev pub rate_word : Option ℚ → List ℕ
-rate_word None = codes "-"
-rate_word (Some rate) = printed rate
+abbrev pub written_rate : Option ℚ → List ℕ
+written_rate None = codes "-"
+written_rate (Some rate) = printed rate
 
-abbrev pub trace_line : List ℕ → Name → ℚ × ℚ → Option ℚ → Line
-trace_line key name p rate = key ∷ name ∷ printed p.0 ∷ printed p.1 ∷ rate_word rate ∷ []
+abbrev pub written_trace : List ℕ → Name → ℚ × ℚ → Option ℚ → Line
+written_trace key name p rate = key ∷ name ∷ printed p.0 ∷ printed p.1 ∷ written_rate rate ∷ []
 
 -- ---- the unreached nodes of a report, and its flow
 abbrev pub never_lines : List Name → List Line

@@ -5,7 +5,7 @@ ghost use Rattle.nf_edge.specs.Writing.{state_of};
 ghost use Rattle.nf_frac_words.specs.Digits.{digits_of};
 ghost use Rattle.nf_frac_words.specs.Printed.{printed};
 ghost use Rattle.nf_net_def.specs.Causes.{part_word, op_word, count_word, cause_words, passed_words};
-ghost use Rattle.nf_net_def.specs.Report.{state_word, state_line};
+ghost use Rattle.nf_net_def.specs.Report.{state_word, written_state};
 ghost use Rattle.nf_report_pages.specs.Written.{WroteLines};
 ghost use Rattle.nf_report_pages.specs.Pages.{GatheredLines};
 
@@ -230,7 +230,7 @@ pub(crate) fn put_state<O: Sink>(
     state: Option<State>,
 ) -> Result<(), SinkFault>
     ensures { GatheredLines (state_of O.Sink out.old) (state_of O.Sink out.new) page.old page.new
-        (state_line name.now state) result }
+        (written_state name.now state) result }
 {
     match state {
         None => Ok(()),

@@ -2,7 +2,7 @@
 ghost use Rattle.std.specs.Prelude.{◌≡◌, [], ◌∷◌, ◌++◌, slice_get, codes};
 ghost use Rattle.nf_edge.specs.Writing.{state_of};
 ghost use Rattle.nf_net_def.specs.Report.{point_lines, trace_lines};
-ghost use Rattle.nf_report_pages.specs.Written.{WroteLines, point_line, trace_line};
+ghost use Rattle.nf_report_pages.specs.Written.{WroteLines, written_point, written_trace};
 ghost use Rattle.nf_report_pages.specs.Pages.{GatheredLines};
 
 use crate::line::put_line;
@@ -20,7 +20,7 @@ fn put_point<O: Sink>(
     point: (Q, Q),
 ) -> Result<(), SinkFault>
     ensures { GatheredLines (state_of O.Sink out.old) (state_of O.Sink out.new) page.old page.new
-        (point_line key.now name.now point ∷ []) result }
+        (written_point key.now name.now point ∷ []) result }
 {
     let mut time = TextBuf::new();
     let mut value = TextBuf::new();
@@ -73,7 +73,7 @@ fn put_rated_point<O: Sink>(
     rate: Option<Q>,
 ) -> Result<(), SinkFault>
     ensures { GatheredLines (state_of O.Sink out.old) (state_of O.Sink out.new) page.old page.new
-        (trace_line key.now name.now point rate ∷ []) result }
+        (written_trace key.now name.now point rate ∷ []) result }
 {
     let mut time = TextBuf::new();
     let mut value = TextBuf::new();

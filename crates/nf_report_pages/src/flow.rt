@@ -4,7 +4,7 @@ ghost use Rattle.nf_edge.specs.Writing.{state_of};
 ghost use Rattle.nf_model.specs.Equilibrium.{HasShape};
 ghost use Rattle.nf_net_def.specs.Names.{name_at};
 ghost use Rattle.nf_net_def.specs.Report.{for_each, label_lines, link_lines, state_lines};
-ghost use Rattle.nf_curve.specs.Flows.{flow_of};
+ghost use Rattle.nf_curve.specs.Flows.{seen_flow};
 ghost use Rattle.nf_report_pages.specs.Written.{never_lines, flow_lines};
 ghost use Rattle.nf_report_pages.specs.Pages.{GatheredLines};
 
@@ -28,7 +28,7 @@ fn put_label<O: Sink>(
     requires node { node < net.now.net.nodes }
     requires labels { length flow.now.labels.items ≡ net.now.net.nodes }
     ensures { GatheredLines (state_of O.Sink out.old) (state_of O.Sink out.new) page.old page.new
-        (label_lines net.now (flow_of flow.now) node) result }
+        (label_lines net.now (seen_flow flow.now) node) result }
 {
     let name = net.node_name(NodeId(node)).as_bytes();
     let label = &flow.labels[node as usize];
@@ -44,7 +44,7 @@ fn put_labels<O: Sink>(
 ) -> Result<(), SinkFault>
     requires { length flow.now.labels.items ≡ net.now.net.nodes }
     ensures { GatheredLines (state_of O.Sink out.old) (state_of O.Sink out.new) page.old page.new
-        (for_each net.now.net.nodes (label_lines net.now (flow_of flow.now))) result }
+        (for_each net.now.net.nodes (label_lines net.now (seen_flow flow.now))) result }
 {
     for node in 0..net.node_count() {
         put_label(out, page, net, flow, node)?;
@@ -65,7 +65,7 @@ fn put_curves<O: Sink>(
     requires outflows { length flow.now.outflows.items ≡ length net.now.net.links }
     requires queues { length flow.now.queues.items ≡ length net.now.net.links }
     ensures { GatheredLines (state_of O.Sink out.old) (state_of O.Sink out.new) page.old page.new
-        (link_lines net.now (flow_of flow.now) link) result }
+        (link_lines net.now (seen_flow flow.now) link) result }
 {
     let name = net.link_name(LinkId(link)).as_bytes();
     let inflow = &flow.inflows[link as usize];
@@ -85,7 +85,7 @@ fn put_links<O: Sink>(
     requires outflows { length flow.now.outflows.items ≡ length net.now.net.links }
     requires queues { length flow.now.queues.items ≡ length net.now.net.links }
     ensures { GatheredLines (state_of O.Sink out.old) (state_of O.Sink out.new) page.old page.new
-        (for_each (length net.now.net.links) (link_lines net.now (flow_of flow.now))) result }
+        (for_each (length net.now.net.links) (link_lines net.now (seen_flow flow.now))) result }
 {
     for link in 0..net.link_count() {
         put_curves(out, page, net, flow, link)?;
@@ -163,9 +163,9 @@ pub fn put_flow<O: Sink>(
     net: &Network,
     flow: &Flow,
 ) -> Result<(), SinkFault>
-    requires { HasShape net.now.net (flow_of flow.now) }
+    requires { HasShape net.now.net (seen_flow flow.now) }
     ensures { GatheredLines (state_of O.Sink out.old) (state_of O.Sink out.new) page.old page.new
-        (flow_lines net.now (flow_of flow.now)) result }
+        (flow_lines net.now (seen_flow flow.now)) result }
 {
     put_labels(out, page, net, flow)?;
     put_idle(out, page, net)?;

@@ -3,7 +3,7 @@ ghost use Rattle.std.specs.Prelude.{Some, map};
 ghost use Rattle.std.specs.List.{AllByRecursion};
 ghost use Rattle.std.specs.Option.{option_copied};
 ghost use Rattle.nf_net_def.specs.WellNamed.{IsFraction};
-ghost use Rattle.nf_curve.specs.Flows.{trace_of};
+ghost use Rattle.nf_curve.specs.Flows.{seen_trace};
 ghost use Rattle.nf_report_laws.specs.Readable.{IsCount, IsCountOrNone, AreFractionPoints, IsFractionTrace, IsReadableCause};
 
 use nf_curve::{Curve, Stop, Trace};
@@ -28,7 +28,7 @@ fn know_rates(rates: &[Q])
 }
 
 fn know_trace(trace: &Trace)
-    ensures { IsFractionTrace (trace_of trace.now) }
+    ensures { IsFractionTrace (seen_trace trace.now) }
 {
     know_points(&trace.curve);
     know_rates(&trace.rates);
@@ -45,7 +45,7 @@ pub(crate) fn know_curves(curves: &[Curve])
 
 /// Shows this of the points and rates of some traces.
 pub(crate) fn know_traces(traces: &[Trace])
-    ensures { AllByRecursion IsFractionTrace (map trace_of traces.now) }
+    ensures { AllByRecursion IsFractionTrace (map seen_trace traces.now) }
 {
     for trace in traces {
         know_trace(trace);

@@ -4,7 +4,7 @@ ghost use Rattle.std.specs.Option.{option_copied};
 ghost use Rattle.nf_net_def.specs.Report.{Report, IsWellFormed, report_text};
 ghost use Rattle.nf_report_def.specs.ReportFile.{report_in};
 ghost use Rattle.nf_report_laws.specs.Readable.{IsReadable};
-ghost use Rattle.nf_curve.specs.Flows.{flow_of};
+ghost use Rattle.nf_curve.specs.Flows.{seen_flow};
 
 use crate::known::{know_cause, know_curves, know_traces};
 use nf_curve::{Flow, Stop};
@@ -24,18 +24,18 @@ pub fn written_reads_back(
     last: &Pattern,
 )
     requires { IsWellFormed net.now.net
-        (record { horizon = horizon; flow = flow_of flow.now; stop = option_copied stopped; last = last.now }) }
+        (record { horizon = horizon; flow = seen_flow flow.now; stop = option_copied stopped; last = last.now }) }
     ensures readable { IsReadable
-        (record { horizon = horizon; flow = flow_of flow.now; stop = option_copied stopped.entry; last = last.now }) }
+        (record { horizon = horizon; flow = seen_flow flow.now; stop = option_copied stopped.entry; last = last.now }) }
     ensures reads_back { report_in net.now
         (report_text net.now
-        (record { horizon = horizon; flow = flow_of flow.now; stop = option_copied stopped.entry; last = last.now }))
-        ≡ Ok (record { horizon = horizon; flow = flow_of flow.now; stop = option_copied stopped.entry; last = last.now }) }
+        (record { horizon = horizon; flow = seen_flow flow.now; stop = option_copied stopped.entry; last = last.now }))
+        ≡ Ok (record { horizon = horizon; flow = seen_flow flow.now; stop = option_copied stopped.entry; last = last.now }) }
     ensures only { (other : Report) → IsWellFormed net.now.net other → IsReadable other
         → report_text net.now
-        (record { horizon = horizon; flow = flow_of flow.now; stop = option_copied stopped.entry; last = last.now })
+        (record { horizon = horizon; flow = seen_flow flow.now; stop = option_copied stopped.entry; last = last.now })
         ≡ report_text net.now other
-        → record { horizon = horizon; flow = flow_of flow.now; stop = option_copied stopped.entry; last = last.now }
+        → record { horizon = horizon; flow = seen_flow flow.now; stop = option_copied stopped.entry; last = last.now }
         ≡ other }
 {
     // Proof: the network is that of an accepted file.

@@ -4,7 +4,7 @@ use Rattle.std.specs.Prelude.{unwrap_or}
 use Rattle.std.proofs.lemmas.Option.{slice_get_within}
 use Rattle.std.proofs.lemmas.List.{map-append}
 use Rattle.nf_rational_laws.proofs.Entries.{entry}
-use Rattle.nf_curve.specs.Flows.{trace_of}
+use Rattle.nf_curve.specs.Flows.{seen_trace}
 use Rattle.nf_curve.specs.declared.flow.Flow.{Flow}
 use Rattle.nf_curve.specs.declared.flow.Trace.{Trace}
 use Rattle.nf_net_def.specs.Named.{Named}
@@ -12,7 +12,7 @@ use Rattle.nf_net_def.specs.WellNamed.{IsNamed}
 use Rattle.nf_net.proofs.Limits.{few_nodes, few_idle_nodes, few_link_names}
 use Rattle.nf_report_def.specs.ReportLines as lines
 use Rattle.nf_report_def.specs.ReportLines.{CurveKey, ReadCurve, key_of, key_word, curve_keys, OfNever}
-use Rattle.nf_report_def.specs.ReportFile.{curves_of}
+use Rattle.nf_report_def.specs.ReportFile.{curves_of_kind}
 use Rattle.nf_report_lines.specs.Keys.{key_at, key_of_number, seen_key, seen_kind}
 use Rattle.nf_report_lines.specs.declared.keys.Key.{Key}
 use Rattle.nf_report_lines.specs.Drafts.{seen_curve, seen_done}
@@ -54,22 +54,22 @@ one_more_sorted n curves curve index flow at h =
 is_kind : lines.Kind → ReadCurve → Bool
 is_kind kind curve = bytes_eq (key_word curve.key.kind) (key_word kind)
 
-curves_of-push : (kind : lines.Kind) (curves : List ReadCurve) (curve : ReadCurve) (found : Bool) → is_kind kind curve ≡ found
-    → curves_of kind (curves ++ curve ∷ []) ≡ curves_of kind curves ++ cond found (curve ∷ []) []
+curves_of_kind-push : (kind : lines.Kind) (curves : List ReadCurve) (curve : ReadCurve) (found : Bool) → is_kind kind curve ≡ found
+    → curves_of_kind kind (curves ++ curve ∷ []) ≡ curves_of_kind kind curves ++ cond found (curve ∷ []) []
 unfolding is_kind
-curves_of-push kind [] curve found e = ap (λ (b : Bool). cond b (curve ∷ []) []) e
-curves_of-push kind (x ∷ curves) curve found e = step (bytes_eq (key_word x.key.kind) (key_word kind)) _ _ _ (curves_of-push kind curves curve found e)
+curves_of_kind-push kind [] curve found e = ap (λ (b : Bool). cond b (curve ∷ []) []) e
+curves_of_kind-push kind (x ∷ curves) curve found e = step (bytes_eq (key_word x.key.kind) (key_word kind)) _ _ _ (curves_of_kind-push kind curves curve found e)
   where
     step : (b : Bool) (more all rest : List ReadCurve) → more ≡ all ++ rest → cond b (x ∷ more) more ≡ cond b (x ∷ all) all ++ rest
     step true more all rest h = ap (λ (l : List ReadCurve). x ∷ l) h
     step false more all rest h = h
 
-module _ {A : Type 0} (f : ReadCurve → A) (kind : lines.Kind) (curves : List ReadCurve) (curve : ReadCurve) (items : List A) (so_far : items ≡ map f (curves_of kind curves)) where
-  with_it : is_kind kind curve ≡ true → items ++ f curve ∷ [] ≡ map f (curves_of kind (curves ++ curve ∷ []))
-  with_it e = sym (ap (map f) (curves_of-push kind curves curve true e) ∙ map-append f (curves_of kind curves) (curve ∷ []) ∙ ap (λ (l : List A). l ++ f curve ∷ []) (sym so_far))
+module _ {A : Type 0} (f : ReadCurve → A) (kind : lines.Kind) (curves : List ReadCurve) (curve : ReadCurve) (items : List A) (so_far : items ≡ map f (curves_of_kind kind curves)) where
+  with_it : is_kind kind curve ≡ true → items ++ f curve ∷ [] ≡ map f (curves_of_kind kind (curves ++ curve ∷ []))
+  with_it e = sym (ap (map f) (curves_of_kind-push kind curves curve true e) ∙ map-append f (curves_of_kind kind curves) (curve ∷ []) ∙ ap (λ (l : List A). l ++ f curve ∷ []) (sym so_far))
 
-  without_it : is_kind kind curve ≡ false → items ≡ map f (curves_of kind (curves ++ curve ∷ []))
-  without_it e = so_far ∙ sym (ap (map f) (curves_of-push kind curves curve false e ∙ append-nil (curves_of kind curves)))
+  without_it : is_kind kind curve ≡ false → items ≡ map f (curves_of_kind kind (curves ++ curve ∷ []))
+  without_it e = so_far ∙ sym (ap (map f) (curves_of_kind-push kind curves curve false e ∙ append-nil (curves_of_kind kind curves)))
 
 module _ (curves : List ReadCurve) (key : CurveKey) (trace : Trace) (old now : Flow) (are : AreSorted curves old) where
   abbrev here : ReadCurve
@@ -95,7 +95,7 @@ module _ (curves : List ReadCurve) (key : CurveKey) (trace : Trace) (old now : F
       → AreSorted (curves ++ here ∷ []) (record { reached = old.reached; labels = old.labels; inflows = now.inflows; outflows = old.outflows; queues = old.queues })
   inflow_put k e = record {
     all_labels = without_it (λ (c : ReadCurve). c.points) lines.OfLabel curves here _ are.all_labels (tells lines.OfInflow lines.OfLabel false k refl);
-    all_inflows = ap (map trace_of) e ∙ map-append trace_of old.inflows.items (trace ∷ [])
+    all_inflows = ap (map seen_trace) e ∙ map-append seen_trace old.inflows.items (trace ∷ [])
         ∙ with_it (λ (c : ReadCurve). record { points = c.points; rates = c.rates }) lines.OfInflow curves here _ are.all_inflows (tells lines.OfInflow lines.OfInflow true k refl);
     all_outflows = without_it (λ (c : ReadCurve). record { points = c.points; rates = c.rates }) lines.OfOutflow curves here _ are.all_outflows
         (tells lines.OfInflow lines.OfOutflow false k refl);
@@ -108,7 +108,7 @@ module _ (curves : List ReadCurve) (key : CurveKey) (trace : Trace) (old now : F
     all_labels = without_it (λ (c : ReadCurve). c.points) lines.OfLabel curves here _ are.all_labels (tells lines.OfOutflow lines.OfLabel false k refl);
     all_inflows = without_it (λ (c : ReadCurve). record { points = c.points; rates = c.rates }) lines.OfInflow curves here _ are.all_inflows
         (tells lines.OfOutflow lines.OfInflow false k refl);
-    all_outflows = ap (map trace_of) e ∙ map-append trace_of old.outflows.items (trace ∷ [])
+    all_outflows = ap (map seen_trace) e ∙ map-append seen_trace old.outflows.items (trace ∷ [])
         ∙ with_it (λ (c : ReadCurve). record { points = c.points; rates = c.rates }) lines.OfOutflow curves here _ are.all_outflows (tells lines.OfOutflow lines.OfOutflow true k refl);
     all_queues = without_it (λ (c : ReadCurve). c.points) lines.OfQueue curves here _ are.all_queues (tells lines.OfOutflow lines.OfQueue false k refl);
   }

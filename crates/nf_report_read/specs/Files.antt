@@ -1,7 +1,7 @@
 -- Reports and faults in contracts.
 use Rattle.std.specs.Prelude.{◌≡◌, Result, Ok, Err}
 use Rattle.nf_frac_def.specs.Checked.{◌>>=◌}
-use Rattle.nf_curve.specs.Flows.{flow_of}
+use Rattle.nf_curve.specs.Flows.{seen_flow}
 use Rattle.nf_net_def.specs.Report as formats
 use Rattle.nf_report_def.specs.ReportLines.{ReportDraft}
 use Rattle.nf_report_def.specs.ReportFile.{ReportBroken, if_at_end}
@@ -20,7 +20,7 @@ closed_by read = read >>= λ draft. if_at_end draft.stage draft
 
 -- the report that a value represents
 abbrev pub seen_report : Report → formats.Report
-seen_report r = record { horizon = r.horizon; flow = flow_of r.flow; stop = r.stopped; last = r.last }
+seen_report r = record { horizon = r.horizon; flow = seen_flow r.flow; stop = r.stopped; last = r.last }
 
 -- the result is this report, unless an allocation failed
 abbrev pub ReturnsReport : formats.Report → Result Report (FileFault ReportRule) → Type 0

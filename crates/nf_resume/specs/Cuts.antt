@@ -7,14 +7,14 @@ use Rattle.nf_model.specs.Curve.{Point}
 use Rattle.nf_model.specs.Equilibrium.{Trace}
 use Rattle.nf_resume_def.specs.Resuming as lists
 use Rattle.nf_curve.specs.Points.{Grown}
-use Rattle.nf_curve.specs.Flows.{trace_of}
+use Rattle.nf_curve.specs.Flows.{seen_trace}
 use Rattle.nf_resume.specs.declared.links.CutLink.{CutLink}
 
-abbrev pub curves_of : List Grown → List (List Point)
-curves_of curves = map (λ c. c.points) curves
+abbrev pub points_of_each : List Grown → List (List Point)
+points_of_each curves = map (λ c. c.points) curves
 
 abbrev pub cut_in : CutLink → lists.CutLink
-cut_in cut = record { inflow = trace_of cut.inflow; outflow = trace_of cut.outflow; queue = cut.queue.points }
+cut_in cut = record { inflow = seen_trace cut.inflow; outflow = seen_trace cut.outflow; queue = cut.queue.points }
 
 -- The curves of a link, cut at the labels `tail` and `head` of its ends.
 abbrev pub cut_ends : Passing → ℚ → ℚ → List Point → List Point → List Point → Checked lists.CutLink

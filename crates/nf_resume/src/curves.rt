@@ -7,10 +7,10 @@ ghost use Rattle.nf_frac_def.specs.Passing.{passes_Q};
 ghost use Rattle.nf_frac_def.specs.Checked.{at_part, Gives};
 ghost use Rattle.nf_model.specs.Equilibrium.{points_at};
 ghost use Rattle.nf_curve_def.specs.Short.{checked_slopes};
-ghost use Rattle.nf_curve.specs.Flows.{trace_of};
+ghost use Rattle.nf_curve.specs.Flows.{seen_trace};
 ghost use Rattle.nf_phase_def.specs.Restoring.{value_at_end};
 ghost use Rattle.nf_resume_def.specs.Resuming.{cut_short as cut_short_by, cut_trace as cut_trace_by};
-ghost use Rattle.nf_resume.specs.Cuts.{curves_of};
+ghost use Rattle.nf_resume.specs.Cuts.{points_of_each};
 
 use nf_curve::{Curve, Trace, slope};
 use nf_frac::{Halt, Part, Q};
@@ -48,7 +48,7 @@ pub(crate) fn cut_short(alloc: Global, curve: &Curve, last: Q) -> Result<Curve, 
 #[tactic(auto, using(nf_curve::proofs::Exits::after_ok, nf_curve::proofs::Exits::after_err))]
 pub(crate) fn cut_trace(alloc: Global, trace: &Trace, last: Q) -> Result<Trace, Halt<Q>>
     requires { 0ℚ ≤ℚ last }
-    ensures { Gives trace_of (λ q. q) result
+    ensures { Gives seen_trace (λ q. q) result
         (at_part OfCurve (cut_trace_by passes_Q last trace.now.curve.points)) }
 {
     let curve = cut_short(alloc, &trace.curve, last)?;
@@ -59,7 +59,7 @@ pub(crate) fn cut_trace(alloc: Global, trace: &Trace, last: Q) -> Result<Trace, 
 /// Returns the value of a node's label at the last point of its curve, a time.
 pub(crate) fn last_label(labels: &[Curve], node: NodeId) -> Q
     requires { node < length labels.now }
-    ensures { result ≡ value_at_end (points_at (curves_of labels.now) node) }
+    ensures { result ≡ value_at_end (points_at (points_of_each labels.now) node) }
 {
     let label = &labels[node.index()];
     let (_, value) = label.point(label.len() - 1);

@@ -7,8 +7,8 @@ ghost use Rattle.nf_frac_def.specs.Passing.{passes_Q};
 ghost use Rattle.nf_frac_def.specs.Checked.{at_part, each, Gives};
 ghost use Rattle.nf_model.specs.Equilibrium.{Equilibrium};
 ghost use Rattle.nf_resume_def.specs.Resuming.{cut_short as cut_short_by, cut_flow as cut_flow_by};
-ghost use Rattle.nf_curve.specs.Flows.{trace_of, flow_of};
-ghost use Rattle.nf_resume.specs.Cuts.{curves_of, cut_in, AreLists};
+ghost use Rattle.nf_curve.specs.Flows.{seen_trace, seen_flow};
+ghost use Rattle.nf_resume.specs.Cuts.{points_of_each, cut_in, AreLists};
 
 use crate::curves::cut_short;
 use crate::links::{CutLink, cut_links};
@@ -20,8 +20,8 @@ use std::alloc::{AllocError, Global};
 // Returns the labels of all nodes up to the departure reached.
 fn cut_labels(alloc: Global, labels: &[Curve], reached: Q) -> Result<Vec<Curve>, Halt<Q>>
     requires { 0ℚ ≤ℚ reached }
-    ensures { Gives (λ cuts. curves_of cuts.items) (λ q. q) result
-        (at_part OfCurve (each (cut_short_by passes_Q reached) (curves_of labels.now))) }
+    ensures { Gives (λ cuts. points_of_each cuts.items) (λ q. q) result
+        (at_part OfCurve (each (cut_short_by passes_Q reached) (points_of_each labels.now))) }
 {
     let mut cuts = Vec::with_capacity(alloc, labels.len())?;
     for label in labels {
@@ -43,13 +43,13 @@ impl OfLinks {
     // Appends the curves of a link. Fails if an allocation fails.
     fn push(&mut self, cut: CutLink) -> Result<(), AllocError>
         ensures inflows { OnOk result
-            (map trace_of self.new.inflows.items
-            ≡ map trace_of self.old.inflows.items ++ (cut_in cut).inflow ∷ []) }
+            (map seen_trace self.new.inflows.items
+            ≡ map seen_trace self.old.inflows.items ++ (cut_in cut).inflow ∷ []) }
         ensures outflows { OnOk result
-            (map trace_of self.new.outflows.items
-            ≡ map trace_of self.old.outflows.items ++ (cut_in cut).outflow ∷ []) }
-        ensures queues { OnOk result (curves_of self.new.queues.items
-            ≡ curves_of self.old.queues.items ++ (cut_in cut).queue ∷ []) }
+            (map seen_trace self.new.outflows.items
+            ≡ map seen_trace self.old.outflows.items ++ (cut_in cut).outflow ∷ []) }
+        ensures queues { OnOk result (points_of_each self.new.queues.items
+            ≡ points_of_each self.old.queues.items ++ (cut_in cut).queue ∷ []) }
     {
         self.inflows.push(cut.inflow)?;
         self.outflows.push(cut.outflow)?;
@@ -61,8 +61,8 @@ impl OfLinks {
 // Returns the cut curves of links, each kind in its own list.
 fn in_lists(alloc: Global, cuts: Vec<CutLink>) -> Result<OfLinks, AllocError>
     ensures { IfOk result
-        (λ links. AreLists (map trace_of links.inflows.items) (map trace_of links.outflows.items)
-        (curves_of links.queues.items) (map cut_in cuts.items)) }
+        (λ links. AreLists (map seen_trace links.inflows.items) (map seen_trace links.outflows.items)
+        (points_of_each links.queues.items) (map cut_in cuts.items)) }
 {
     let mut links = OfLinks {
         inflows: Vec::new(alloc),
@@ -80,9 +80,9 @@ fn in_lists(alloc: Global, cuts: Vec<CutLink>) -> Result<OfLinks, AllocError>
 /// exceeds its bound, or if an allocation fails.
 #[tactic(auto, unfolding(nf_resume_def::specs::Resuming::cut_flow))]
 pub(crate) fn cut_flow(alloc: Global, net: &Network, flow: &Flow) -> Result<Flow, Halt<Q>>
-    requires { Equilibrium net.now.net (flow_of flow.now) }
-    ensures { Gives flow_of (λ q. q) result
-        (at_part OfCurve (cut_flow_by passes_Q net.now.net (flow_of flow.now))) }
+    requires { Equilibrium net.now.net (seen_flow flow.now) }
+    ensures { Gives seen_flow (λ q. q) result
+        (at_part OfCurve (cut_flow_by passes_Q net.now.net (seen_flow flow.now))) }
 {
     // Proof: the network satisfies `IsNetwork`.
     net.recall();

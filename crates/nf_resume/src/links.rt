@@ -8,8 +8,8 @@ ghost use Rattle.nf_frac_def.specs.Checked.{at_part, each, Gives};
 ghost use Rattle.nf_model.specs.Equilibrium.{points_at};
 ghost use Rattle.nf_phase_def.specs.Restoring.{value_at_end};
 ghost use Rattle.nf_resume_def.specs.Resuming.{links_with, cut_link as cut_link_by};
-ghost use Rattle.nf_curve.specs.Flows.{flow_of};
-ghost use Rattle.nf_resume.specs.Cuts.{curves_of, cut_in, cut_ends};
+ghost use Rattle.nf_curve.specs.Flows.{seen_flow};
+ghost use Rattle.nf_resume.specs.Cuts.{points_of_each, cut_in, cut_ends};
 
 use crate::curves::{cut_short, cut_trace, last_label};
 use nf_curve::{Curve, Flow, Trace};
@@ -65,11 +65,11 @@ pub(crate) fn cut_links(
     requires outflows { length flow.now.outflows.items ≡ length net.now.net.links }
     requires queues { length flow.now.queues.items ≡ length net.now.net.links }
     requires ends { (v : ℕ) → v < net.now.net.nodes
-        → 0ℚ ≤ℚ value_at_end (points_at (curves_of labels.now) v) }
+        → 0ℚ ≤ℚ value_at_end (points_at (points_of_each labels.now) v) }
     ensures { Gives (λ cuts. map cut_in cuts.items) (λ q. q) result (at_part OfCurve
-        (each (cut_link_by passes_Q (curves_of labels.now))
-        (links_with net.now.net.links (flow_of flow.now).inflows (flow_of flow.now).outflows
-        (flow_of flow.now).queues))) }
+        (each (cut_link_by passes_Q (points_of_each labels.now))
+        (links_with net.now.net.links (seen_flow flow.now).inflows (seen_flow flow.now).outflows
+        (seen_flow flow.now).queues))) }
 {
     let mut cuts = Vec::with_capacity(alloc, net.link_count() as usize)?;
     for number in 0..net.link_count() {

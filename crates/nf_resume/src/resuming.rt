@@ -11,11 +11,11 @@ ghost use Rattle.nf_check_def.specs.CheckList.{check_list};
 ghost use Rattle.nf_thin_def.specs.PhaseRun.{IsShortFlow};
 ghost use Rattle.nf_resume_def.specs.Resuming.{restart_list};
 ghost use Rattle.nf_resume_def.specs.Meanings.{GoesOnFrom, IsResumedReport};
-ghost use Rattle.nf_curve.specs.Flows.{flow_of};
+ghost use Rattle.nf_curve.specs.Flows.{seen_flow};
 ghost use Rattle.nf_report_read.specs.Files.{seen_report};
 ghost use Rattle.nf_phase_def.specs.Restoring.{EndsAtItsLabels};
 ghost use Rattle.nf_phase.specs.Stepping.{Reaches};
-ghost use Rattle.nf_phase.specs.Solution.{bounds_of, report_in};
+ghost use Rattle.nf_phase.specs.Solution.{bounds_of, solution_report};
 ghost use Rattle.nf_resume.specs.Faults.{IsCauseAtAnyHorizon, IsResumeFault};
 ghost use Rattle.nf_resume.specs.declared.fault.ResumeFault.TheVariants as ResumeFault;
 
@@ -100,13 +100,13 @@ pub fn resume(
     requires { IsWellFormed net.now.net (seen_report report.now) }
     ensures resumed { IfOk result
         (λ s. IsResumedReport passes_Q net.now.net (bounds_of horizon budgets)
-        (seen_report report.now) s.phases (report_in horizon s)) }
-    ensures equilibrium { IfOk result (λ s. Equilibrium net.now.net (flow_of s.flow)) }
+        (seen_report report.now) s.phases (solution_report horizon s)) }
+    ensures equilibrium { IfOk result (λ s. Equilibrium net.now.net (seen_flow s.flow)) }
     ensures goes_on { IfOk result
-        (λ s. GoesOnFrom net.now.net (seen_report report.now).flow (flow_of s.flow)) }
-    ensures short { IfOk result (λ s. IsShortFlow net.now.net (flow_of s.flow)) }
-    ensures ends { IfOk result (λ s. EndsAtItsLabels net.now.net (flow_of s.flow)) }
-    ensures formed { IfOk result (λ s. IsWellFormed net.now.net (report_in horizon s)) }
+        (λ s. GoesOnFrom net.now.net (seen_report report.now).flow (seen_flow s.flow)) }
+    ensures short { IfOk result (λ s. IsShortFlow net.now.net (seen_flow s.flow)) }
+    ensures ends { IfOk result (λ s. EndsAtItsLabels net.now.net (seen_flow s.flow)) }
+    ensures formed { IfOk result (λ s. IsWellFormed net.now.net (solution_report horizon s)) }
     ensures not_earlier { OnOk result ((seen_report report.now).flow.reached ≤ℚ horizon) }
     ensures fault { IfErr result
         (IsResumeFault passes_Q net.now.net (seen_report report.now) horizon) }

@@ -8,7 +8,7 @@ use Rattle.nf_phase_laws.specs.Description.{DescribesLinks}
 use Rattle.nf_phase_laws.proofs.Holds.{link_within, IsNashFlow-from_HoldsUpTo}
 use Rattle.nf_phase_laws.proofs.Description.{IsOutflow-described, IsQueue-described}
 use Rattle.nf_phase_laws.proofs.Points.{end-append}
-use Rattle.nf_thin_def.specs.Ends.{end_of}
+use Rattle.nf_thin_def.specs.Ends.{time_of_last}
 use Rattle.nf_resume_def.specs.Meanings.{GoesOnFrom}
 use Rattle.nf_phase_equilibrium_laws.proofs.Printed.{label-nn, rises-link}
 use Rattle.nf_phase_equilibrium_laws.proofs.Invariant.{HoldsUpTo-equilibrium, DescribesLinks-equilibrium}
@@ -96,8 +96,8 @@ module _ (net : Network) (old new : Flow) (good : IsNetwork net) (is : Equilibri
   label-same : (v : ℕ) → v < net.nodes → label new v new.reached ≡ label old v old.reached
   label-same v h = ap (label new v) cut.reached ∙ (cut.labels v h).values old.reached now
 
-  end_of_cut : (points short : List Point) (last : ℚ) → IsShortCut points last short → end_of short ≡ last
-  end_of_cut points short last c = ap end_of c.ends.same ∙ end-append c.ends.front (last, value short last)
+  end_of_cut : (points short : List Point) (last : ℚ) → IsShortCut points last short → time_of_last short ≡ last
+  end_of_cut points short last c = ap time_of_last c.ends.same ∙ end-append c.ends.front (last, value short last)
 
   pub EndsAtItsLabels-cut : EndsAtItsLabels net new
   EndsAtItsLabels-cut = record {

@@ -18,7 +18,7 @@ pub record AreInForm (routes : List NamedRoute) : Type 0 where
   pub each : (r : ℕ) (named : NamedRoute) → slice_get routes r ≡ Some named → IsInForm named
 
 -- the routes satisfy the rules, and hold no circle of links
-pub record AreKept (routes : List NamedRoute) : Type 0 where
+pub record KeepRules (routes : List NamedRoute) : Type 0 where
   pub form : AreInForm routes
   pub straight : ¬ HoldCircle (routes_of routes)
 

@@ -48,9 +48,9 @@ end_by horizon [] links e = horizon
 end_by horizon (p ∷ pairs) links e =
     if p.1 == e then max_ℚ (exit_end (slice_get links p.0)) (end_by horizon pairs links e) else end_by horizon pairs links e
 
-abbrev pub begins_with : List ℕ → ℕ → Bool
-begins_with [] e = false
-begins_with (f ∷ rest) e = f == e
+abbrev pub begins_at : List ℕ → ℕ → Bool
+begins_at [] e = false
+begins_at (f ∷ rest) e = f == e
 
 abbrev pub goes_over : List ℕ → ℕ → Bool
 goes_over links e = list_any (λ f. f == e) links
@@ -86,7 +86,7 @@ module _ (passes : Passing) where
 
   abbrev pub begin_all : ℚ → ℕ → List Route → List (List (List Point)) → Checked (List (List (List Point)))
   begin_all horizon e (route ∷ routes) (entries ∷ rest) = do
-    here ← begin_if (begins_with route.links e) horizon route entries
+    here ← begin_if (begins_at route.links e) horizon route entries
     later ← begin_all horizon e routes rest
     Ok (here ∷ later)
   begin_all horizon e routes entries = Ok []

@@ -54,7 +54,7 @@ pub use Rattle.nf_routes_def.specs.RoutesList.{
   add_if,
   begin_all,
   begin_if,
-  begins_with,
+  begins_at,
   but_last,
   end_by,
   end_or,

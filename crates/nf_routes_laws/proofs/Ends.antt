@@ -11,7 +11,7 @@ use Rattle.nf_curve_def.specs.Sums.{sides_at}
 use Rattle.nf_curve_laws.proofs.Following.{end_time, EndsAtTime, follows-end}
 use Rattle.nf_curve_laws.proofs.Pieces.{AreSides, sides_at-is}
 use Rattle.nf_curve_laws.proofs.Times.{IsOne}
-use Rattle.nf_load_def.specs.Cumulative.{end_of, point_after_0, point_if_after_0, with_piece, cumulative_from, checked_cumulative}
+use Rattle.nf_load_def.specs.Cumulative.{piece_end, point_after_0, point_if_after_0, with_piece, cumulative_from, checked_cumulative}
 use Rattle.nf_load_laws.proofs.Cumulative.{cumulative_more, cumulative_done}
 use Rattle.nf_load_laws.proofs.Functions.{exit_at}
 use Rattle.nf_load_laws.proofs.Loading.{ExitPoints, exit_points}
@@ -90,7 +90,7 @@ module _ (passes : Passing) (last : ℚ) where
   from-upto so_far (piece ∷ later) points e t w = ⊎_elim
       (λ (v : (lt_ℚ piece.start last ≡ true) × (piece.start <ℚ last)).
       let e' = cumulative_more passes so_far piece later last points v.0 e in
-      let sum = then_ok (with_piece passes so_far piece (end_of later last)) _ points e' in
+      let sum = then_ok (with_piece passes so_far piece (piece_end later last)) _ points e' in
       let rest = then_ok (cumulative_from passes sum.between later last) _ points sum.next in
       ⊎_elim
       (λ (x : IsOne t (times_of (point_if_after_0 piece.start so_far))). ≤ℚ_trans _ _ _

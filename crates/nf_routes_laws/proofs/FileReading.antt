@@ -11,7 +11,7 @@ use Rattle.nf_report_laws.proofs.FrameKept.{file_is}
 use Rattle.nf_report_laws.proofs.Outcomes.{where_true}
 use Rattle.nf_routes_def.specs.declared.RoutesRule.{RoutesRule}
 use Rattle.nf_routes_def.specs.RoutesFile.{RoutesBroken, NamedRoute, RoutesEntry, RouteLine, RateLine, End, RoutesDraft, route_names, routes_of, pieces_at, is_walk, routes_entry, routes_rule_of, routes_after, add_route_line, routes_ended, routes_frame, routes_of_lines, HoldsCircleIn, circle_broken, ReadsRoutes, is_ordered, unless_circle, routes_in}
-use Rattle.nf_routes_def.specs.Kept.{AreKept, AreSound}
+use Rattle.nf_routes_def.specs.Kept.{KeepRules, AreSound}
 use Rattle.nf_routes_laws.proofs.Ordering.{none-circle, circle-found}
 use Rattle.nf_routes_laws.proofs.FileEntries.{Entered, entered}
 use Rattle.nf_routes_laws.proofs.FileKept.{draft_sound, are_routes}
@@ -99,7 +99,7 @@ module _ (n : Named) where
       step false = λ e. cc
 
 -- routes that are all loaded hold no circle
-pub kept_routes : (n : Named) (routes : List NamedRoute) → AreSound n.net routes → is_ordered n routes ≡ true → AreKept routes
+pub kept_routes : (n : Named) (routes : List NamedRoute) → AreSound n.net routes → is_ordered n routes ≡ true → KeepRules routes
 kept_routes n routes sound o = record { form = sound.form; straight = none-circle n.net (routes_of routes) (are_routes n.net routes sound.form sound.walks) o }
 
 -- ---- the whole text
@@ -179,7 +179,7 @@ module _ (n : Named) (text : List ℕ) where
   circle_refused c = inr (refl, c)
 
   -- the routes read satisfy the rules
-  pub read_kept : (routes : List NamedRoute) → ReadsRoutes n text (Ok routes) → AreKept routes
+  pub read_kept : (routes : List NamedRoute) → ReadsRoutes n text (Ok routes) → KeepRules routes
   read_kept routes h = record { form = (lines_sound routes h.0).form; straight = h.1 }
 
   pub read_walks : (routes : List NamedRoute) → ReadsRoutes n text (Ok routes) → AreSound n.net routes

@@ -1,6 +1,6 @@
 -- Lists by index: the entries of a route so far, the change by a step, and the properties of the links so far.
 use Rattle.std.proofs.Common.{◌≡◌, ◌≢◌, ℕ, zero, suc, List, [], ◌∷◌, ◌++◌, length, inl, inr, ⊎_elim, true, false, eqb, Option, Some, None, slice_get, unwrap_or, set, refl, sym, ap, subst, ◌∙◌, arith}
-use Rattle.nf_routes_laws.proofs.Common.{Ok, map, eqb_tells, same_Some, ℚ, Passing, Point, Loaded, last_value, Route, LoadedLink, exit_end, begins_with}
+use Rattle.nf_routes_laws.proofs.Common.{Ok, map, eqb_tells, same_Some, ℚ, Passing, Point, Loaded, last_value, Route, LoadedLink, exit_end, begins_at}
 use Rattle.nf_routes_laws.proofs.Common.{goes_over, last_entry, but_last, begin_if, begin_all, next_if, next_all, exit_of, loaded_or, then_ok, same_Ok}
 use Rattle.nf_routes_laws.proofs.Ordering.{taken-in, in-taken, In}
 
@@ -74,26 +74,26 @@ module _ (passes : Passing) where
   begun-count horizon e [] entries begun h k = ap length (sym (same_Ok _ _ h))
   begun-count horizon e (x ∷ routes) [] begun h k = absurd (omega arith)
   begun-count horizon e (x ∷ routes) (y ∷ entries) begun h k =
-      let here = then_ok (begin_if passes (begins_with x.links e) horizon x y) _ begun h in
+      let here = then_ok (begin_if passes (begins_at x.links e) horizon x y) _ begun h in
       let later = then_ok (begin_all passes horizon e routes entries) _ begun here.next in
       ap length (sym (same_Ok _ _ later.next)) ∙ ap suc (begun-count horizon e routes entries later.between later.first (omega arith))
 
   pub begun-at : (horizon : ℚ) (e : ℕ) (routes : List Route) (entries begun : List (List (List Point))) (r : ℕ) (route : Route) (xs : List (List Point))
       → begin_all passes horizon e routes entries ≡ Ok begun
       → slice_get routes r ≡ Some route → slice_get entries r ≡ Some xs
-      → (b : List (List Point)) × (slice_get begun r ≡ Some b) × (begin_if passes (begins_with route.links e) horizon route xs ≡ Ok b)
+      → (b : List (List Point)) × (slice_get begun r ≡ Some b) × (begin_if passes (begins_at route.links e) horizon route xs ≡ Ok b)
   begun-at horizon e [] entries begun r route xs h i j = absurd (cc)
   begun-at horizon e (x ∷ routes) [] begun r route xs h i j = absurd (cc)
   begun-at horizon e (x ∷ routes) (y ∷ entries) begun zero route xs h i j =
-      let here = then_ok (begin_if passes (begins_with x.links e) horizon x y) _ begun h in
+      let here = then_ok (begin_if passes (begins_at x.links e) horizon x y) _ begun h in
       let later = then_ok (begin_all passes horizon e routes entries) _ begun here.next in (
         here.between,
         ap (λ (l : List (List (List Point))). slice_get l 0) (sym (same_Ok _ _ later.next)),
-        subst (λ (z : Route). begin_if passes (begins_with z.links e) horizon z xs ≡ Ok here.between) (same_Some x route i)
-            (subst (λ (z : List (List Point)). begin_if passes (begins_with x.links e) horizon x z ≡ Ok here.between) (same_Some y xs j) here.first),
+        subst (λ (z : Route). begin_if passes (begins_at z.links e) horizon z xs ≡ Ok here.between) (same_Some x route i)
+            (subst (λ (z : List (List Point)). begin_if passes (begins_at x.links e) horizon x z ≡ Ok here.between) (same_Some y xs j) here.first),
       )
   begun-at horizon e (x ∷ routes) (y ∷ entries) begun (suc r) route xs h i j =
-      let here = then_ok (begin_if passes (begins_with x.links e) horizon x y) _ begun h in
+      let here = then_ok (begin_if passes (begins_at x.links e) horizon x y) _ begun h in
       let later = then_ok (begin_all passes horizon e routes entries) _ begun here.next in
       let b = begun-at horizon e routes entries later.between r route xs later.first i j in
       (b.0, ap (λ (l : List (List (List Point))). slice_get l (suc r)) (sym (same_Ok _ _ later.next)) ∙ b.1, b.2)
@@ -145,14 +145,14 @@ over-place links e h = there links (taken-in links e h)
     there (l ∷ links) (inl w) = (0, ap (λ (x : ℕ). Some x) (sym w))
     there (l ∷ links) (inr w) = let p = there links w in (suc p.0, p.1)
 
-pub begins-at : (links : List ℕ) (e : ℕ) → slice_get links 0 ≡ Some e → begins_with links e ≡ true
+pub begins-at : (links : List ℕ) (e : ℕ) → slice_get links 0 ≡ Some e → begins_at links e ≡ true
 begins-at [] e h = absurd (cc)
 begins-at (l ∷ links) e h = ⊎_elim
     (λ (w : (eqb l e ≡ true) × (l ≡ e)). w.0)
     (λ (w : (eqb l e ≡ false) × (l ≢ e)). absurd (w.1 (same_Some l e h)))
     (eqb_tells l e)
 
-pub begins-place : (links : List ℕ) (e : ℕ) → begins_with links e ≡ true → slice_get links 0 ≡ Some e
+pub begins-place : (links : List ℕ) (e : ℕ) → begins_at links e ≡ true → slice_get links 0 ≡ Some e
 begins-place [] e h = absurd (cc)
 begins-place (l ∷ links) e h = ⊎_elim
     (λ (w : (eqb l e ≡ true) × (l ≡ e)). ap (λ (x : ℕ). Some x) w.1)

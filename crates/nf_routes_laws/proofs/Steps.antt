@@ -1,7 +1,7 @@
 -- The links of a route that are taken, and the change of a route's entries by the step of a link.
 use Rattle.std.proofs.Common.{◌≡◌, ℕ, zero, suc, ◌<◌, ◌≤◌, List, [], ◌∷◌, ◌++◌, length, ◌⊎◌, inl, inr, ⊎_elim, Bool, true, false, Some, slice_get, refl, sym, ap, subst, ◌∙◌, arith}
 use Rattle.nf_routes_laws.proofs.Common.{Ok, same_Some, slice_get_within, append-nil, ℚ, Passing, Point, Piece, checked_short, checked_cumulative, Route}
-use Rattle.nf_routes_laws.proofs.Common.{PrecedesOnRoute, begins_with, goes_over, last_entry, next_entry, begin_if, next_if, then_ok, entry, same_Ok, not_both}
+use Rattle.nf_routes_laws.proofs.Common.{PrecedesOnRoute, begins_at, goes_over, last_entry, next_entry, begin_if, next_if, then_ok, entry, same_Ok, not_both}
 use Rattle.nf_routes_laws.proofs.Ordering.{In, in-front, in-back, in-either}
 use Rattle.nf_routes_laws.proofs.Stages.{nothing_before, over-at, begins-at, begins-place}
 use Rattle.nf_rational_laws.proofs.Naturals.{compared, before_or_at}
@@ -82,16 +82,16 @@ module _ (passes : Passing) where
 
   module _ (e : ℕ) (horizon : ℚ) (route : Route) (xs begun : List (List Point)) where
     begun-is : (n : ℕ) → slice_get route.links n ≡ Some e → ((place : ℕ) → slice_get route.links place ≡ Some e → place ≡ n) → length xs ≡ stage n
-        → begin_if passes (begins_with route.links e) horizon route xs ≡ Ok begun → Begun horizon route n xs begun
+        → begin_if passes (begins_at route.links e) horizon route xs ≡ Ok begun → Begun horizon route n xs begun
     begun-is zero at only count h =
         let h' = ap (λ (b : Bool). begin_if passes b horizon route xs) (sym (begins-at route.links e at)) ∙ h in
         let a = then_ok (checked_cumulative passes route.pieces horizon) _ begun h' in
         let b = then_ok (checked_short passes a.between) _ begun a.next in
         subst (λ (l : List (List Point)). Begun horizon route 0 xs l) (same_Ok _ _ b.next)
         (record { count = refl; first = λ _. (a.between, a.first, b.first); more = b.between ∷ []; grown = nothing_before xs (b.between ∷ []) count })
-    begun-is (suc n) at only count h = by (begins_with route.links e) refl h
+    begun-is (suc n) at only count h = by (begins_at route.links e) refl h
       where
-        by : (b : Bool) → begins_with route.links e ≡ b → begin_if passes b horizon route xs ≡ Ok begun → Begun horizon route (suc n) xs begun
+        by : (b : Bool) → begins_at route.links e ≡ b → begin_if passes b horizon route xs ≡ Ok begun → Begun horizon route (suc n) xs begun
         by true t k = absurd (no (only 0 (begins-place route.links e t)))
           where
             no : 0 ≡ suc n → ⊥
@@ -112,17 +112,17 @@ module _ (passes : Passing) where
 
     pub over-is : (exit : List Point) (n : ℕ) (after : List (List Point)) → slice_get route.links n ≡ Some e
         → ((place : ℕ) → slice_get route.links place ≡ Some e → place ≡ n) → length xs ≡ stage n
-        → begin_if passes (begins_with route.links e) horizon route xs ≡ Ok begun → next_if passes (goes_over route.links e) exit begun ≡ Ok after → Over exit n after
+        → begin_if passes (begins_at route.links e) horizon route xs ≡ Ok begun → next_if passes (goes_over route.links e) exit begun ≡ Ok after → Over exit n after
     over-is exit n after at only count h k =
         let k' = ap (λ (b : Bool). next_if passes b exit begun) (sym (over-at route.links n e at)) ∙ k in
         let a = then_ok (next_entry passes exit (last_entry begun)) _ after k' in
         record { at = at; begins = begun-is n at only count h; next = a.between; sends = a.first; after_is = sym (same_Ok _ _ a.next) }
 
     -- on any other route nothing changes
-    pub past-is : (exit : List Point) (after : List (List Point)) → goes_over route.links e ≡ false → begin_if passes (begins_with route.links e) horizon route xs ≡ Ok begun
+    pub past-is : (exit : List Point) (after : List (List Point)) → goes_over route.links e ≡ false → begin_if passes (begins_at route.links e) horizon route xs ≡ Ok begun
         → next_if passes (goes_over route.links e) exit begun ≡ Ok after → after ≡ xs
-    past-is exit after past h k = sym (same_Ok _ _ (ap (λ (b : Bool). next_if passes b exit begun) (sym past) ∙ k)) ∙ by (begins_with route.links e) refl h
+    past-is exit after past h k = sym (same_Ok _ _ (ap (λ (b : Bool). next_if passes b exit begun) (sym past) ∙ k)) ∙ by (begins_at route.links e) refl h
       where
-        by : (b : Bool) → begins_with route.links e ≡ b → begin_if passes b horizon route xs ≡ Ok begun → begun ≡ xs
+        by : (b : Bool) → begins_at route.links e ≡ b → begin_if passes b horizon route xs ≡ Ok begun → begun ≡ xs
         by true t g = absurd (not_both (goes_over route.links e) (over-at route.links 0 e (begins-place route.links e t)) past)
         by false t g = sym (same_Ok _ _ g)

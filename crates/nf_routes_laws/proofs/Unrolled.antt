@@ -3,7 +3,7 @@ use Rattle.std.proofs.Common.{◌≡◌, ◌≢◌, ℕ, zero, suc, ◌<◌, Lis
 use Rattle.nf_routes_laws.proofs.Common.{Ok, map, if◌then◌else◌, range_with_len, eqb_tells, length-map, append-nil, same_Some, slice_get_within, ℚ, 0ℚ, ◌≤ℚ◌}
 use Rattle.nf_routes_laws.proofs.Common.{◌<ℚ◌, max_ℚ, ≤ℚ_of_lt, ≤ℚ_of_same, Passing, Point, number_at, Link, Network, IsLink, Loaded, checked_loading}
 use Rattle.nf_routes_laws.proofs.Common.{last_value, Route, all_pairs, PrecedesOnRoute, first_free, with_next, order_from, LoadedLink, SoFar, Routed, exit_end, end_by}
-use Rattle.nf_routes_laws.proofs.Common.{begins_with, goes_over, last_entry, but_last, begin_if, begin_all, sum_from, next_if, next_all, next_entry, load_here}
+use Rattle.nf_routes_laws.proofs.Common.{begins_at, goes_over, last_entry, but_last, begin_if, begin_all, sum_from, next_if, next_all, next_entry, load_here}
 use Rattle.nf_routes_laws.proofs.Common.{load_all, end_or, loaded_or, link_loaded, stages_at, arrival_at, entry_at, then_ok, ≤ℚ_refl, ≤ℚ_trans, entry}
 use Rattle.nf_routes_laws.proofs.Common.{slice_get-image, same_Ok, not_both}
 use Rattle.nf_rational_laws.proofs.Tests.{max_ℚ_cases}
@@ -163,7 +163,7 @@ module _ (passes : Passing) (net : Network) (routes : List Route) (horizon : ℚ
         }
       where
         by : (was : RouteStands front s r route) (begun after : List (List Point))
-            → begin_if passes (begins_with route.links e) horizon route was.entries ≡ Ok begun
+            → begin_if passes (begins_at route.links e) horizon route was.entries ≡ Ok begun
             → next_if passes (goes_over route.links e) d.loaded.exit begun ≡ Ok after
             → (b : Bool) → goes_over route.links e ≡ b
             → Over passes e horizon route was.entries begun d.loaded.exit was.n after ⊎ (((place : ℕ) → slice_get route.links place ≡ Some e → ⊥) × (after ≡ was.entries))

@@ -4,7 +4,7 @@ use Rattle.nf_net_def.specs.Named.{Named}
 use Rattle.nf_routes_def.specs.declared.RoutesRule.TheVariants.{G17}
 use Rattle.nf_routes_def.specs.Routes.{AreWalks}
 use Rattle.nf_routes_def.specs.RoutesFile.{NamedRoute, RoutesBroken, routes_of, HoldsCircleIn, circle_broken, ReadsRoutes, routes_in}
-use Rattle.nf_routes_def.specs.Kept.{AreKept}
+use Rattle.nf_routes_def.specs.Kept.{KeepRules}
 
 -- each text has exactly one reading, which the loading order decides
 pub record RoutesHaveOneReading : Type 0 where
@@ -19,5 +19,5 @@ pub record LastRuleIsCircle : Type 0 where
 
 -- the routes read satisfy the rules that need no network, and are walks from source to sink
 pub record ReadRoutesAreKept : Type 0 where
-  pub kept : (n : Named) (text : List ℕ) (routes : List NamedRoute) → ReadsRoutes n text (Ok routes) → AreKept routes
+  pub kept : (n : Named) (text : List ℕ) (routes : List NamedRoute) → ReadsRoutes n text (Ok routes) → KeepRules routes
   pub walks : (n : Named) (text : List ℕ) (routes : List NamedRoute) → ReadsRoutes n text (Ok routes) → AreWalks n.net (routes_of routes)

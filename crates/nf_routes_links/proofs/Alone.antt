@@ -2,9 +2,9 @@
 use Rattle.std.proofs.Common.{◌≡◌, ℕ, zero, suc, ◌+◌, ◌<◌, ◌≤◌, List, [], ◌∷◌, ◌++◌, length, map, take, drop, set, Bool, true, false, refl, sym, ap, ◌∙◌, append-nil, arith}
 use Rattle.nf_frac_def.proofs.Binding.{bind_same}
 use Rattle.nf_routes_links.proofs.Common.{Option, Some, None, Ok, Err, slice_get, AllByRecursion, drop_all, take_all, ℚ, 0ℚ, Passing, Checked, ◌>>=◌, Point}
-use Rattle.nf_routes_links.proofs.Common.{Link, Network, Loaded, checked_loading, Route, all_pairs, loading_order, SoFar, begins_with, goes_over, last_entry}
-use Rattle.nf_routes_links.proofs.Common.{end_by, next_entry, begin_if, begin_all, add_if, sum_from, next_if, next_all, load_here, load_all, IsAmount}
-use Rattle.nf_routes_links.proofs.Common.{nothing_loaded, nothing_sent, all_loaded, Along, last_alone, keeping_last, kept_after, load_kept, all_kept, Kept}
+use Rattle.nf_routes_links.proofs.Common.{Link, Network, Loaded, checked_loading, Route, all_pairs, loading_order, SoFar, begins_at, goes_over, last_entry}
+use Rattle.nf_routes_links.proofs.Common.{end_by, next_entry, begin_if, begin_all, add_if, sum_from, next_if, next_all, load_here, load_all, IsAmountCurve}
+use Rattle.nf_routes_links.proofs.Common.{nothing_loaded, nothing_sent, all_loaded, ForEachRoute, last_alone, keeping_last, kept_after, load_kept, all_kept, Kept}
 use Rattle.nf_routes_links.specs.declared.keeping.Kept.TheVariants.{Every, Last}
 use Rattle.nf_routes_links.proofs.Lists.{last_push}
 use Rattle.nf_routes_links.proofs.Passed.{chain}
@@ -69,7 +69,7 @@ turned_all entries now i e h =
     ∙ append-nil (map last_alone entries)
 
 -- ---- what is loaded so far stands
-alone_amounts : (sent : Sent) → AllByRecursion IsAmount sent → AllByRecursion IsAmount (last_alone sent)
+alone_amounts : (sent : Sent) → AllByRecursion IsAmountCurve sent → AllByRecursion IsAmountCurve (last_alone sent)
 alone_amounts [] all = tt
 alone_amounts (x ∷ rest) all = (last_amount (x ∷ rest) all (omega arith), tt)
 
@@ -80,7 +80,7 @@ alone_some (x ∷ rest) h = omega arith
 alone_sound : (taken : List ℕ) (route : Route) (sent : Sent) → IsSound taken route sent → IsSound taken route (last_alone sent)
 alone_sound taken route sent s = record { pieces = s.pieces; amounts = alone_amounts sent s.amounts; some = λ f t over. alone_some sent (s.some f t over) }
 
-along_alone : (taken : List ℕ) (routes : List Route) (entries : List Sent) → Along (IsSound taken) routes entries → Along (IsSound taken) routes (map last_alone entries)
+along_alone : (taken : List ℕ) (routes : List Route) (entries : List Sent) → ForEachRoute (IsSound taken) routes entries → ForEachRoute (IsSound taken) routes (map last_alone entries)
 along_alone taken [] [] along = tt
 along_alone taken [] (sent ∷ rest) along = absurd along
 along_alone taken (route ∷ routes) [] along = absurd along
@@ -132,8 +132,8 @@ module _ (passes : Passing) where
       → all_alone (begin_all passes horizon e routes (map last_alone entries)) ≡ all_alone (begin_all passes horizon e routes entries)
   begins_alone horizon e routes entries =
       ap all_alone (begin_all-is passes horizon e routes (map last_alone entries))
-      ∙ steps_alone (λ (route : Route) (sent : Sent). begin_if passes (begins_with route.links e) horizon route sent)
-      (λ route sent. begin_alone (begins_with route.links e) horizon route sent) routes entries
+      ∙ steps_alone (λ (route : Route) (sent : Sent). begin_if passes (begins_at route.links e) horizon route sent)
+      (λ route sent. begin_alone (begins_at route.links e) horizon route sent) routes entries
       ∙ ap all_alone (sym (begin_all-is passes horizon e routes entries))
 
   sum_alone : (e : ℕ) (total : List Point) (routes : List Route) (entries : List Sent) → sum_from passes e total routes (map last_alone entries) ≡ sum_from passes e total routes entries

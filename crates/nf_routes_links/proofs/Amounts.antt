@@ -1,7 +1,7 @@
 -- Amounts: brought into short form, summed up, and what pieces supply. Exits: those of a link's loading.
 use Rattle.std.proofs.Common.{◌≡◌, List, [], ◌∷◌, Option, refl, sym, subst, ◌∙◌, Ok}
 use Rattle.nf_routes_links.proofs.Common.{ℚ, 0ℚ, ◌+ℚ◌, ◌≤ℚ◌, ≤ℚ_refl, ≤ℚ_trans, Passing, Point, value, IsCurve, NeverFalls, Piece, NeverFalls-value}
-use Rattle.nf_routes_links.proofs.Common.{checked_sum, checked_short-is, Loaded, checked_loading, IsAmount, AreExits}
+use Rattle.nf_routes_links.proofs.Common.{checked_sum, checked_short-is, Loaded, checked_loading, IsAmountCurve, AreExits}
 use Rattle.nf_rational_laws.proofs.Polynomial.{reading_of}
 use Rattle.nf_rational_laws.proofs.Linear.{le, linear_le}
 use Rattle.nf_model_laws.specs.Capacity.{IsPositive}
@@ -19,7 +19,7 @@ use Rattle.nf_rational_laws.proofs.Facts.{sum_le, both_are_zero}
 
 -- ---- functions that have the same values from time 0 on
 
-pub short_amount : (points short : List Point) → IsAmount points → IsShortOf points short → IsAmount short
+pub short_amount : (points short : List Point) → IsAmountCurve points → IsShortOf points short → IsAmountCurve short
 short_amount points short a s = record {
   curve = s.curve;
   begins = s.values 0ℚ (≤ℚ_refl 0ℚ) ∙ a.begins;
@@ -34,25 +34,25 @@ short_exits points short a s = record {
 }
 
 -- ---- nothing, sums, and what pieces supply
-pub no_amount : IsAmount ((0ℚ, 0ℚ) ∷ [])
+pub no_amount : IsAmountCurve ((0ℚ, 0ℚ) ∷ [])
 no_amount = record { curve = (refl, tt); begins = refl; rises = λ s t h k. ≤ℚ_refl 0ℚ }
 
-pub sum_amount : (left right sum : List Point) → IsAmount left → IsAmount right → IsSumOf left right sum → IsAmount sum
+pub sum_amount : (left right sum : List Point) → IsAmountCurve left → IsAmountCurve right → IsSumOf left right sum → IsAmountCurve sum
 sum_amount left right sum a b s = record {
   curve = s.curve;
   begins = s.values 0ℚ (≤ℚ_refl 0ℚ) ∙ both_are_zero _ _ a.begins b.begins;
   rises = rises-same (λ t. value left t +ℚ value right t) (value sum) s.values (λ i j h k. sum_le _ _ _ _ (a.rises i j h k) (b.rises i j h k));
 }
 
-pub summed_amount : (passes : Passing) (left right sum : List Point) → IsAmount left → IsAmount right → checked_sum passes left right ≡ Ok sum → IsAmount sum
+pub summed_amount : (passes : Passing) (left right sum : List Point) → IsAmountCurve left → IsAmountCurve right → checked_sum passes left right ≡ Ok sum → IsAmountCurve sum
 summed_amount passes left right sum a b e = sum_amount left right sum a b (checked_sum-is passes left right a.curve b.curve sum e)
 
-pub supplied_amount : (pieces : List Piece) (last : ℚ) (points : List Point) → IsCumulative pieces last points → IsAmount points
+pub supplied_amount : (pieces : List Piece) (last : ℚ) (points : List Point) → IsCumulative pieces last points → IsAmountCurve points
 supplied_amount pieces last points w = record { curve = w.curve; begins = w.begins; rises = w.rises }
 
 -- ---- the exits of a loading
 module _ (passes : Passing) (transit : ℚ) (capacity : Option ℚ) (inflow : List Point) (last : ℚ) (loaded : Loaded)
-    (amount : IsAmount inflow) (waits_0 : 0ℚ ≤ℚ transit) (positive : IsPositive capacity) (from_0 : 0ℚ ≤ℚ last) where
+    (amount : IsAmountCurve inflow) (waits_0 : 0ℚ ≤ℚ transit) (positive : IsPositive capacity) (from_0 : 0ℚ ≤ℚ last) where
   abbrev at : ℚ → ℚ
   at t = exit_at transit capacity inflow amount.curve t
 

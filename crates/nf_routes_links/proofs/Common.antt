@@ -37,7 +37,7 @@ pub use Rattle.nf_routes_def.specs.RoutesList.{
   add_if,
   begin_all,
   begin_if,
-  begins_with,
+  begins_at,
   but_last,
   end_by,
   exit_end,
@@ -54,11 +54,11 @@ pub use Rattle.nf_routes_def.specs.RoutesList.{
   sum_from,
   travel_on,
 }
-pub use Rattle.nf_routes_links.specs.Amounts.{AreExits, IsAmount}
+pub use Rattle.nf_routes_links.specs.Amounts.{AreExits, IsAmountCurve}
 pub use Rattle.nf_routes_links.specs.Beginning.{HavePieces, all_loaded, first_entry, nothing_loaded, nothing_sent}
 pub use Rattle.nf_routes_links.specs.Keeping.{all_kept, kept_after, last_alone, load_kept, keeping_last}
 pub use Rattle.nf_routes_links.specs.Points.{AreKnown, AreThere, right_point}
-pub use Rattle.nf_routes_links.specs.Standing.{Along, IsFullyLoaded, MayBegin, MayLoad, Sends, seen_so_far}
+pub use Rattle.nf_routes_links.specs.Standing.{ForEachRoute, IsFullyLoaded, MayBegin, MayLoad, Sends, seen_so_far}
 pub use Rattle.nf_routes_links.specs.Travels.{AreTravels, GoOverAll, HaveExits, travel_along}
 pub use Rattle.nf_routes_links.specs.declared.keeping.Kept.{Kept}
 pub use Rattle.nf_routes_read.proofs.Taking.{IsPlaced, order_placed, taken-push}

@@ -2,8 +2,8 @@
 use Rattle.std.proofs.Common.{◌≡◌, ℕ, zero, suc, ◌+◌, ◌<◌, ◌≤◌, List, [], ◌∷◌, ◌++◌, length, take, drop, set, refl, sym, ap, subst, ◌∙◌, append_assoc, append-nil, arith}
 use Rattle.nf_rational_laws.proofs.Entries.{drop_next}
 use Rattle.nf_routes_links.proofs.Common.{Some, Ok, Err, slice_get, take_more_set, drop-set-lt, drop-drop, drop_all, take_all, length-set, ℚ, Halt, Load}
-use Rattle.nf_routes_links.proofs.Common.{Passing, Checked, Stops, at_part, ◌>>=◌, with_front, Point, Route, begins_with, goes_over, last_entry, begin_if}
-use Rattle.nf_routes_links.proofs.Common.{begin_all, add_if, sum_from, next_if, next_all, after_err, was_ok, front_none, front_err, stops_on, Along}
+use Rattle.nf_routes_links.proofs.Common.{Passing, Checked, Stops, at_part, ◌>>=◌, with_front, Point, Route, begins_at, goes_over, last_entry, begin_if}
+use Rattle.nf_routes_links.proofs.Common.{begin_all, add_if, sum_from, next_if, next_all, after_err, was_ok, front_none, front_err, stops_on, ForEachRoute}
 
 abbrev pub Sent : Type 0
 Sent = List (List Point)
@@ -18,11 +18,11 @@ step_all f (route ∷ routes) (sent ∷ rest) = do
   Ok (here ∷ later)
 
 pub begin_all-is : (passes : Passing) (horizon : ℚ) (e : ℕ) (routes : List Route) (entries : List Sent)
-    → begin_all passes horizon e routes entries ≡ step_all (λ (route : Route) (sent : Sent). begin_if passes (begins_with route.links e) horizon route sent) routes entries
+    → begin_all passes horizon e routes entries ≡ step_all (λ (route : Route) (sent : Sent). begin_if passes (begins_at route.links e) horizon route sent) routes entries
 begin_all-is passes horizon e [] entries = refl
 begin_all-is passes horizon e (route ∷ routes) [] = refl
 begin_all-is passes horizon e (route ∷ routes) (sent ∷ rest) =
-    ap (λ (r : Checked (List Sent)). begin_if passes (begins_with route.links e) horizon route sent >>= λ here. r >>= λ later. Ok (here ∷ later))
+    ap (λ (r : Checked (List Sent)). begin_if passes (begins_at route.links e) horizon route sent >>= λ here. r >>= λ later. Ok (here ∷ later))
     (begin_all-is passes horizon e routes rest)
 
 pub next_all-is : (passes : Passing) (e : ℕ) (exit : List Point) (routes : List Route) (entries : List Sent)
@@ -100,8 +100,8 @@ module _ (f : Route → Sent → Checked Sent) (routes : List Route) (old : List
 
 -- ---- what holds of each route before a step, and what holds then after it
 pub steps_keep : (f : Route → Sent → Checked Sent) (P Q : Route → Sent → Type 0) → ((route : Route) (sent next : Sent) → P route sent → f route sent ≡ Ok next → Q route next)
-    → (routes : List Route) (entries next : List Sent) → Along P routes entries → step_all f routes entries ≡ Ok next → Along Q routes next
-steps_keep f P Q keeps [] [] next along e = subst (λ (l : List Sent). Along Q [] l) (ok_same e) tt
+    → (routes : List Route) (entries next : List Sent) → ForEachRoute P routes entries → step_all f routes entries ≡ Ok next → ForEachRoute Q routes next
+steps_keep f P Q keeps [] [] next along e = subst (λ (l : List Sent). ForEachRoute Q [] l) (ok_same e) tt
   where
     ok_same : {x y : List Sent} → ◌≡◌ {A = Checked (List Sent)} (Ok x) (Ok y) → x ≡ y
     ok_same e = cc
@@ -112,14 +112,14 @@ steps_keep f P Q keeps (route ∷ routes) (sent ∷ rest) next along e = by (f r
     ok_same : {x y : List Sent} → ◌≡◌ {A = Checked (List Sent)} (Ok x) (Ok y) → x ≡ y
     ok_same e = cc
 
-    by : (r : Checked Sent) → f route sent ≡ r → (s : Checked (List Sent)) → ((later : List Sent) → s ≡ Ok later → Along Q routes later)
-        → (r >>= λ here. s >>= λ later. Ok (here ∷ later)) ≡ Ok next → Along Q (route ∷ routes) next
-    by (Ok here) h (Ok later) on e = subst (λ (l : List Sent). Along Q (route ∷ routes) l) (ok_same e) (keeps route sent here along.0 h, on later refl)
+    by : (r : Checked Sent) → f route sent ≡ r → (s : Checked (List Sent)) → ((later : List Sent) → s ≡ Ok later → ForEachRoute Q routes later)
+        → (r >>= λ here. s >>= λ later. Ok (here ∷ later)) ≡ Ok next → ForEachRoute Q (route ∷ routes) next
+    by (Ok here) h (Ok later) on e = subst (λ (l : List Sent). ForEachRoute Q (route ∷ routes) l) (ok_same e) (keeps route sent here along.0 h, on later refl)
     by (Ok here) h (Err p) on e = absurd (cc)
     by (Err p) h s on e = absurd (cc)
 
 -- of the route at a place, and what it has sent
-pub along_at : (P : Route → Sent → Type 0) (routes : List Route) (entries : List Sent) (i : ℕ) (route : Route) (sent : Sent) → Along P routes entries
+pub along_at : (P : Route → Sent → Type 0) (routes : List Route) (entries : List Sent) (i : ℕ) (route : Route) (sent : Sent) → ForEachRoute P routes entries
     → slice_get routes i ≡ Some route → slice_get entries i ≡ Some sent → P route sent
 along_at P [] entries i route sent along h k = absurd (cc)
 along_at P (x ∷ routes) [] i route sent along h k = absurd along
@@ -129,14 +129,14 @@ along_at P (x ∷ routes) (y ∷ entries) zero route sent along h k =
     subst (λ (r : Route). P r sent) a (subst (λ (s : Sent). P x s) b along.0)
 along_at P (x ∷ routes) (y ∷ entries) (suc i) route sent along h k = along_at P routes entries i route sent along.1 h k
 
-pub along-count : (P : Route → Sent → Type 0) (routes : List Route) (entries : List Sent) → Along P routes entries → length entries ≡ length routes
+pub along-count : (P : Route → Sent → Type 0) (routes : List Route) (entries : List Sent) → ForEachRoute P routes entries → length entries ≡ length routes
 along-count P [] [] along = refl
 along-count P [] (y ∷ entries) along = absurd along
 along-count P (x ∷ routes) [] along = absurd along
 along-count P (x ∷ routes) (y ∷ entries) along = ap suc (along-count P routes entries along.1)
 
 pub along_as : (P Q : Route → Sent → Type 0) → ((route : Route) (sent : Sent) → P route sent → Q route sent) → (routes : List Route) (entries : List Sent)
-    → Along P routes entries → Along Q routes entries
+    → ForEachRoute P routes entries → ForEachRoute Q routes entries
 along_as P Q gives [] [] along = tt
 along_as P Q gives [] (y ∷ entries) along = absurd along
 along_as P Q gives (x ∷ routes) [] along = absurd along

@@ -1,8 +1,8 @@
 -- The loading of a link, step by step, as the list has it.
 use Rattle.std.proofs.Common.{◌≡◌, ℕ, List, [], ◌∷◌, set, sym, ◌∙◌, Some, Ok, Err}
 use Rattle.nf_routes_links.proofs.Common.{ℚ, 0ℚ, ◌≤ℚ◌, ≤ℚ_trans, PassedAt, Load, Passing, Checked, at_part, ◌>>=◌, Point, Link, Network, IsLink, IsNetwork}
-use Rattle.nf_routes_links.proofs.Common.{IsPositive-link, Loaded, checked_loading, after_err, after_ok, was_ok, Route, all_pairs, SoFar, begins_with, begin_if}
-use Rattle.nf_routes_links.proofs.Common.{end_by, begin_all, sum_from, next_all, load_here, IsAmount, AreExits, Along, MayBegin, Sends, MayLoad}
+use Rattle.nf_routes_links.proofs.Common.{IsPositive-link, Loaded, checked_loading, after_err, after_ok, was_ok, Route, all_pairs, SoFar, begins_at, begin_if}
+use Rattle.nf_routes_links.proofs.Common.{end_by, begin_all, sum_from, next_all, load_here, IsAmountCurve, AreExits, ForEachRoute, MayBegin, Sends, MayLoad}
 use Rattle.nf_routes_links.proofs.Amounts.{no_amount, loaded_exits}
 use Rattle.nf_routes_links.proofs.Greatest.{end-least}
 use Rattle.nf_routes_links.proofs.Folds.{Sent, begin_all-is, steps_keep}
@@ -65,13 +65,13 @@ module _ (passes : Passing) (horizon : ℚ) (routes : List Route) (so_far : SoFa
     pub end_nn : 0ℚ ≤ℚ end
     end_nn = ≤ℚ_trans _ _ _ from_0 (end-least horizon (all_pairs routes) so_far.links e)
 
-    pub all_send : (begun : List Sent) → at_part Load (begin_all passes horizon e routes so_far.entries) ≡ Ok begun → Along (Sends e) routes begun
-    all_send begun b = steps_keep (λ route sent. begin_if passes (begins_with route.links e) horizon route sent) (MayBegin e) (Sends e)
+    pub all_send : (begun : List Sent) → at_part Load (begin_all passes horizon e routes so_far.entries) ≡ Ok begun → ForEachRoute (Sends e) routes begun
+    all_send begun b = steps_keep (λ route sent. begin_if passes (begins_at route.links e) horizon route sent) (MayBegin e) (Sends e)
         (begun_sends passes e horizon from_0) routes so_far.entries begun
         may.entries (sym (begin_all-is passes horizon e routes so_far.entries) ∙ was_ok Load (begin_all passes horizon e routes so_far.entries) begun b)
 
     pub inflow_is : (begun : List Sent) (inflow : List Point) → at_part Load (begin_all passes horizon e routes so_far.entries) ≡ Ok begun
-        → at_part Load (sum_from passes e ((0ℚ, 0ℚ) ∷ []) routes begun) ≡ Ok inflow → IsAmount inflow
+        → at_part Load (sum_from passes e ((0ℚ, 0ℚ) ∷ []) routes begun) ≡ Ok inflow → IsAmountCurve inflow
     inflow_is begun inflow b s = inflow_amount passes e ((0ℚ, 0ℚ) ∷ []) routes begun inflow no_amount (all_send begun b)
         (was_ok Load (sum_from passes e ((0ℚ, 0ℚ) ∷ []) routes begun) inflow s)
 

@@ -2,7 +2,7 @@
 use Rattle.std.proofs.Common.{◌≡◌, List, [], ◌∷◌, ⊎_elim, Bool, true, false, refl, sym, ap, subst, ◌∙◌, Result, Ok, Err, IfOk}
 use Rattle.nf_routes_links.proofs.Common.{ℚ, 0ℚ, ◌≤ℚ◌, ◌<ℚ◌, ≤ℚ_of_lt, ≤ℚ_antisymm, lt_or_le_ℚ, ≤ℚ_refl, ≤ℚ_trans, Halt, PassedAt, Load, Passing, Checked}
 use Rattle.nf_routes_links.proofs.Common.{Gives, at_part, each, Point, value, TimesRise, IsCurve, value-first, NeverFalls-value, is_same, checked_short}
-use Rattle.nf_routes_links.proofs.Common.{both_times, sides_at, then_ok, is_same_cases, checked_short-is, after_err, after_ok, was_ok, same_Ok, IsAmount}
+use Rattle.nf_routes_links.proofs.Common.{both_times, sides_at, then_ok, is_same_cases, checked_short-is, after_err, after_ok, was_ok, same_Ok, IsAmountCurve}
 use Rattle.nf_routes_links.proofs.Common.{AreExits}
 use Rattle.nf_model_laws.specs.CurveLaws.{ValuesRise}
 use Rattle.nf_curve_def.specs.Lines.{Sides}
@@ -14,7 +14,7 @@ use Rattle.nf_routes_links.proofs.Amounts.{short_amount}
 strictly : (x y : ℚ) → x ≤ℚ y → (x ≡ y → ⊥) → x <ℚ y
 strictly x y h n = ⊎_elim (λ (l : x <ℚ y). l) (λ (l : y ≤ℚ x). absurd (n (≤ℚ_antisymm x y h l))) (lt_or_le_ℚ x y)
 
-module _ (passes : Passing) (exit entry : List Point) (exits : AreExits exit) (amount : IsAmount entry) where
+module _ (passes : Passing) (exit entry : List Point) (exits : AreExits exit) (amount : IsAmountCurve entry) where
   abbrev A : ℚ → ℚ
   A t = value entry t
 
@@ -78,14 +78,14 @@ module _ (passes : Passing) (exit entry : List Point) (exits : AreExits exit) (a
   pub points_curve : (sides : List Sides) → each (sides_at passes entry exit) (both_times entry exit) ≡ Ok sides → IsCurve ((0ℚ, 0ℚ) ∷ next_from 0ℚ sides)
   points_curve sides e = (refl, (all_climb sides e).times)
 
-  points_amount : (sides : List Sides) → each (sides_at passes entry exit) (both_times entry exit) ≡ Ok sides → IsAmount ((0ℚ, 0ℚ) ∷ next_from 0ℚ sides)
+  points_amount : (sides : List Sides) → each (sides_at passes entry exit) (both_times entry exit) ≡ Ok sides → IsAmountCurve ((0ℚ, 0ℚ) ∷ next_from 0ℚ sides)
   points_amount sides e = record {
     curve = points_curve sides e;
     begins = value-first (0ℚ, 0ℚ) (next_from 0ℚ sides) (all_climb sides e).times;
     rises = NeverFalls-value ((0ℚ, 0ℚ) ∷ next_from 0ℚ sides) (points_curve sides e) (all_climb sides e).values;
   }
 
-  pub next_amount : (next : List Point) → next_entry passes exit entry ≡ Ok next → IsAmount next
+  pub next_amount : (next : List Point) → next_entry passes exit entry ≡ Ok next → IsAmountCurve next
   unfolding next_entry
   next_amount next e =
       let s = then_ok (each (sides_at passes entry exit) (both_times entry exit)) _ next e in

@@ -2,8 +2,8 @@
 use Rattle.std.proofs.Common.{◌≡◌, ◌≢◌, ℕ, zero, suc, ◌<◌, List, [], ◌∷◌, ◌++◌, length, ⊎_elim, Bool, true, false, not, ◌||◌, eqb, refl, sym, ap, subst, ◌∙◌, arith}
 use Rattle.nf_routes_links.proofs.Common.{Ok, Some, slice_get, AllByRecursion, list_all, eqb_tells, ℚ, 0ℚ, ◌≤ℚ◌, Passing, Point, ArePieces, checked_short}
 use Rattle.nf_routes_links.proofs.Common.{then_ok, checked_short-is, checked_cumulative, same_Ok, not_both, or_rest, Route, pairs_of, all_pairs, is_taken}
-use Rattle.nf_routes_links.proofs.Common.{begins_with, goes_over, last_entry, next_entry, begin_if, add_if, sum_from, next_if, taken-push, IsAmount, AreExits}
-use Rattle.nf_routes_links.proofs.Common.{nothing_sent, HavePieces, Along, MayBegin, Sends}
+use Rattle.nf_routes_links.proofs.Common.{begins_at, goes_over, last_entry, next_entry, begin_if, add_if, sum_from, next_if, taken-push, IsAmountCurve, AreExits}
+use Rattle.nf_routes_links.proofs.Common.{nothing_sent, HavePieces, ForEachRoute, MayBegin, Sends}
 use Rattle.nf_load_laws.proofs.Cumulative.{checked_cumulative-is}
 use Rattle.nf_routes_read.proofs.Pairs.{test}
 use Rattle.nf_routes_links.proofs.Amounts.{short_amount, summed_amount, supplied_amount}
@@ -15,13 +15,13 @@ use Rattle.std.proofs.lemmas.List.Folds.{list_all-append}
 -- with these links taken: each of those that it goes over has made it send something
 pub record IsSound (taken : List ℕ) (route : Route) (sent : Sent) : Type 0 where
   pub pieces : ArePieces route.pieces
-  pub amounts : AllByRecursion IsAmount sent
+  pub amounts : AllByRecursion IsAmountCurve sent
   pub some : (f : ℕ) → is_taken taken f ≡ true → goes_over route.links f ≡ true → 0 < length sent
 
 -- and with a link that is loaded now
 pub record IsBegun (taken : List ℕ) (e : ℕ) (route : Route) (sent : Sent) : Type 0 where
   pub pieces : ArePieces route.pieces
-  pub amounts : AllByRecursion IsAmount sent
+  pub amounts : AllByRecursion IsAmountCurve sent
   pub here : goes_over route.links e ≡ true → 0 < length sent
   pub before : (f : ℕ) → is_taken taken f ≡ true → goes_over route.links f ≡ true → 0 < length sent
 
@@ -29,7 +29,7 @@ pub sends_here : (taken : List ℕ) (e : ℕ) (route : Route) (sent : Sent) → 
 sends_here taken e route sent b = record { amounts = b.amounts; some = b.here }
 
 -- ---- at first
-pub sound_first : (routes : List Route) → ((r : ℕ) (route : Route) → slice_get routes r ≡ Some route → ArePieces route.pieces) → Along (IsSound []) routes (nothing_sent routes)
+pub sound_first : (routes : List Route) → ((r : ℕ) (route : Route) → slice_get routes r ≡ Some route → ArePieces route.pieces) → ForEachRoute (IsSound []) routes (nothing_sent routes)
 sound_first [] h = tt
 sound_first (x ∷ routes) h = (record { pieces = h 0 x refl; amounts = tt; some = λ f t over. absurd (cc) }, sound_first routes (λ r route k. h (suc r) route k))
 
@@ -44,7 +44,7 @@ pub record Came (taken links : List ℕ) : Type 0 where
   pub taken_before : is_taken taken link ≡ true
   pub over : goes_over links link ≡ true
 
-goes_back : (taken : List ℕ) (e : ℕ) (links : List ℕ) → list_all (test taken e) (pairs_of links) ≡ true → goes_over links e ≡ true → begins_with links e ≡ false → Came taken links
+goes_back : (taken : List ℕ) (e : ℕ) (links : List ℕ) → list_all (test taken e) (pairs_of links) ≡ true → goes_over links e ≡ true → begins_at links e ≡ false → Came taken links
 goes_back taken e [] h over first = absurd (cc)
 goes_back taken e (x ∷ []) h over first = absurd (not_both false (or_rest (eqb x e) false first over) refl)
 goes_back taken e (x ∷ y ∷ rest) h over first = by (eqb y e) refl (λ k. goes_back taken e (y ∷ rest) (and_parts (test taken e (x, y)) _ h).1 (or_rest (eqb x e) _ first over) k)
@@ -65,8 +65,8 @@ pub record IsReady (taken : List ℕ) (e : ℕ) (route : Route) (sent : Sent) : 
   pub sound : IsSound taken route sent
   pub may : MayBegin e route sent
 
-pub all_ready : (taken : List ℕ) (e : ℕ) (routes : List Route) (entries : List Sent) → Along (IsSound taken) routes entries
-    → list_all (test taken e) (all_pairs routes) ≡ true → Along (IsReady taken e) routes entries
+pub all_ready : (taken : List ℕ) (e : ℕ) (routes : List Route) (entries : List Sent) → ForEachRoute (IsSound taken) routes entries
+    → list_all (test taken e) (all_pairs routes) ≡ true → ForEachRoute (IsReady taken e) routes entries
 all_ready taken e [] [] along h = tt
 all_ready taken e [] (y ∷ entries) along h = absurd along
 all_ready taken e (x ∷ routes) [] along h = absurd along
@@ -77,10 +77,10 @@ all_ready taken e (x ∷ routes) (y ∷ entries) along h =
 -- ---- the first entry
 -- a route begins with the link, if that is its first, and then sends something into it if it goes over it
 pub begun_sends : (passes : Passing) (e : ℕ) (horizon : ℚ) → 0ℚ ≤ℚ horizon → (route : Route) (sent next : Sent) → MayBegin e route sent
-    → begin_if passes (begins_with route.links e) horizon route sent ≡ Ok next → Sends e route next
-begun_sends passes e horizon from_0 route sent next m h = by (begins_with route.links e) refl h
+    → begin_if passes (begins_at route.links e) horizon route sent ≡ Ok next → Sends e route next
+begun_sends passes e horizon from_0 route sent next m h = by (begins_at route.links e) refl h
   where
-    by : (b : Bool) → begins_with route.links e ≡ b → begin_if passes b horizon route sent ≡ Ok next → Sends e route next
+    by : (b : Bool) → begins_at route.links e ≡ b → begin_if passes b horizon route sent ≡ Ok next → Sends e route next
     by true t k =
         let s = then_ok (checked_cumulative passes route.pieces horizon) _ next k in
         let f = then_ok (checked_short passes s.between) _ next s.next in
@@ -91,8 +91,8 @@ begun_sends passes e horizon from_0 route sent next m h = by (begins_with route.
 
 -- where something was sent there is something still
 begun_more : (passes : Passing) (e : ℕ) (horizon : ℚ) (route : Route) (sent next : Sent)
-    → begin_if passes (begins_with route.links e) horizon route sent ≡ Ok next → 0 < length sent → 0 < length next
-begun_more passes e horizon route sent next h some = by (begins_with route.links e) h
+    → begin_if passes (begins_at route.links e) horizon route sent ≡ Ok next → 0 < length sent → 0 < length next
+begun_more passes e horizon route sent next h some = by (begins_at route.links e) h
   where
     by : (b : Bool) → begin_if passes b horizon route sent ≡ Ok next → 0 < length next
     by true k =
@@ -102,7 +102,7 @@ begun_more passes e horizon route sent next h some = by (begins_with route.links
     by false k = subst (λ (l : Sent). 0 < length l) (same_Ok _ _ k) some
 
 pub begun_keeps : (passes : Passing) (taken : List ℕ) (e : ℕ) (horizon : ℚ) → 0ℚ ≤ℚ horizon → (route : Route) (sent next : Sent) → IsReady taken e route sent
-    → begin_if passes (begins_with route.links e) horizon route sent ≡ Ok next → IsBegun taken e route next
+    → begin_if passes (begins_at route.links e) horizon route sent ≡ Ok next → IsBegun taken e route next
 begun_keeps passes taken e horizon from_0 route sent next r h =
     let s = begun_sends passes e horizon from_0 route sent next r.may h in
     record {
@@ -113,26 +113,26 @@ begun_keeps passes taken e horizon from_0 route sent next r h =
     }
 
 -- ---- the last entry
-pub last_amount : (sent : Sent) → AllByRecursion IsAmount sent → 0 < length sent → IsAmount (last_entry sent)
+pub last_amount : (sent : Sent) → AllByRecursion IsAmountCurve sent → 0 < length sent → IsAmountCurve (last_entry sent)
 last_amount [] all h = absurd (omega arith)
 last_amount (x ∷ []) all h = all.0
 last_amount (x ∷ y ∷ rest) all h = last_amount (y ∷ rest) all.1 (omega arith)
 
 -- ---- the sum of what is sent into a link
-pub inflow_amount : (passes : Passing) (e : ℕ) (total : List Point) (routes : List Route) (entries : List Sent) (inflow : List Point) → IsAmount total → Along (Sends e) routes entries
-    → sum_from passes e total routes entries ≡ Ok inflow → IsAmount inflow
-inflow_amount passes e total [] entries inflow a along h = subst (λ (l : List Point). IsAmount l) (same_Ok _ _ h) a
+pub inflow_amount : (passes : Passing) (e : ℕ) (total : List Point) (routes : List Route) (entries : List Sent) (inflow : List Point) → IsAmountCurve total → ForEachRoute (Sends e) routes entries
+    → sum_from passes e total routes entries ≡ Ok inflow → IsAmountCurve inflow
+inflow_amount passes e total [] entries inflow a along h = subst (λ (l : List Point). IsAmountCurve l) (same_Ok _ _ h) a
 inflow_amount passes e total (x ∷ routes) [] inflow a along h = absurd along
 inflow_amount passes e total (x ∷ routes) (y ∷ entries) inflow a along h =
     let s = then_ok (add_if passes (goes_over x.links e) total (last_entry y)) _ inflow h in
     inflow_amount passes e s.between routes entries inflow (by (goes_over x.links e) refl s.between s.first) along.1 s.next
   where
-    by : (b : Bool) → goes_over x.links e ≡ b → (next : List Point) → add_if passes b total (last_entry y) ≡ Ok next → IsAmount next
+    by : (b : Bool) → goes_over x.links e ≡ b → (next : List Point) → add_if passes b total (last_entry y) ≡ Ok next → IsAmountCurve next
     by true t next k = summed_amount passes total (last_entry y) next a (last_amount y along.0.amounts (along.0.some t)) k
-    by false t next k = subst (λ (l : List Point). IsAmount l) (same_Ok _ _ k) a
+    by false t next k = subst (λ (l : List Point). IsAmountCurve l) (same_Ok _ _ k) a
 
 -- ---- the next entry
-all_more : (sent : Sent) (x : List Point) → AllByRecursion IsAmount sent → IsAmount x → AllByRecursion IsAmount (sent ++ x ∷ [])
+all_more : (sent : Sent) (x : List Point) → AllByRecursion IsAmountCurve sent → IsAmountCurve x → AllByRecursion IsAmountCurve (sent ++ x ∷ [])
 all_more [] x all a = (a, tt)
 all_more (y ∷ sent) x all a = (all.0, all_more sent x all.1 a)
 
@@ -160,10 +160,10 @@ next_keeps passes taken e exit exits route sent next b h = by (goes_over route.l
     })
 
 -- what is given along each route are pieces
-pub have_pieces : (e : ℕ) (routes : List Route) (entries : List Sent) → Along (MayBegin e) routes entries → HavePieces routes
+pub have_pieces : (e : ℕ) (routes : List Route) (entries : List Sent) → ForEachRoute (MayBegin e) routes entries → HavePieces routes
 have_pieces e routes entries along = record { each = λ r route h. at routes entries r route along h }
   where
-    at : (routes : List Route) (entries : List Sent) (r : ℕ) (route : Route) → Along (MayBegin e) routes entries → slice_get routes r ≡ Some route → ArePieces route.pieces
+    at : (routes : List Route) (entries : List Sent) (r : ℕ) (route : Route) → ForEachRoute (MayBegin e) routes entries → slice_get routes r ≡ Some route → ArePieces route.pieces
     at [] entries r route along h = absurd (cc)
     at (x ∷ routes) [] r route along h = absurd along
     at (x ∷ routes) (y ∷ entries) zero route along h = let same : x ≡ route = cc in subst (λ (z : Route). ArePieces z.pieces) same along.0.pieces

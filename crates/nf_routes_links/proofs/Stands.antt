@@ -3,8 +3,8 @@ use Rattle.std.proofs.Common.{◌≡◌, ◌≢◌, ℕ, zero, suc, ◌+◌, ◌
 use Rattle.nf_rational_laws.proofs.Entries.{set_same}
 use Rattle.nf_routes_links.proofs.Common.{Option, Some, None, Ok, slice_get, list_all, range_with_len, length-set, length-map, slice_get_within, eqb_tells, ℚ}
 use Rattle.nf_routes_links.proofs.Common.{0ℚ, ◌≤ℚ◌, ≤ℚ_trans, Passing, Point, Link, Network, IsLink, IsNetwork, hops, IsPositive-link, then_ok, Loaded}
-use Rattle.nf_routes_links.proofs.Common.{checked_loading, same_Ok, or_rest, LoadedLink, SoFar, begins_with, goes_over, end_by, begin_if, begin_all, sum_from}
-use Rattle.nf_routes_links.proofs.Common.{next_if, next_all, load_here, taken-push, IsPlaced, IsAmount, AreExits, nothing_loaded, nothing_sent, Along, MayBegin}
+use Rattle.nf_routes_links.proofs.Common.{checked_loading, same_Ok, or_rest, LoadedLink, SoFar, begins_at, goes_over, end_by, begin_if, begin_all, sum_from}
+use Rattle.nf_routes_links.proofs.Common.{next_if, next_all, load_here, taken-push, IsPlaced, IsAmountCurve, AreExits, nothing_loaded, nothing_sent, ForEachRoute, MayBegin}
 use Rattle.nf_routes_links.proofs.Common.{Sends, MayLoad, IsFullyLoaded}
 use Rattle.nf_model.specs.Walk.{IsWalk}
 use Rattle.nf_routes_def.specs.Routes.{Route, AreRoutes, all_pairs, is_taken, loading_order, takes_all}
@@ -18,7 +18,7 @@ pub record Stands (net : Network) (routes : List Route) (taken : List ℕ) (so_f
   pub count : length so_far.links ≡ length net.links
   pub loaded : (f : ℕ) → is_taken taken f ≡ true → slice_get so_far.links f ≡ Some None → ⊥
   pub exits : (f : ℕ) (link : LoadedLink) → slice_get so_far.links f ≡ Some (Some link) → AreExits link.loaded.exit
-  pub entries : Along (IsSound taken) routes so_far.entries
+  pub entries : ForEachRoute (IsSound taken) routes so_far.entries
 
 -- ---- at first
 none_there : (links : List Link) (f : ℕ) (link : LoadedLink) → slice_get (nothing_loaded links) f ≡ Some (Some link) → ⊥
@@ -32,7 +32,7 @@ stands_first net routes so_far are h k = record {
   count = ap length h ∙ length-map net.links (λ _. None);
   loaded = λ f t e. absurd (cc);
   exits = λ f link e. absurd (none_there net.links f link (ap (λ (l : List (Option LoadedLink)). slice_get l f) (sym h) ∙ e));
-  entries = subst (λ (l : List Sent). Along (IsSound []) routes l) (sym k) (sound_first routes are.pieces);
+  entries = subst (λ (l : List Sent). ForEachRoute (IsSound []) routes l) (sym k) (sound_first routes are.pieces);
 }
 
 -- ---- a link that comes after those right before it can be loaded
@@ -89,20 +89,20 @@ module _ (passes : Passing) (net : Network) (routes : List Route) (horizon : ℚ
   abbrev end : ℚ
   end = end_by horizon (all_pairs routes) so_far.links e
 
-  begun-is : Along (IsBegun taken e) routes w.begun
+  begun-is : ForEachRoute (IsBegun taken e) routes w.begun
   begun-is =
-      steps_keep (λ route sent. begin_if passes (begins_with route.links e) horizon route sent) (IsReady taken e) (IsBegun taken e)
+      steps_keep (λ route sent. begin_if passes (begins_at route.links e) horizon route sent) (IsReady taken e) (IsBegun taken e)
       (begun_keeps passes taken e horizon from_0) routes so_far.entries w.begun
       (all_ready taken e routes so_far.entries s.entries p.after) (sym (begin_all-is passes horizon e routes so_far.entries) ∙ w.begins)
 
-  inflow-is : IsAmount w.inflow
+  inflow-is : IsAmountCurve w.inflow
   inflow-is = inflow_amount passes e ((0ℚ, 0ℚ) ∷ []) routes w.begun w.inflow no_amount (along_as (IsBegun taken e) (Sends e) (sends_here taken e) routes w.begun begun-is) w.sums
 
   exits-are : AreExits w.loaded.exit
   exits-are = loaded_exits passes link.transit link.capacity w.inflow end w.loaded inflow-is (good.transits e link is) (IsPositive-link net e link good is)
       (≤ℚ_trans _ _ _ from_0 (end-least horizon (all_pairs routes) so_far.links e)) w.loads
 
-  entries-are : Along (IsSound (taken ++ e ∷ [])) routes w.entries
+  entries-are : ForEachRoute (IsSound (taken ++ e ∷ [])) routes w.entries
   entries-are =
       steps_keep (λ route sent. next_if passes (goes_over route.links e) w.loaded.exit sent) (IsBegun taken e) (IsSound (taken ++ e ∷ []))
       (next_keeps passes taken e w.loaded.exit exits-are) routes w.begun w.entries
@@ -157,7 +157,7 @@ in_range t start (suc count) e h i k =
 
 module _ (net : Network) (routes : List Route) (order : List ℕ) (so_far : SoFar) (good : IsNetwork net) (are : AreRoutes net routes)
     (all : (f : ℕ) → f < length net.links → is_taken order f ≡ true) (s : Stands net routes order so_far) where
-  sent_there : (rs : List Route) (es : List Sent) (r : ℕ) (sent : Sent) → Along (IsSound order) rs es → slice_get es r ≡ Some sent
+  sent_there : (rs : List Route) (es : List Sent) (r : ℕ) (sent : Sent) → ForEachRoute (IsSound order) rs es → slice_get es r ≡ Some sent
       → (route : Route) × (slice_get rs r ≡ Some route) × IsSound order route sent
   sent_there [] [] r sent along h = absurd (cc)
   sent_there [] (y ∷ es) r sent along h = absurd along

@@ -5,7 +5,7 @@ use Rattle.nf_rational.specs.Order.{◌≤ℚ◌}
 use Rattle.nf_model.specs.Curve.{Point, value, NeverFalls, IsCurve}
 
 -- an amount by time: it is 0 at time 0 and never falls
-pub record IsAmount (points : List Point) : Type 0 where
+pub record IsAmountCurve (points : List Point) : Type 0 where
   pub curve : IsCurve points
   pub begins : value points 0ℚ ≡ 0ℚ
   pub rises : NeverFalls (value points)

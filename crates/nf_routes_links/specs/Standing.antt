@@ -5,36 +5,36 @@ use Rattle.nf_model.specs.Curve.{Point}
 use Rattle.nf_model.specs.Network.{Network, ArePieces}
 use Rattle.nf_routes_def.specs.Routes.{Route}
 use Rattle.nf_routes_def.specs.RoutesList as lists
-use Rattle.nf_routes_def.specs.RoutesList.{LoadedLink, begins_with, goes_over}
-use Rattle.nf_routes_links.specs.Amounts.{IsAmount, AreExits}
+use Rattle.nf_routes_def.specs.RoutesList.{LoadedLink, begins_at, goes_over}
+use Rattle.nf_routes_links.specs.Amounts.{IsAmountCurve, AreExits}
 use Rattle.nf_routes_links.specs.declared.so_far.SoFar.{SoFar}
 
 abbrev pub seen_so_far : SoFar → lists.SoFar
 seen_so_far s = record { links = s.links.items; entries = s.entries.items }
 
 -- `P` holds for each route and its entries, and both lists have equal lengths
-abbrev pub Along : (Route → List (List Point) → Type 0) → List Route → List (List (List Point)) → Type 0
-Along P [] [] = Unit {0}
-Along P [] (sent ∷ rest) = ⊥
-Along P (route ∷ routes) [] = ⊥
-Along P (route ∷ routes) (sent ∷ rest) = P route sent × Along P routes rest
+abbrev pub ForEachRoute : (Route → List (List Point) → Type 0) → List Route → List (List (List Point)) → Type 0
+ForEachRoute P [] [] = Unit {0}
+ForEachRoute P [] (sent ∷ rest) = ⊥
+ForEachRoute P (route ∷ routes) [] = ⊥
+ForEachRoute P (route ∷ routes) (sent ∷ rest) = P route sent × ForEachRoute P routes rest
 
 -- The route may start with the link or continue over it. If the link is on the route but not its first, the route has sent something
 -- before.
 pub record MayBegin (e : ℕ) (route : Route) (sent : List (List Point)) : Type 0 where
   pub pieces : ArePieces route.pieces
-  pub amounts : AllByRecursion IsAmount sent
-  pub some : goes_over route.links e ≡ true → begins_with route.links e ≡ false → 0 < length sent
+  pub amounts : AllByRecursion IsAmountCurve sent
+  pub some : goes_over route.links e ≡ true → begins_at route.links e ≡ false → 0 < length sent
 
 -- if the route contains the link, it sends something into the link
 pub record Sends (e : ℕ) (route : Route) (sent : List (List Point)) : Type 0 where
-  pub amounts : AllByRecursion IsAmount sent
+  pub amounts : AllByRecursion IsAmountCurve sent
   pub some : goes_over route.links e ≡ true → 0 < length sent
 
 -- the link can be loaded next: there is one entry per link, and each route may start with it or continue over it
 pub record MayLoad (net : Network) (routes : List Route) (e : ℕ) (so_far : lists.SoFar) : Type 0 where
   pub count : length so_far.links ≡ length net.links
-  pub entries : Along (MayBegin e) routes so_far.entries
+  pub entries : ForEachRoute (MayBegin e) routes so_far.entries
 
 -- all of the links are loaded
 pub record AreAllLoaded (links : List (Option LoadedLink)) : Type 0 where

@@ -11,7 +11,7 @@ ghost use Rattle.nf_routes_def.specs.RoutesFile.{routes_of};
 ghost use Rattle.nf_routes_links.specs.Amounts.{AreExits};
 ghost use Rattle.nf_routes_links.specs.Beginning.{first_entry as first_by, HavePieces};
 ghost use Rattle.nf_routes_links.specs.Points.{AreKnown};
-ghost use Rattle.nf_routes_links.specs.Standing.{Along, Sends};
+ghost use Rattle.nf_routes_links.specs.Standing.{ForEachRoute, Sends};
 
 use crate::next::next_entry;
 use crate::points::copied_points;
@@ -25,7 +25,7 @@ use std::alloc::Global;
 
 // Returns whether the first link of a route is `link`.
 fn begins_with(links: &[LinkId], link: LinkId) -> bool
-    ensures { result ≡ lists.begins_with links.now link }
+    ensures { result ≡ lists.begins_at links.now link }
 {
     match links {
         [] => false,
@@ -63,7 +63,7 @@ fn begin(
     requires horizon { 0ℚ ≤ℚ horizon }
     ensures { Gives (λ _. sent.new) (λ q. q) result
         (at_part Load (lists.begin_if passes_Q
-        (lists.begins_with route.now.route.links link) horizon route.now.route sent.old)) }
+        (lists.begins_at route.now.route.links link) horizon route.now.route sent.old)) }
 {
     if begins_with(route.links(), link) {
         let first = first_entry(alloc, route.pieces(), horizon)?;
@@ -119,7 +119,7 @@ pub(crate) fn inflow_of(
     link: LinkId,
     entries: &[Stages],
 ) -> Result<Curve, Halt<Q>>
-    requires { Along (Sends link) (routes_of routes.now) entries.now }
+    requires { ForEachRoute (Sends link) (routes_of routes.now) entries.now }
     ensures { Gives (λ c. c.points) (λ q. q) result
         (at_part Load
         (lists.sum_from passes_Q link ((0ℚ, 0ℚ) ∷ []) (routes_of routes.now) entries.now)) }
@@ -164,7 +164,7 @@ pub(crate) fn send_all_on(
     entries: &mut [Stages],
 ) -> Result<(), Halt<Q>>
     requires exits { AreExits exit.now.points }
-    requires send { Along (Sends link) (routes_of routes.now) entries.old }
+    requires send { ForEachRoute (Sends link) (routes_of routes.now) entries.old }
     ensures { Gives (λ _. entries.new) (λ q. q) result
         (at_part Load
         (lists.next_all passes_Q link exit.now.points (routes_of routes.now) entries.old)) }

@@ -12,7 +12,7 @@ ghost use Rattle.nf_curve.specs.Moments.{IsMoment};
 ghost use Rattle.nf_curve.specs.Sides.{sides_of};
 ghost use Rattle.nf_routes_def.specs.RoutesList.{next_from, next_entry as next_by};
 ghost use Rattle.nf_routes_laws.specs.Laws.{CanShare, IsSentOn};
-ghost use Rattle.nf_routes_links.specs.Amounts.{IsAmount, AreExits};
+ghost use Rattle.nf_routes_links.specs.Amounts.{IsAmountCurve, AreExits};
 ghost use Rattle.nf_routes_links.specs.Points.{right_point, AreKnown, AreThere};
 
 use crate::points::{first_from, value_there};
@@ -138,11 +138,11 @@ pub(crate) fn next_entry(
 ) -> Result<Curve, Halt<Q>>
     requires exits { AreExits exit.now.points }
     requires known { AreKnown exit.now.points known.old.items }
-    requires amount { IsAmount entry.now.points }
+    requires amount { IsAmountCurve entry.now.points }
     ensures list { Gives (λ c. c.points) (λ q. q) result
         (at_part Load (next_by passes_Q exit.now.points entry.now.points)) }
     ensures known { AreKnown exit.now.points known.new.items }
-    ensures amount { IfOk result (λ c. IsAmount c.points) }
+    ensures amount { IfOk result (λ c. IsAmountCurve c.points) }
     ensures next { (last : ℚ) → CanShare exit.now.points entry.now.points last
         → IfOk result (λ c. IsSentOn exit.now.points entry.now.points last c.points) }
 {

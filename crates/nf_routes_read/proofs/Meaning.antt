@@ -8,7 +8,7 @@ use Rattle.nf_routes_def.specs.declared.RoutesRule.{RoutesRule}
 use Rattle.nf_routes_def.specs.declared.RoutesRule.TheVariants.{G17}
 use Rattle.nf_routes_def.specs.Routes.{AreWalks}
 use Rattle.nf_routes_def.specs.RoutesFile.{RoutesBroken, NamedRoute, routes_of, HoldsCircleIn, ReadsRoutes, routes_in}
-use Rattle.nf_routes_def.specs.Kept.{AreKept}
+use Rattle.nf_routes_def.specs.Kept.{KeepRules}
 use Rattle.nf_routes_laws.proofs.FileReading.{decided, circle_there, read_kept, read_walks}
 use Rattle.nf_routes_read.specs.declared.routes.Routes.{Routes}
 
@@ -24,7 +24,7 @@ reads_so n text (Ok routes) h = read_as n text (Ok routes) h
 reads_so n text (Err fault) h =
     broken_more fault (λ broken. routes_in n text ≡ Err broken) (λ broken. ReadsRoutes n text (Err broken)) (λ broken e. read_as n text (Err broken) e) h
 
-pub kept_so : (n : Named) (text : List ℕ) (result : Result Routes (FileFault RoutesRule)) → Gives n text result → IfOk result (λ routes. AreKept routes)
+pub kept_so : (n : Named) (text : List ℕ) (result : Result Routes (FileFault RoutesRule)) → Gives n text result → IfOk result (λ routes. KeepRules routes)
 kept_so n text (Ok routes) h = read_kept n text routes (read_as n text (Ok routes) h)
 kept_so n text (Err fault) h = tt
 

@@ -5,7 +5,7 @@ ghost use Rattle.nf_text_def.specs.Faults.{longest_text};
 ghost use Rattle.nf_side.specs.Faults.{IfBroken};
 ghost use Rattle.nf_routes_def.specs.Routes.{AreWalks};
 ghost use Rattle.nf_routes_def.specs.RoutesFile.{routes_in, routes_of, HoldsCircleIn, ReadsRoutes};
-ghost use Rattle.nf_routes_def.specs.Kept.{AreKept};
+ghost use Rattle.nf_routes_def.specs.Kept.{KeepRules};
 
 use crate::draft::Draft;
 use crate::routes::Routes;
@@ -35,7 +35,7 @@ pub fn parse_routes(alloc: Global, net: &Network, text: &[u8]) -> Result<Routes,
     requires { length text.now ≤ longest_text }
     ensures reads { MatchResult result (λ routes. ReadsRoutes net.now text.now (Ok routes))
         (λ fault. IfBroken fault (λ broken. ReadsRoutes net.now text.now (Err broken))) }
-    ensures kept { IfOk result (λ routes. AreKept routes) }
+    ensures kept { IfOk result (λ routes. KeepRules routes) }
     ensures walks { IfOk result (λ routes. AreWalks net.now.net (routes_of routes)) }
     ensures circle { IfErr result
         (λ fault. IfBroken fault (λ broken. broken.rule ≡ G17 → HoldsCircleIn net.now text.now)) }

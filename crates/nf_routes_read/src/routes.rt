@@ -2,7 +2,7 @@
 ghost use Rattle.std.specs.Prelude.{◌≡◌, ◌<◌, length};
 ghost use Rattle.nf_net_def.specs.Names.{name_at};
 ghost use Rattle.nf_routes_def.specs.RoutesFile.{route_names, links_at, pieces_at};
-ghost use Rattle.nf_routes_def.specs.Kept.{AreKept};
+ghost use Rattle.nf_routes_def.specs.Kept.{KeepRules};
 
 use crate::route::Route;
 use nf_graph::LinkId;
@@ -21,7 +21,7 @@ impl Model for Routes {
     ghost use Rattle.std.specs.Prelude.{List};
     ghost use Rattle.std.specs.Coded.{coded_list};
     ghost use Rattle.nf_routes_def.specs.RoutesFile.{NamedRoute};
-    ghost use Rattle.nf_routes_def.specs.Kept.{AreKept};
+    ghost use Rattle.nf_routes_def.specs.Kept.{KeepRules};
     ghost use Rattle.nf_routes_read.specs.Codes.{coded_named_route};
 
     ghost Value = { List NamedRoute };
@@ -30,13 +30,13 @@ impl Model for Routes {
 
     ghost view = { λ r. r.list.items };
 
-    ghost invariant = { λ r. AreKept r.list.items };
+    ghost invariant = { λ r. KeepRules r.list.items };
 }
 
 impl Routes {
     // Wraps routes that satisfy the rules.
     pub(crate) fn kept(list: Vec<Route>) -> Routes
-        requires { AreKept list.items }
+        requires { KeepRules list.items }
         ensures { result ≡ list.items }
     {
         Routes { list }
@@ -45,7 +45,7 @@ impl Routes {
     /// Returns all routes, in order.
     pub fn as_slice(&self) -> &[Route]
         ensures value { result.now ≡ self.now }
-        ensures kept { AreKept self.now }
+        ensures kept { KeepRules self.now }
     {
         &self.list
     }
@@ -53,7 +53,7 @@ impl Routes {
     /// Returns the number of routes. Allocates nothing.
     pub fn count(&self) -> u32
         ensures value { result ≡ length self.now }
-        ensures kept { AreKept self.now }
+        ensures kept { KeepRules self.now }
     {
         self.list.len() as u32
     }
@@ -62,7 +62,7 @@ impl Routes {
     pub fn name(&self, route: u32) -> &str
         requires { route < length self.now }
         ensures value { result.now ≡ name_at (route_names self.now) route }
-        ensures kept { AreKept self.now }
+        ensures kept { KeepRules self.now }
     {
         self.list[route as usize].name()
     }
@@ -71,7 +71,7 @@ impl Routes {
     pub fn links(&self, route: u32) -> &[LinkId]
         requires { route < length self.now }
         ensures value { result.now ≡ links_at self.now route }
-        ensures kept { AreKept self.now }
+        ensures kept { KeepRules self.now }
     {
         self.list[route as usize].links()
     }
@@ -80,7 +80,7 @@ impl Routes {
     pub fn pieces(&self, route: u32) -> &[Piece]
         requires { route < length self.now }
         ensures value { result.now ≡ pieces_at self.now route }
-        ensures kept { AreKept self.now }
+        ensures kept { KeepRules self.now }
     {
         self.list[route as usize].pieces()
     }

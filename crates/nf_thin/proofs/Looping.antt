@@ -13,7 +13,7 @@ use Rattle.nf_pattern.proofs.Deciding.{has_listing}
 use Rattle.nf_thin_one.specs.declared.thin.ThinFlow.{ThinFlow}
 use Rattle.nf_thin.specs.declared.vain.Vain.{Vain}
 use Rattle.nf_thin.specs.declared.fault.SearchFault.{SearchFault}
-use Rattle.nf_thin.specs.FirstPassing.{fault_of}
+use Rattle.nf_thin.specs.FirstPassing.{search_fault}
 use Rattle.nf_thin_rank.specs.Questions.{AreSetsOf, AsksOf}
 use Rattle.nf_thin.specs.Searching.{TriesNext}
 use Rattle.nf_thin.specs.Finding.{FindsAt}
@@ -86,7 +86,7 @@ module _ (passes : Passing) (net : Network) (sets : Sets) (rate : ℚ) (first : 
             (vainly_more passes net sets rate list q l given.last vain (so.2 list l) pattern next now t.1),
       )
 
-    pub loop_ends : (after : Given) → Enumerates given None after → (fault : SearchFault) → fault ≡ fault_of vain.passed → Finds (Err fault)
+    pub loop_ends : (after : Given) → Enumerates given None after → (fault : SearchFault) → fault ≡ search_fault vain.passed → Finds (Err fault)
     loop_ends after gives fault same = subst (λ (f : SearchFault). Finds (Err f)) (sym same)
-        (done (Err (fault_of vain.passed)) (search_ends passes net sets rate listing q is given.last vain (so.2 listing is)
+        (done (Err (search_fault vain.passed)) (search_ends passes net sets rate listing q is given.last vain (so.2 listing is)
         (subst (λ (x : Question). NoneLeft x given.last) so.0 gives.0) budget so.1))

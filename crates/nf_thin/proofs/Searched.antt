@@ -15,7 +15,7 @@ use Rattle.nf_pattern.specs.Given.{Question, Last, AtStart, UpTo, IsNext, NoneLe
 use Rattle.nf_thin_one.specs.declared.thin.ThinFlow.{ThinFlow}
 use Rattle.nf_thin.specs.declared.vain.Vain.{Vain}
 use Rattle.nf_thin.specs.declared.fault.SearchFault.{SearchFault}
-use Rattle.nf_thin.specs.FirstPassing.{or_first, fault_of}
+use Rattle.nf_thin.specs.FirstPassing.{or_first, search_fault}
 use Rattle.nf_thin_rank.specs.Questions.{question_of}
 use Rattle.nf_thin_one.specs.Trying.{TriesOne}
 use Rattle.nf_thin.specs.Searching.{Searches, Noted, InVain, IsFound, TriesNext}
@@ -125,11 +125,11 @@ module _ (passes : Passing) (net : Network) (sets : Sets) (rate : ℚ) (listing 
     in_vain : IsInVain passes net sets rate listing budget
     in_vain = record { not_longer = (let l = all_given in omega arith); none_accepted = λ place p has accepted. so.none_accepted place p (tried_all place p has) has accepted }
 
-    ended : (passed : Option (ℕ × PassedAt ℚ)) → PassedBy vain.tried passed → Searches (Answers passes net sets rate listing budget) budget (Err (fault_of passed))
+    ended : (passed : Option (ℕ × PassedAt ℚ)) → PassedBy vain.tried passed → Searches (Answers passes net sets rate listing budget) budget (Err (search_fault passed))
     ended None all = (in_vain, λ place p has. all place p (tried_all place p has) has)
     ended (Some (place, at)) first = (in_vain, first)
 
-    pub search_ends : Searches (Answers passes net sets rate listing budget) budget (Err (fault_of vain.passed))
+    pub search_ends : Searches (Answers passes net sets rate listing budget) budget (Err (search_fault vain.passed))
     search_ends = ended vain.passed so.passed
 
 -- ---- with the listing

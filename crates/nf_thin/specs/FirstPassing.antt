@@ -10,6 +10,6 @@ or_first (Some first) now = Some first
 or_first None now = Some now
 
 -- The cause for which nothing was found.
-abbrev pub fault_of : Option (ℕ × PassedAt ℚ) → SearchFault
-fault_of (Some (place, at)) = SearchFault.Passed place at
-fault_of None = SearchFault.NoPattern
+abbrev pub search_fault : Option (ℕ × PassedAt ℚ) → SearchFault
+search_fault (Some (place, at)) = SearchFault.Passed place at
+search_fault None = SearchFault.NoPattern

@@ -14,7 +14,7 @@ pub(crate) struct Vain {
 
 impl Vain {
     ghost use Rattle.std.specs.Prelude.{◌≡◌};
-    ghost use Rattle.nf_thin.specs.FirstPassing.{or_first, fault_of};
+    ghost use Rattle.nf_thin.specs.FirstPassing.{or_first, search_fault};
 
     /// Records that an operation of the last pattern passes, unless an earlier pattern is recorded.
     pub(crate) fn note(&mut self, at: PassedAt<Q>)
@@ -28,7 +28,7 @@ impl Vain {
 
     /// Returns the cause for which nothing was found, if no pattern is left.
     pub(crate) fn fault(self) -> SearchFault
-        ensures { result ≡ fault_of self.passed }
+        ensures { result ≡ search_fault self.passed }
     {
         match self.passed {
             Some((place, at)) => SearchFault::Passed { place, at },

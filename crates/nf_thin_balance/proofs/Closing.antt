@@ -10,8 +10,8 @@ use Rattle.nf_rational_laws.proofs.Linear.{eq, linear_eq}
 use Rattle.nf_model.specs.Network.{Link, Network, IsLink, sum_in, sum_out}
 use Rattle.nf_pattern.proofs.Setting.{set_same, set_other, tell}
 use Rattle.nf_thin_balance.specs.declared.ranges.Range.{Range}
-use Rattle.nf_thin_balance.specs.Ranges.{IsWithin}
-use Rattle.nf_thin_balance.specs.Conserving.{AreWithin, surplus_by}
+use Rattle.nf_thin_balance.specs.Ranges.{IsInRange}
+use Rattle.nf_thin_balance.specs.Conserving.{AreFlowsWithin, surplus_by}
 use Rattle.nf_thin_balance.proofs.Conserving.{other_false, other_true, later_term}
 
 -- ---- the flows of all links but one
@@ -70,24 +70,24 @@ module _ (net : Network) (flow : ℕ → ℚ) (v e : ℕ) (link : Link) (is_link
 
 -- ---- one range more is known
 pub within_set : (ranges : List Range) (e : ℕ) (here : Range) (flow : ℕ → ℚ) → e < length ranges
-    → ((k : ℕ) (range : Range) → k ≢ e → slice_get ranges k ≡ Some range → IsWithin range (flow k)) → IsWithin here (flow e) → AreWithin (slice_set ranges e here) flow
+    → ((k : ℕ) (range : Range) → k ≢ e → slice_get ranges k ≡ Some range → IsInRange range (flow k)) → IsInRange here (flow e) → AreFlowsWithin (slice_set ranges e here) flow
 within_set ranges e here flow below others is k range at = ⊎_elim
     (λ (same : k ≡ e).
     let r : here ≡ range = same_Some here range (sym (set_same ranges e here below) ∙ (ap (slice_get (slice_set ranges e here)) (sym same) ∙ at)) in
-    subst (λ (i : ℕ). IsWithin range (flow i)) (sym same) (subst (λ (x : Range). IsWithin x (flow e)) r is))
+    subst (λ (i : ℕ). IsInRange range (flow i)) (sym same) (subst (λ (x : Range). IsInRange x (flow e)) r is))
     (λ (other : k ≢ e). others k range other (sym (set_other ranges e k here other) ∙ at))
     (tell k e)
 
 -- Without the link, the others have the same flows.
-pub within_but : (ranges : List Range) (e : ℕ) (none : Range) (flow : ℕ → ℚ) → e < length ranges → AreWithin ranges flow → IsWithin none 0ℚ
-    → AreWithin (slice_set ranges e none) (but e flow)
+pub within_but : (ranges : List Range) (e : ℕ) (none : Range) (flow : ℕ → ℚ) → e < length ranges → AreFlowsWithin ranges flow → IsInRange none 0ℚ
+    → AreFlowsWithin (slice_set ranges e none) (but e flow)
 within_but ranges e none flow below within is = within_set ranges e none (but e flow) below
-    (λ k range other at. subst (λ (x : ℚ). IsWithin range x) (sym (but_other e k flow other)) (within k range at))
-    (subst (λ (x : ℚ). IsWithin none x) (sym (but_here e flow)) is)
+    (λ k range other at. subst (λ (x : ℚ). IsInRange range x) (sym (but_other e k flow other)) (within k range at))
+    (subst (λ (x : ℚ). IsInRange none x) (sym (but_here e flow)) is)
 
 -- With the flow left for the link.
-pub within_again : (ranges : List Range) (e : ℕ) (none here : Range) (flow : ℕ → ℚ) → e < length (slice_set ranges e none) → AreWithin ranges flow → IsWithin here (flow e)
-    → AreWithin (slice_set (slice_set ranges e none) e here) flow
+pub within_again : (ranges : List Range) (e : ℕ) (none here : Range) (flow : ℕ → ℚ) → e < length (slice_set ranges e none) → AreFlowsWithin ranges flow → IsInRange here (flow e)
+    → AreFlowsWithin (slice_set (slice_set ranges e none) e here) flow
 within_again ranges e none here flow below within is = within_set (slice_set ranges e none) e here flow below
     (λ k range other at. within k range (sym (set_other ranges e k none other) ∙ at)) is
 

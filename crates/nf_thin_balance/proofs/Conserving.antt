@@ -19,11 +19,11 @@ use Rattle.nf_model.specs.Walk.{Hop}
 use Rattle.nf_model.specs.ThinFlow.{Sets, surplus}
 use Rattle.nf_model.specs.Pattern.{Pattern, Fills, Equation}
 use Rattle.nf_thin_balance.specs.declared.ranges.Range.{Range}
-use Rattle.nf_thin_balance.specs.Ranges.{IsWithin, IsFull, MeetsState, scaled}
+use Rattle.nf_thin_balance.specs.Ranges.{IsInRange, IsFull, MeetsState, scaled}
 use Rattle.nf_model_laws.proofs.Totals.{sink_takes}
 use Rattle.nf_thin_balance.proofs.Within.{checked_is}
 use Rattle.nf_thin_one.specs.Fulls.{full_of}
-use Rattle.nf_thin_balance.specs.Conserving.{CanFlow, surplus_by, surplus_of_first, BoundsFirst, Conserves, needed_at}
+use Rattle.nf_thin_balance.specs.Conserving.{CanFlow, surplus_by, surplus_of_first, BoundsFirst, BalancesNodes, needed_at}
 
 -- ---- one link more
 first_term : (b : Bool) (a : ℚ) → (if b then a +ℚ 0ℚ else 0ℚ) ≡ 0ℚ +ℚ (if b then a else 0ℚ)
@@ -105,7 +105,7 @@ full_fills passes None head_slope most e = absurd (none-some most e)
 
 -- A range of the scaled flow.
 pub full_known : (passes : Passing) (scale : ℕ) (capacity : Option ℚ) (head_slope most : ℚ) (range : Range) → full_of passes capacity head_slope ≡ Some most
-    → IsWithin range (scaled scale most) → IsFull scale capacity head_slope range
+    → IsInRange range (scaled scale most) → IsFull scale capacity head_slope range
 full_known passes scale capacity head_slope most range e within = record {
   from = λ end at. (most, full_fills passes capacity head_slope most e, within.from end at);
   up_to = λ end at. (most, full_fills passes capacity head_slope most e, within.up_to end at);
@@ -140,7 +140,7 @@ module _ (scale : ℕ) (net : Network) (sets : Sets) (rate : ℚ) (pattern : Pat
   }
 
   -- Each node has the surplus that it needs.
-  pub conserves : IsNetwork net → Conserves net rate (number_at flows)
+  pub conserves : IsNetwork net → BalancesNodes net rate (number_at flows)
   conserves good v within = ⊎_elim
       (λ (t : (eqb v net.sink ≡ true) × (v ≡ net.sink)). ap (surplus net flows) t.1
       ∙ (sink_takes net good (number_at flows) rate can.solves.source can.solves.inner
@@ -186,7 +186,7 @@ module _ (s : ℚ) where
   needed_times false true r = refl
   needed_times false false r = sym nil
 
-pub scaled_conserves : (net : Network) (scale : ℕ) (rate : ℚ) (flow : ℕ → ℚ) → Conserves net rate flow → Conserves net (scaled scale rate) (λ e. scaled scale (flow e))
+pub scaled_conserves : (net : Network) (scale : ℕ) (rate : ℚ) (flow : ℕ → ℚ) → BalancesNodes net rate flow → BalancesNodes net (scaled scale rate) (λ e. scaled scale (flow e))
 scaled_conserves net scale rate flow conserves v within =
     surplus_times (whole (pos scale)) _ _ _ _ _ (out_times (whole (pos scale)) net.links flow v) (in_times (whole (pos scale)) net.links flow v) (conserves v within)
     ∙ needed_times (whole (pos scale)) (eqb v net.sink) (eqb v net.source) rate
@@ -254,35 +254,35 @@ other_true true b e t = absurd (cc)
 
 -- The surplus for one flow.
 module _ (net : Network) (flow : ℕ → ℚ) (v e : ℕ) (range : Range) (link : Link) (is_link : IsLink net e link)
-    (so_far : IsWithin range (surplus_of_first net flow v e)) (leaves enters : Bool) (tail_is : eqb link.tail v ≡ leaves) (head_is : eqb link.head v ≡ enters) where
-  pub one_still : beq leaves enters ≡ true → IsWithin range (surplus_of_first net flow v (suc e))
-  one_still same = subst (IsWithin range) (same_surplus net flow v e link is_link (tail_is ∙ (same_bits leaves enters same ∙ sym head_is))) so_far
+    (so_far : IsInRange range (surplus_of_first net flow v e)) (leaves enters : Bool) (tail_is : eqb link.tail v ≡ leaves) (head_is : eqb link.head v ≡ enters) where
+  pub one_still : beq leaves enters ≡ true → IsInRange range (surplus_of_first net flow v (suc e))
+  one_still same = subst (IsInRange range) (same_surplus net flow v e link is_link (tail_is ∙ (same_bits leaves enters same ∙ sym head_is))) so_far
 
-  module _ (apart : beq leaves enters ≡ false) (here more : Range) (is : IsWithin here (flow e)) where
-    pub one_sum : leaves ≡ true → ((x y : ℚ) → IsWithin range x → IsWithin here y → IsWithin more (x +ℚ y)) → IsWithin more (surplus_of_first net flow v (suc e))
-    one_sum out sums = subst (IsWithin more) (greater_surplus net flow v e link is_link (tail_is ∙ out) (head_is ∙ other_false leaves enters apart out)) (sums _ _ so_far is)
+  module _ (apart : beq leaves enters ≡ false) (here more : Range) (is : IsInRange here (flow e)) where
+    pub one_sum : leaves ≡ true → ((x y : ℚ) → IsInRange range x → IsInRange here y → IsInRange more (x +ℚ y)) → IsInRange more (surplus_of_first net flow v (suc e))
+    one_sum out sums = subst (IsInRange more) (greater_surplus net flow v e link is_link (tail_is ∙ out) (head_is ∙ other_false leaves enters apart out)) (sums _ _ so_far is)
 
-    pub one_difference : leaves ≡ false → ((x y : ℚ) → IsWithin range x → IsWithin here y → IsWithin more (x -ℚ y)) → IsWithin more (surplus_of_first net flow v (suc e))
+    pub one_difference : leaves ≡ false → ((x y : ℚ) → IsInRange range x → IsInRange here y → IsInRange more (x -ℚ y)) → IsInRange more (surplus_of_first net flow v (suc e))
     one_difference not_out differences =
-        subst (IsWithin more) (lesser_surplus net flow v e link is_link (tail_is ∙ not_out) (head_is ∙ other_true leaves enters apart not_out)) (differences _ _ so_far is)
+        subst (IsInRange more) (lesser_surplus net flow v e link is_link (tail_is ∙ not_out) (head_is ∙ other_true leaves enters apart not_out)) (differences _ _ so_far is)
 
 -- A link without flow changes nothing.
 pub bounds_idle : (net : Network) (ranges : List Range) (v e : ℕ) (range : Range) (link : Link) → IsLink net e link → BoundsFirst net ranges v e range
-    → (here : Range) → slice_get ranges e ≡ Some here → ((x : ℚ) → IsWithin here x → x ≡ 0ℚ) → BoundsFirst net ranges v (suc e) range
+    → (here : Range) → slice_get ranges e ≡ Some here → ((x : ℚ) → IsInRange here x → x ≡ 0ℚ) → BoundsFirst net ranges v (suc e) range
 bounds_idle net ranges v e range link is_link so_far here at nothing flow within =
-    subst (IsWithin range) (idle_surplus net flow v e link is_link (nothing (flow e) (within e here at))) (so_far flow within)
+    subst (IsInRange range) (idle_surplus net flow v e link is_link (nothing (flow e) (within e here at))) (so_far flow within)
 
 module _ (net : Network) (ranges : List Range) (v e : ℕ) (range : Range) (link : Link) (is_link : IsLink net e link)
     (so_far : BoundsFirst net ranges v e range) (leaves enters : Bool) (tail_is : eqb link.tail v ≡ leaves) (head_is : eqb link.head v ≡ enters) where
   pub bounds_still : beq leaves enters ≡ true → BoundsFirst net ranges v (suc e) range
-  bounds_still same flow within = subst (IsWithin range) (same_surplus net flow v e link is_link (tail_is ∙ (same_bits leaves enters same ∙ sym head_is))) (so_far flow within)
+  bounds_still same flow within = subst (IsInRange range) (same_surplus net flow v e link is_link (tail_is ∙ (same_bits leaves enters same ∙ sym head_is))) (so_far flow within)
 
   module _ (apart : beq leaves enters ≡ false) (here more : Range) (at : slice_get ranges e ≡ Some here) where
-    pub bounds_sum : leaves ≡ true → ((x y : ℚ) → IsWithin range x → IsWithin here y → IsWithin more (x +ℚ y)) → BoundsFirst net ranges v (suc e) more
-    bounds_sum out sums flow within = subst (IsWithin more) (greater_surplus net flow v e link is_link (tail_is ∙ out) (head_is ∙ other_false leaves enters apart out))
+    pub bounds_sum : leaves ≡ true → ((x y : ℚ) → IsInRange range x → IsInRange here y → IsInRange more (x +ℚ y)) → BoundsFirst net ranges v (suc e) more
+    bounds_sum out sums flow within = subst (IsInRange more) (greater_surplus net flow v e link is_link (tail_is ∙ out) (head_is ∙ other_false leaves enters apart out))
         (sums _ _ (so_far flow within) (within e here at))
 
-    pub bounds_difference : leaves ≡ false → ((x y : ℚ) → IsWithin range x → IsWithin here y → IsWithin more (x -ℚ y)) → BoundsFirst net ranges v (suc e) more
-    bounds_difference not_out differences flow within = subst (IsWithin more)
+    pub bounds_difference : leaves ≡ false → ((x y : ℚ) → IsInRange range x → IsInRange here y → IsInRange more (x -ℚ y)) → BoundsFirst net ranges v (suc e) more
+    bounds_difference not_out differences flow within = subst (IsInRange more)
         (lesser_surplus net flow v e link is_link (tail_is ∙ not_out) (head_is ∙ other_true leaves enters apart not_out))
         (differences _ _ (so_far flow within) (within e here at))

@@ -9,7 +9,7 @@ use Rattle.nf_model.specs.Network.{Link, Network, IsLink}
 use Rattle.nf_pattern.proofs.Setting.{set_same, set_other, tell}
 use Rattle.nf_thin_narrow.proofs.Entries.{length_set}
 use Rattle.nf_thin_balance.specs.declared.ranges.Range.{Range}
-use Rattle.nf_thin_balance.specs.Ranges.{IsWithin}
+use Rattle.nf_thin_balance.specs.Ranges.{IsInRange}
 use Rattle.nf_thin_balance.specs.Conserving.{BoundsFirst}
 use Rattle.nf_thin_balance.specs.LinksAt.{IsNextAt, HasLinksFrom}
 use Rattle.nf_thin_balance.proofs.Conserving.{same_surplus}
@@ -22,7 +22,7 @@ module _ (net : Network) (ranges : List Range) (v e : ℕ) (range : Range) (so_f
   one_passed n within none so flow held =
       let here = entry net.links n within in
       let apart = none here.0 here.1 in
-      subst (IsWithin range) (same_surplus net flow v n here.0 here.1 (ne_eqb (here.0).tail v apart.0 ∙ sym (ne_eqb (here.0).head v apart.1))) (so flow held)
+      subst (IsInRange range) (same_surplus net flow v n here.0 here.1 (ne_eqb (here.0).tail v apart.0 ∙ sym (ne_eqb (here.0).head v apart.1))) (so flow held)
 
   passed_to : (n : ℕ) → e ≤ n → n ≤ length net.links → ((k : ℕ) (link : Link) → e ≤ k → k < n → IsLink net k link → (link.tail ≢ v) × (link.head ≢ v)) → BoundsFirst net ranges v n range
   passed_to zero low high none = subst (λ (k : ℕ). BoundsFirst net ranges v k range) (let s : e ≡ zero = omega arith in s) so_far

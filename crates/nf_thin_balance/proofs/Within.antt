@@ -25,7 +25,7 @@ use Rattle.nf_model.specs.declared.State.{State}
 use Rattle.nf_model.specs.declared.State.TheVariants.{Tight, Full, Zero}
 use Rattle.nf_model.specs.Pattern.{Fills, Equation, Inequality}
 use Rattle.nf_thin_balance.specs.declared.ranges.Range.{Range}
-use Rattle.nf_thin_balance.specs.Ranges.{IsFrom, IsUpTo, IsWithin, IsEndOfSum, IsEndOfDifference, MeetsState, scaled}
+use Rattle.nf_thin_balance.specs.Ranges.{IsAtLeastEnd, IsUpTo, IsInRange, IsEndOfSum, IsEndOfDifference, MeetsState, scaled}
 
 -- ---- whole numbers
 whole-less : (a b : ℤ) → whole (a -ℤ b) ≡ whole a -ℚ whole b
@@ -61,7 +61,7 @@ module _ (scale : ℕ) (number : ℚ) where
       same s n d e = ring ints_ring (s ∷ n ∷ d ∷ e ∷ []) (search reading depth 30) tt
 
   pub scaled_within : (least greatest : Option ℤ) → IfSome least (λ (l : ℤ). (l *ℤ pos number.den) ≤ℤ (number.num *ℤ pos scale))
-      → IfSome greatest (λ (g : ℤ). (number.num *ℤ pos scale) ≤ℤ (g *ℤ pos number.den)) → IsWithin (record { least = least; greatest = greatest }) (scaled scale number)
+      → IfSome greatest (λ (g : ℤ). (number.num *ℤ pos scale) ≤ℤ (g *ℤ pos number.den)) → IsInRange (record { least = least; greatest = greatest }) (scaled scale number)
   scaled_within least greatest below above = record {
     from = λ end at. scaled_from end (subst (λ (o : Option ℤ). IfSome o (λ (l : ℤ). (l *ℤ pos number.den) ≤ℤ (number.num *ℤ pos scale))) at below);
     up_to = λ end at. scaled_up_to end (subst (λ (o : Option ℤ). IfSome o (λ (g : ℤ). (number.num *ℤ pos scale) ≤ℤ (g *ℤ pos number.den))) at above);
@@ -88,7 +88,7 @@ le_sum a b x y h k = linear_le (a ∷ b ∷ x ∷ y ∷ []) (le h ∷ le k ∷ [
 le_difference : (a b x y : ℚ) → a ≤ℚ x → y ≤ℚ b → (a -ℚ b) ≤ℚ (x -ℚ y)
 le_difference a b x y h k = linear_le (a ∷ b ∷ x ∷ y ∷ []) (le h ∷ le k ∷ []) (search reading_of depth 12) tt
 
-pub from_sum : (one other sum : Option ℤ) (x y : ℚ) → IsEndOfSum one other sum → IsFrom one x → IsFrom other y → IsFrom sum (x +ℚ y)
+pub from_sum : (one other sum : Option ℤ) (x y : ℚ) → IsEndOfSum one other sum → IsAtLeastEnd one x → IsAtLeastEnd other y → IsAtLeastEnd sum (x +ℚ y)
 from_sum one other sum x y is h k end at = let s = is end at in
     subst (λ (z : ℚ). z ≤ℚ (x +ℚ y)) (sym (ap whole s.4 ∙ whole-plus s.0 s.1)) (le_sum (whole s.0) (whole s.1) x y (h s.0 s.2) (k s.1 s.3))
 
@@ -96,24 +96,24 @@ pub up_to_sum : (one other sum : Option ℤ) (x y : ℚ) → IsEndOfSum one othe
 up_to_sum one other sum x y is h k end at = let s = is end at in
     subst (λ (z : ℚ). (x +ℚ y) ≤ℚ z) (sym (ap whole s.4 ∙ whole-plus s.0 s.1)) (le_sum x y (whole s.0) (whole s.1) (h s.0 s.2) (k s.1 s.3))
 
-pub from_difference : (one other difference : Option ℤ) (x y : ℚ) → IsEndOfDifference one other difference → IsFrom one x → IsUpTo other y → IsFrom difference (x -ℚ y)
+pub from_difference : (one other difference : Option ℤ) (x y : ℚ) → IsEndOfDifference one other difference → IsAtLeastEnd one x → IsUpTo other y → IsAtLeastEnd difference (x -ℚ y)
 from_difference one other difference x y is h k end at = let s = is end at in
     subst (λ (z : ℚ). z ≤ℚ (x -ℚ y)) (sym (ap whole s.4 ∙ whole-less s.0 s.1)) (le_difference (whole s.0) (whole s.1) x y (h s.0 s.2) (k s.1 s.3))
 
-pub up_to_difference : (one other difference : Option ℤ) (x y : ℚ) → IsEndOfDifference one other difference → IsUpTo one x → IsFrom other y → IsUpTo difference (x -ℚ y)
+pub up_to_difference : (one other difference : Option ℤ) (x y : ℚ) → IsEndOfDifference one other difference → IsUpTo one x → IsAtLeastEnd other y → IsUpTo difference (x -ℚ y)
 up_to_difference one other difference x y is h k end at = let s = is end at in
     subst (λ (z : ℚ). (x -ℚ y) ≤ℚ z) (sym (ap whole s.4 ∙ whole-less s.0 s.1)) (le_difference x y (whole s.0) (whole s.1) (h s.0 s.2) (k s.1 s.3))
 
 -- A known end of 0.
-pub from_zero : (x : ℚ) → 0ℚ ≤ℚ x → IsFrom (Some (pos 0)) x
+pub from_zero : (x : ℚ) → 0ℚ ≤ℚ x → IsAtLeastEnd (Some (pos 0)) x
 from_zero x h end at = subst (λ (z : ℤ). whole z ≤ℚ x) (same_Some (pos 0) end at) h
 
 pub up_to_zero : (x : ℚ) → x ≤ℚ 0ℚ → IsUpTo (Some (pos 0)) x
 up_to_zero x h end at = subst (λ (z : ℤ). x ≤ℚ whole z) (same_Some (pos 0) end at) h
 
-pub within_zero : (range : Range) (x : ℚ) → range.least ≡ Some (pos 0) → range.greatest ≡ Some (pos 0) → x ≡ 0ℚ → IsWithin range x
+pub within_zero : (range : Range) (x : ℚ) → range.least ≡ Some (pos 0) → range.greatest ≡ Some (pos 0) → x ≡ 0ℚ → IsInRange range x
 within_zero range x least greatest none = record {
-  from = subst (λ (o : Option ℤ). IsFrom o x) (sym least) (from_zero x (≤ℚ_of_same 0ℚ x (sym none)));
+  from = subst (λ (o : Option ℤ). IsAtLeastEnd o x) (sym least) (from_zero x (≤ℚ_of_same 0ℚ x (sym none)));
   up_to = subst (λ (o : Option ℤ). IsUpTo o x) (sym greatest) (up_to_zero x (≤ℚ_of_same x 0ℚ none));
 }
 
@@ -139,7 +139,7 @@ module _ (scale : ℕ) (state : Option State) (resetting : Bool) (full : Range) 
   same_fills : (most : ℚ) → Fills capacity flow head_slope → Fills capacity most head_slope → flow ≡ most
   same_fills most now k = now.2 ∙ (ap (λ (rate : ℚ). rate *ℚ head_slope) (same_Some now.0 k.0 (sym now.1 ∙ k.1)) ∙ sym k.2)
 
-  within_full : Fills capacity flow head_slope → IsWithin full (scaled scale flow)
+  within_full : Fills capacity flow head_slope → IsInRange full (scaled scale flow)
   within_full now = record {
     from = λ end at. (let k = m.fills.from end at in subst (λ (z : ℚ). whole end ≤ℚ scaled scale z) (sym (same_fills k.0 now k.1)) k.2);
     up_to = λ end at. (let k = m.fills.up_to end at in subst (λ (z : ℚ). scaled scale z ≤ℚ whole end) (sym (same_fills k.0 now k.1)) k.2);
@@ -153,13 +153,13 @@ module _ (scale : ℕ) (state : Option State) (resetting : Bool) (full : Range) 
   pub from_none : 0ℚ ≤ℚ scaled scale flow
   from_none = nn_times (whole (pos scale)) flow (nn_whole scale) m.no_negative
 
-  pub full_within : state ≡ Some Full → IsWithin full (scaled scale flow)
+  pub full_within : state ≡ Some Full → IsInRange full (scaled scale flow)
   full_within is = within_full (equation_now (Some Full) is)
 
   pub zero_flow : state ≡ Some Zero → scaled scale flow ≡ 0ℚ
   zero_flow is = scaled_none scale flow (equation_now (Some Zero) is)
 
-  pub resetting_within : state ≡ None → resetting ≡ true → IsWithin full (scaled scale flow)
+  pub resetting_within : state ≡ None → resetting ≡ true → IsInRange full (scaled scale flow)
   resetting_within is on = within_full (subst (λ (b : Bool). equation_of None b) on (equation_now None is))
 
   pub idle_flow : state ≡ None → resetting ≡ false → scaled scale flow ≡ 0ℚ

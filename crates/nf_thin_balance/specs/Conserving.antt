@@ -7,7 +7,7 @@ use Rattle.nf_model.specs.Network.{Link, Network, IsLink, sum_in, sum_out}
 use Rattle.nf_model.specs.ThinFlow.{Sets}
 use Rattle.nf_model.specs.Pattern.{Pattern, Solves, Meets}
 use Rattle.nf_thin_balance.specs.declared.ranges.Range.{Range}
-use Rattle.nf_thin_balance.specs.Ranges.{IsWithin, IsFull, scaled}
+use Rattle.nf_thin_balance.specs.Ranges.{IsInRange, IsFull, scaled}
 
 -- The ranges have the scaled flows that fill the links of a network at these slopes of the nodes.
 abbrev pub AreFull : ℕ → Network → List ℚ → List Range → Type 0
@@ -27,8 +27,8 @@ pub record CanFlow (scale : ℕ) (net : Network) (sets : Sets) (rate : ℚ) (pat
   pub meets : Meets net pattern flows slopes
 
 -- Each link's flow is within its range.
-abbrev pub AreWithin : List Range → (ℕ → ℚ) → Type 0
-AreWithin ranges flow = (e : ℕ) (range : Range) → slice_get ranges e ≡ Some range → IsWithin range (flow e)
+abbrev pub AreFlowsWithin : List Range → (ℕ → ℚ) → Type 0
+AreFlowsWithin ranges flow = (e : ℕ) (range : Range) → slice_get ranges e ≡ Some range → IsInRange range (flow e)
 
 -- The surplus of a node, its outflow less its inflow, if links carry these flows.
 abbrev pub surplus_by : Network → (ℕ → ℚ) → ℕ → ℚ
@@ -40,7 +40,7 @@ surplus_of_first net flow v count = sum_out (take count net.links) flow v -ℚ s
 
 -- The surplus of node v on the first `count` links is in this range, for all flows within the links' ranges.
 abbrev pub BoundsFirst : Network → List Range → ℕ → ℕ → Range → Type 0
-BoundsFirst net ranges v count range = (flow : ℕ → ℚ) → AreWithin ranges flow → IsWithin range (surplus_of_first net flow v count)
+BoundsFirst net ranges v count range = (flow : ℕ → ℚ) → AreFlowsWithin ranges flow → IsInRange range (surplus_of_first net flow v count)
 
 -- The surplus of each node on the first `count` links is in the node's range, for all flows within the links' ranges.
 abbrev pub BoundEach : Network → List Range → ℕ → List Range → Type 0
@@ -48,21 +48,21 @@ BoundEach net ranges count nodes = (v : ℕ) (range : Range) → slice_get nodes
 
 -- The surplus of each node is in the node's range.
 abbrev pub AreSurpluses : Network → List Range → (ℕ → ℚ) → Type 0
-AreSurpluses net nodes flow = (v : ℕ) (range : Range) → slice_get nodes v ≡ Some range → IsWithin range (surplus_by net flow v)
+AreSurpluses net nodes flow = (v : ℕ) (range : Range) → slice_get nodes v ≡ Some range → IsInRange range (surplus_by net flow v)
 
 -- The surplus that a node needs: `rate` at the source, minus `rate` at the sink, and 0 elsewhere.
 abbrev pub needed_at : Network → ℚ → ℕ → ℚ
 needed_at net rate v = if eqb v net.sink then neg_ℚ rate else (if eqb v net.source then rate else 0ℚ)
 
 -- Each node has the surplus that it needs.
-abbrev pub Conserves : Network → ℚ → (ℕ → ℚ) → Type 0
-Conserves net rate flow = (v : ℕ) → v < net.nodes → surplus_by net flow v ≡ needed_at net rate v
+abbrev pub BalancesNodes : Network → ℚ → (ℕ → ℚ) → Type 0
+BalancesNodes net rate flow = (v : ℕ) → v < net.nodes → surplus_by net flow v ≡ needed_at net rate v
 
 -- Each node has the surplus that it needs for a supply within the range.
 abbrev pub IsConserved : Network → Range → (ℕ → ℚ) → Type 0
-IsConserved net supply flow = (rate : ℚ) × IsWithin supply rate × Conserves net rate flow
+IsConserved net supply flow = (rate : ℚ) × IsInRange supply rate × BalancesNodes net rate flow
 
 -- If a flow within the old ranges is conserved at every node, `fits` is true and the flow is within the new ranges.
-abbrev pub Keeps : Network → Range → List Range → List Range → Bool → Type 0
-Keeps net supply before after fits = (flow : ℕ → ℚ) → AreWithin before flow → IsConserved net supply flow
-    → (fits ≡ true) × AreWithin after flow
+abbrev pub KeepsFlows : Network → Range → List Range → List Range → Bool → Type 0
+KeepsFlows net supply before after fits = (flow : ℕ → ℚ) → AreFlowsWithin before flow → IsConserved net supply flow
+    → (fits ≡ true) × AreFlowsWithin after flow

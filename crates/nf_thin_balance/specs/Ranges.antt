@@ -12,16 +12,16 @@ abbrev pub scaled : ℕ → ℚ → ℚ
 scaled scale x = whole (pos scale) *ℚ x
 
 -- The number is at least this end, or there is no end.
-abbrev pub IsFrom : Option ℤ → ℚ → Type 0
-IsFrom least x = (end : ℤ) → least ≡ Some end → whole end ≤ℚ x
+abbrev pub IsAtLeastEnd : Option ℤ → ℚ → Type 0
+IsAtLeastEnd least x = (end : ℤ) → least ≡ Some end → whole end ≤ℚ x
 
 -- The number is at most this end, or there is no end.
 abbrev pub IsUpTo : Option ℤ → ℚ → Type 0
 IsUpTo greatest x = (end : ℤ) → greatest ≡ Some end → x ≤ℚ whole end
 
 -- The number is in the range.
-pub record IsWithin (range : Range) (x : ℚ) : Type 0 where
-  pub from : IsFrom range.least x
+pub record IsInRange (range : Range) (x : ℚ) : Type 0 where
+  pub from : IsAtLeastEnd range.least x
   pub up_to : IsUpTo range.greatest x
 
 -- If the third end is known, it is the sum of the first two, which are known.

@@ -13,5 +13,5 @@ pub record IsStated (stated : Stated) : Type 0 where
   pub states : length stated.pattern.now ≡ length stated.net.now.net.links
 
 -- The links can carry these flows in their states.
-abbrev pub CanCarry : ℕ → Stated → ℚ → List ℚ → Type 0
-CanCarry scale stated rate flows = CanFlow scale stated.net.now.net stated.sets.now rate stated.pattern.now stated.full.now flows
+abbrev pub CanCarryFlows : ℕ → Stated → ℚ → List ℚ → Type 0
+CanCarryFlows scale stated rate flows = CanFlow scale stated.net.now.net stated.sets.now rate stated.pattern.now stated.full.now flows

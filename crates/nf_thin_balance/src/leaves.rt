@@ -4,9 +4,9 @@ ghost use Rattle.std.specs.Prelude.{◌≡◌, ◌<◌, ℕ, true, length, slice
 ghost use Rattle.nf_rational.specs.Rational.{ℚ};
 ghost use Rattle.nf_rational.specs.Operations.{◌+ℚ◌, ◌-ℚ◌};
 ghost use Rattle.nf_model.specs.Network.{IsNetwork};
-ghost use Rattle.nf_thin_balance.specs.Ranges.{IsWithin};
+ghost use Rattle.nf_thin_balance.specs.Ranges.{IsInRange};
 ghost use Rattle.nf_thin_balance.specs.LinksAt.{HasLinks};
-ghost use Rattle.nf_thin_balance.specs.Conserving.{AreWithin, IsConserved, Keeps};
+ghost use Rattle.nf_thin_balance.specs.Conserving.{AreFlowsWithin, IsConserved, KeepsFlows};
 
 use crate::links_at::LinksAt;
 use crate::node_test::{first_unbalanced, needed, range_at, surplus_range};
@@ -78,8 +78,8 @@ fn only_open(net: &Network, open: &[OpenAt], node: NodeId) -> Option<LinkId>
 // Returns the flow left for a link that leaves or enters a node. `needed` is the node's surplus, and `others` the surplus of its other
 // links.
 fn left_for(leaves: bool, needed: Range, others: Range) -> Range
-    ensures { (x s n : ℚ) → IsWithin others s → IsWithin needed n
-        → MatchBool leaves (s +ℚ x ≡ n) (s -ℚ x ≡ n) → IsWithin result x }
+    ensures { (x s n : ℚ) → IsInRange others s → IsInRange needed n
+        → MatchBool leaves (s +ℚ x ≡ n) (s -ℚ x ≡ n) → IsInRange result x }
 {
     if leaves {
         needed.difference(others)
@@ -110,7 +110,7 @@ fn close(
     requires link { link < length net.now.net.links }
     requires ranges { length ranges.old.items ≡ length net.now.net.links }
     ensures count { length ranges.new.items ≡ length net.now.net.links }
-    ensures keeps { Keeps net.now.net supply ranges.old.items ranges.new.items result }
+    ensures keeps { KeepsFlows net.now.net supply ranges.old.items ranges.new.items result }
 {
     let hop = &net.hops()[link.index()];
     let leaves = hop.tail == node;
@@ -149,7 +149,7 @@ fn close_from(
     requires start { start < net.now.net.nodes }
     requires ranges { length ranges.old.items ≡ length net.now.net.links }
     ensures count { length ranges.new.items ≡ length net.now.net.links }
-    ensures keeps { Keeps net.now.net supply ranges.old.items ranges.new.items result }
+    ensures keeps { KeepsFlows net.now.net supply ranges.old.items ranges.new.items result }
 {
     let mut node = start;
     for _ in 0..net.node_count() {
@@ -176,7 +176,7 @@ pub(crate) fn comes_out(
     ranges: &mut Vec<Range>,
 ) -> Result<bool, AllocError>
     requires { length ranges.old.items ≡ length net.now.net.links }
-    ensures { IfOk result (λ fits. (flow : ℕ → ℚ) → AreWithin ranges.old.items flow
+    ensures { IfOk result (λ fits. (flow : ℕ → ℚ) → AreFlowsWithin ranges.old.items flow
         → IsConserved net.now.net supply flow → fits ≡ true) }
 {
     let links = LinksAt::new(alloc, net)?;

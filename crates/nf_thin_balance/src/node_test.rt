@@ -1,9 +1,9 @@
 // The test of each node by ranges of the links' flows: whether the links can carry what conservation of flow needs there.
 ghost use Rattle.std.specs.Prelude.{◌≡◌, ◌<◌, ℕ, suc, true, length, slice_get, slice_set, Some, None, IfOk};
 ghost use Rattle.nf_rational.specs.Rational.{ℚ};
-ghost use Rattle.nf_thin_balance.specs.Ranges.{IsWithin};
+ghost use Rattle.nf_thin_balance.specs.Ranges.{IsInRange};
 ghost use Rattle.nf_thin_balance.specs.LinksAt.{HasLinks};
-ghost use Rattle.nf_thin_balance.specs.Conserving.{AreWithin, IsConserved, BoundsFirst, BoundEach, AreSurpluses, surplus_by, needed_at};
+ghost use Rattle.nf_thin_balance.specs.Conserving.{AreFlowsWithin, IsConserved, BoundsFirst, BoundEach, AreSurpluses, surplus_by, needed_at};
 
 use crate::links_at::LinksAt;
 use crate::ranges::Range;
@@ -49,8 +49,8 @@ pub(crate) fn surplus_range(net: &Network, links: &LinksAt, ranges: &[Range], no
     requires links { HasLinks net.now.net links.now }
     requires ranges { length ranges.now ≡ length net.now.net.links }
     requires node { node < net.now.net.nodes }
-    ensures { (flow : ℕ → ℚ) → AreWithin ranges.now flow
-        → IsWithin result (surplus_by net.now.net flow node) }
+    ensures { (flow : ℕ → ℚ) → AreFlowsWithin ranges.now flow
+        → IsInRange result (surplus_by net.now.net flow node) }
 {
     let mut range = Range::zero();
     let mut link = links.first(net, node);
@@ -63,8 +63,8 @@ pub(crate) fn surplus_range(net: &Network, links: &LinksAt, ranges: &[Range], no
 
 /// Returns a range of the surplus that a node needs: `supply` at the source, minus `supply` at the sink, and 0 elsewhere.
 pub(crate) fn needed(net: &Network, supply: Range, node: NodeId) -> Range
-    ensures { (rate : ℚ) → IsWithin supply rate
-        → IsWithin result (needed_at net.now.net rate node) }
+    ensures { (rate : ℚ) → IsInRange supply rate
+        → IsInRange result (needed_at net.now.net rate node) }
 {
     let takes = node == net.sink();
     if takes {
@@ -119,7 +119,7 @@ fn add_to_ends(nodes: &mut Vec<Range>, net: &Network, ranges: &[Range], link: Li
 fn surplus_ranges(alloc: Global, net: &Network, ranges: &[Range]) -> Result<Vec<Range>, AllocError>
     requires ranges { length ranges.now ≡ length net.now.net.links }
     ensures count { IfOk result (λ nodes. length nodes.items ≡ net.now.net.nodes) }
-    ensures each { IfOk result (λ nodes. (flow : ℕ → ℚ) → AreWithin ranges.now flow
+    ensures each { IfOk result (λ nodes. (flow : ℕ → ℚ) → AreFlowsWithin ranges.now flow
         → AreSurpluses net.now.net nodes.items flow) }
 {
     let nothing = Range::zero();
@@ -162,7 +162,7 @@ pub(crate) fn first_unbalanced(
     ranges: &[Range],
 ) -> Result<Option<NodeId>, AllocError>
     requires { length ranges.now ≡ length net.now.net.links }
-    ensures { IfOk result (λ found. (flow : ℕ → ℚ) → AreWithin ranges.now flow
+    ensures { IfOk result (λ found. (flow : ℕ → ℚ) → AreFlowsWithin ranges.now flow
         → IsConserved net.now.net supply flow → found ≡ None) }
 {
     let nodes = surplus_ranges(alloc, net, ranges)?;

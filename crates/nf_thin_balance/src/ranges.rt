@@ -3,7 +3,7 @@ ghost use Rattle.std.specs.Prelude.{◌≡◌, Bool, true, ℕ, pos, Option, Som
 ghost use Rattle.nf_rational.specs.Rational.{ℚ};
 ghost use Rattle.nf_rational.specs.Operations.{0ℚ, ◌+ℚ◌, ◌-ℚ◌};
 ghost use Rattle.nf_rational.specs.Order.{◌≤ℚ◌};
-ghost use Rattle.nf_thin_balance.specs.Ranges.{IsFrom, IsUpTo, IsWithin, IsEndOfSum, IsEndOfDifference, MeetsState, scaled};
+ghost use Rattle.nf_thin_balance.specs.Ranges.{IsAtLeastEnd, IsUpTo, IsInRange, IsEndOfSum, IsEndOfDifference, MeetsState, scaled};
 
 use nf_model::State;
 use std::alloc::AllocError;
@@ -46,7 +46,7 @@ fn end_of_difference(one: Option<i64>, other: Option<i64>) -> Option<i64>
 
 // Returns whether the lower end is at most the upper end, or one of them is unknown.
 fn ends_meet(least: Option<i64>, greatest: Option<i64>) -> bool
-    ensures { (x : ℚ) → IsFrom least x → IsUpTo greatest x → result ≡ true }
+    ensures { (x : ℚ) → IsAtLeastEnd least x → IsUpTo greatest x → result ≡ true }
 {
     let Some(least) = least else {
         return true;
@@ -81,7 +81,7 @@ impl Range {
 
     /// Returns the range that holds 0 alone.
     pub(crate) fn zero() -> Range
-        ensures { IsWithin result 0ℚ }
+        ensures { IsInRange result 0ℚ }
     {
         Range {
             least: Some(0),
@@ -91,7 +91,7 @@ impl Range {
 
     // Returns the range from 0 to the upper end of this one.
     fn from_zero(self) -> Range
-        ensures { (x : ℚ) → 0ℚ ≤ℚ x → IsUpTo self.greatest x → IsWithin result x }
+        ensures { (x : ℚ) → 0ℚ ≤ℚ x → IsUpTo self.greatest x → IsInRange result x }
     {
         Range {
             least: Some(0),
@@ -101,7 +101,7 @@ impl Range {
 
     /// Returns a range that holds the sum of any number of this range and any of `other`.
     pub(crate) fn sum(self, other: Range) -> Range
-        ensures { (x y : ℚ) → IsWithin self x → IsWithin other y → IsWithin result (x +ℚ y) }
+        ensures { (x y : ℚ) → IsInRange self x → IsInRange other y → IsInRange result (x +ℚ y) }
     {
         Range {
             least: end_of_sum(self.least, other.least),
@@ -111,7 +111,7 @@ impl Range {
 
     /// Returns a range that holds the difference of any number of this range and any of `other`.
     pub(crate) fn difference(self, other: Range) -> Range
-        ensures { (x y : ℚ) → IsWithin self x → IsWithin other y → IsWithin result (x -ℚ y) }
+        ensures { (x y : ℚ) → IsInRange self x → IsInRange other y → IsInRange result (x -ℚ y) }
     {
         Range {
             least: end_of_difference(self.least, other.greatest),
@@ -121,7 +121,7 @@ impl Range {
 
     /// Returns whether some number can be in both ranges. The answer false means that none is.
     pub(crate) fn meets(&self, other: &Range) -> bool
-        ensures { (x : ℚ) → IsWithin self.now x → IsWithin other.now x → result ≡ true }
+        ensures { (x : ℚ) → IsInRange self.now x → IsInRange other.now x → result ≡ true }
     {
         if !ends_meet(self.least, other.greatest) {
             return false;
@@ -131,7 +131,7 @@ impl Range {
 
     /// Returns whether the range holds 0 alone. The answer false decides nothing.
     pub(crate) fn is_nothing(&self) -> bool
-        ensures { result ≡ true → (x : ℚ) → IsWithin self.now x → x ≡ 0ℚ }
+        ensures { result ≡ true → (x : ℚ) → IsInRange self.now x → x ≡ 0ℚ }
     {
         if !is_zero_end(self.greatest) {
             return false;
@@ -153,7 +153,7 @@ impl Range {
 fn range_in(state: State, full: Range) -> Range
     ensures { (scale : ℕ) (resetting : Bool) (capacity : Option ℚ) (flow tail_slope head_slope : ℚ)
         → MeetsState scale (Some state) resetting full capacity flow tail_slope head_slope
-        → IsWithin result (scaled scale flow) }
+        → IsInRange result (scaled scale flow) }
 {
     match state {
         State::Tight => full.from_zero(),
@@ -167,7 +167,7 @@ fn range_in(state: State, full: Range) -> Range
 pub(crate) fn flow_range(state: Option<State>, resetting: bool, full: Range) -> Range
     ensures { (scale : ℕ) (capacity : Option ℚ) (flow tail_slope head_slope : ℚ)
         → MeetsState scale state resetting full capacity flow tail_slope head_slope
-        → IsWithin result (scaled scale flow) }
+        → IsInRange result (scaled scale flow) }
 {
     if let Some(state) = state {
         return range_in(state, full);

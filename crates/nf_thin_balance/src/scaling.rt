@@ -1,6 +1,6 @@
 // Numbers times a scale, rounded outward to whole numbers.
 ghost use Rattle.std.specs.Prelude.{pos, ◌*ℤ◌, ◌≤ℤ◌, IfSome};
-ghost use Rattle.nf_thin_balance.specs.Ranges.{IsWithin, scaled};
+ghost use Rattle.nf_thin_balance.specs.Ranges.{IsInRange, scaled};
 
 use crate::ranges::Range;
 use nf_frac::Q;
@@ -61,7 +61,7 @@ fn first_upper_end(scale: u64, number: Q, end: i128) -> Option<i64>
 
 /// Returns a range that holds `scale` times the number. Its ends are the whole numbers next to it, or unknown.
 pub(crate) fn scaled_range(scale: u64, number: Q) -> Range
-    ensures { IsWithin result (scaled scale number) }
+    ensures { IsInRange result (scaled scale number) }
 {
     let Some(end) = next_to(scale, number) else {
         return Range::any();

@@ -2,9 +2,9 @@
 ghost use Rattle.std.specs.Prelude.{◌≡◌, ◌<◌, ℕ, suc, true, List, length, IfOk};
 ghost use Rattle.nf_rational.specs.Rational.{ℚ};
 ghost use Rattle.nf_model.specs.Entries.{number_at};
-ghost use Rattle.nf_thin_balance.specs.Ranges.{IsWithin, scaled};
-ghost use Rattle.nf_thin_balance.specs.Conserving.{AreWithin, surplus_by, surplus_of_first, scaled_flow};
-ghost use Rattle.nf_thin_balance.specs.Stating.{IsStated, CanCarry};
+ghost use Rattle.nf_thin_balance.specs.Ranges.{IsInRange, scaled};
+ghost use Rattle.nf_thin_balance.specs.Conserving.{AreFlowsWithin, surplus_by, surplus_of_first, scaled_flow};
+ghost use Rattle.nf_thin_balance.specs.Stating.{IsStated, CanCarryFlows};
 
 use crate::node_test::{needed, range_at};
 use crate::ranges::{Range, flow_range};
@@ -26,8 +26,8 @@ pub(crate) struct Stated<'a> {
 fn range_of(stated: &Stated, link: LinkId) -> Range
     requires stated { IsStated stated.now }
     requires link { link < length stated.now.net.now.net.links }
-    ensures { (scale : ℕ) (rate : ℚ) (flows : List ℚ) → CanCarry scale stated.now rate flows
-        → IsWithin result (scaled scale (number_at flows link)) }
+    ensures { (scale : ℕ) (rate : ℚ) (flows : List ℚ) → CanCarryFlows scale stated.now rate flows
+        → IsInRange result (scaled scale (number_at flows link)) }
 {
     let most = range_at(stated.full, link);
     flow_range(
@@ -43,8 +43,8 @@ pub(crate) fn link_ranges(alloc: Global, stated: &Stated) -> Result<Vec<Range>, 
     ensures count { IfOk result
         (λ ranges. length ranges.items ≡ length stated.now.net.now.net.links) }
     ensures carry { IfOk result
-        (λ ranges. (scale : ℕ) (rate : ℚ) (flows : List ℚ) → CanCarry scale stated.now rate flows
-        → AreWithin ranges.items (scaled_flow scale flows)) }
+        (λ ranges. (scale : ℕ) (rate : ℚ) (flows : List ℚ) → CanCarryFlows scale stated.now rate flows
+        → AreFlowsWithin ranges.items (scaled_flow scale flows)) }
 {
     let mut ranges = Vec::with_capacity(alloc, stated.net.link_count() as usize)?;
     for e in 0..stated.net.link_count() {
@@ -57,10 +57,10 @@ pub(crate) fn link_ranges(alloc: Global, stated: &Stated) -> Result<Vec<Range>, 
 fn with_link(range: Range, stated: &Stated, node: NodeId, link: LinkId) -> Range
     requires stated { IsStated stated.now }
     requires link { link < length stated.now.net.now.net.links }
-    ensures { (scale : ℕ) (rate : ℚ) (flows : List ℚ) → CanCarry scale stated.now rate flows
-        → IsWithin range
+    ensures { (scale : ℕ) (rate : ℚ) (flows : List ℚ) → CanCarryFlows scale stated.now rate flows
+        → IsInRange range
         (surplus_of_first stated.now.net.now.net (scaled_flow scale flows) node link)
-        → IsWithin result
+        → IsInRange result
         (surplus_of_first stated.now.net.now.net (scaled_flow scale flows) node (suc link)) }
 {
     let hop = &stated.net.hops()[link.index()];
@@ -80,8 +80,8 @@ fn with_link(range: Range, stated: &Stated, node: NodeId, link: LinkId) -> Range
 // Returns a range of the node's surplus, if every link's flow is possible in its state.
 fn stated_surplus(stated: &Stated, node: NodeId) -> Range
     requires { IsStated stated.now }
-    ensures { (scale : ℕ) (rate : ℚ) (flows : List ℚ) → CanCarry scale stated.now rate flows
-        → IsWithin result (surplus_by stated.now.net.now.net (scaled_flow scale flows) node) }
+    ensures { (scale : ℕ) (rate : ℚ) (flows : List ℚ) → CanCarryFlows scale stated.now rate flows
+        → IsInRange result (surplus_by stated.now.net.now.net (scaled_flow scale flows) node) }
 {
     let mut range = Range::zero();
     for e in 0..stated.net.link_count() {
@@ -95,8 +95,8 @@ fn stated_surplus(stated: &Stated, node: NodeId) -> Range
 pub(crate) fn fails_at(stated: &Stated, supply: Range, node: NodeId) -> bool
     requires { IsStated stated.now }
     ensures { result ≡ true → (scale : ℕ) (rate : ℚ) (flows : List ℚ)
-        → IsWithin supply (scaled scale rate)
-        → CanCarry scale stated.now rate flows → ⊥ }
+        → IsInRange supply (scaled scale rate)
+        → CanCarryFlows scale stated.now rate flows → ⊥ }
 {
     let nodes = stated.net.node_count();
     if node.0 >= nodes {

@@ -9,7 +9,7 @@ use Rattle.nf_model.specs.Network.{Network}
 use Rattle.nf_model.specs.ThinFlow.{Sets}
 use Rattle.nf_model.specs.Pattern.{Pattern, IsSolvable}
 use Rattle.nf_linear_def.specs.Table.{table_list}
-use Rattle.nf_thin_def.specs.Equations.{equations, slopes_in, flows_in}
+use Rattle.nf_thin_def.specs.Equations.{equations, slopes_in, link_flows_in}
 use Rattle.nf_thin_def.specs.Verdict.{verdict_list}
 
 -- The only solution of a pattern's equations, with the bounds on the flows of its Tight links.
@@ -24,7 +24,7 @@ module _ (passes : Passing) (net : Network) (sets : Sets) (rate : ℚ) where
   after_table pattern None = Ok None
   after_table pattern (Some values) = do
     bounds ← at_part Verdict (verdict_list passes net pattern (slopes_in net.nodes values))
-    Ok (Some (record { flows = flows_in net.nodes sets.active values; slopes = slopes_in net.nodes values; bounds = bounds }))
+    Ok (Some (record { flows = link_flows_in net.nodes sets.active values; slopes = slopes_in net.nodes values; bounds = bounds }))
 
   -- The table operations, and then the verdict operations.
   unfoldable pub pattern_lists : Pattern → Result (Option Solved) (PassedAt ℚ)

@@ -85,5 +85,5 @@ onto_links [] flows = []
 onto_links (true ∷ active) (x ∷ flows) = x ∷ onto_links active flows
 onto_links (active ∷ rest) flows = 0ℚ ∷ onto_links rest flows
 
-abbrev pub flows_in : ℕ → List Bool → List ℚ → List ℚ
-flows_in nodes active values = onto_links active (drop nodes values)
+abbrev pub link_flows_in : ℕ → List Bool → List ℚ → List ℚ
+link_flows_in nodes active values = onto_links active (drop nodes values)

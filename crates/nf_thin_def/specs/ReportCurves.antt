@@ -84,15 +84,15 @@ abbrev pub trace_after : Trace → ℚ → ℚ → Option ℚ → Trace
 trace_after trace label amount None = trace
 trace_after trace label amount (Some rate) = trace_with trace (label, amount) rate
 
-abbrev pub queue_after : GrowingCurve → ℚ → Option QueueStep → GrowingCurve
-queue_after curve label None = curve
-queue_after curve label (Some step) = curve_with curve (label, step.size) step.slope
+abbrev pub queue_curve_after : GrowingCurve → ℚ → Option QueueStep → GrowingCurve
+queue_curve_after curve label None = curve
+queue_curve_after curve label (Some step) = curve_with curve (label, step.size) step.slope
 
 abbrev pub curves_after : List ℚ → Link → LinkCurves → LinkStep → LinkCurves
 curves_after labels link curves step = record {
   inflow = trace_after curves.inflow (number_at labels link.tail) step.amount step.inflow_rate;
   outflow = trace_after curves.outflow (number_at labels link.head) step.amount step.outflow_rate;
-  queue = queue_after curves.queue (number_at labels link.tail) step.queue;
+  queue = queue_curve_after curves.queue (number_at labels link.tail) step.queue;
 }
 
 abbrev pub link_curves_after : List ℚ → List Link → List LinkCurves → List LinkStep → List LinkCurves

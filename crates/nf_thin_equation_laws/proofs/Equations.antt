@@ -14,7 +14,7 @@ use Rattle.nf_model.specs.declared.State.TheVariants.{Tight, Zero}
 use Rattle.nf_model.specs.Entries.{number_at}
 use Rattle.nf_model.specs.Network.{Link, Network, IsNetwork, IsLink}
 use Rattle.nf_model.specs.ThinFlow.{Sets, surplus}
-use Rattle.nf_thin_def.specs.Equations.{Unknown, SlopeOf, FlowOn, active_from, unknowns, source_factor, node_factor, fills_factor, link_factor, slopes_in, flows_in}
+use Rattle.nf_thin_def.specs.Equations.{Unknown, SlopeOf, FlowOn, active_from, unknowns, source_factor, node_factor, fills_factor, link_factor, slopes_in, link_flows_in}
 use Rattle.nf_thin_laws.specs.ActiveLinks.{AreSets}
 use Rattle.nf_thin_equation_laws.proofs.Dots.{dot, dot-append, dot-zero, dot-less, dot-map, only, range-only, active-only, node-dot}
 use Rattle.nf_thin_equation_laws.proofs.Packed.{front-length, rest-length}
@@ -43,7 +43,7 @@ module _ (net : Network) (sets : Sets) where
     slopes = slopes_in net.nodes xs
 
     abbrev pub flows : List ℚ
-    flows = flows_in net.nodes sets.active xs
+    flows = link_flows_in net.nodes sets.active xs
 
     slopes-length : length (take net.nodes xs) ≡ net.nodes
     slopes-length = front-length xs net.nodes flow_count count

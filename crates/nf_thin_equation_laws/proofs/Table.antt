@@ -18,10 +18,10 @@ use Rattle.nf_model.specs.Network.{Link, Network, IsNetwork, IsLink, unbounded}
 use Rattle.nf_model.specs.ThinFlow.{Sets, surplus}
 use Rattle.nf_model.specs.Pattern.{Pattern, HasState, Fills, Equation, Solves}
 use Rattle.nf_linear_def.specs.Table.{Row, row_at, table_list}
-use Rattle.nf_thin_def.specs.Equations.{Unknown, unknowns, row, source_factor, node_factor, node_row, link_factor, link_rows, equations, slopes_in, flows_in, onto_links}
+use Rattle.nf_thin_def.specs.Equations.{Unknown, unknowns, row, source_factor, node_factor, node_row, link_factor, link_rows, equations, slopes_in, link_flows_in, onto_links}
 use Rattle.nf_thin_laws.specs.ActiveLinks.{AreSets}
 use Rattle.nf_thin_laws.proofs.Flags.{entry_beyond, number_at-beyond, flag-cases}
-use Rattle.nf_linear_laws.specs.Solution.{IsSquare, left_side, Solves as SolvesTable}
+use Rattle.nf_linear_laws.specs.Solution.{IsSquare, left_side, SolvesRows as SolvesTable}
 use Rattle.nf_linear_laws.proofs.Solutions.{one_solution, not_one_solution}
 use Rattle.nf_thin_equation_laws.specs.Equations.{IsPatternIn, SolvesAlone}
 use Rattle.nf_thin_equation_laws.proofs.Dots.{left_side-row, number_at-row, length-row, only, only-here, only-else}
@@ -156,7 +156,7 @@ module _ (net : Network) (sets : Sets) (rate : ℚ) (pattern : Pattern) (p : IsP
 
   module _ (xs : List ℚ) (count : length xs ≡ net.nodes + flow_count net sets) where
     abbrev flows : List ℚ
-    flows = flows_in net.nodes sets.active xs
+    flows = link_flows_in net.nodes sets.active xs
 
     abbrev slopes : List ℚ
     slopes = slopes_in net.nodes xs
@@ -267,7 +267,7 @@ module _ (net : Network) (sets : Sets) (rate : ℚ) (pattern : Pattern) (p : IsP
   abbrev rows : List Row
   rows = equations net sets rate pattern
 
-  pub solves_pattern : (xs : List ℚ) → SolvesTable rows xs → Solves net sets rate pattern (flows_in net.nodes sets.active xs) (slopes_in net.nodes xs)
+  pub solves_pattern : (xs : List ℚ) → SolvesTable rows xs → Solves net sets rate pattern (link_flows_in net.nodes sets.active xs) (slopes_in net.nodes xs)
   solves_pattern xs t = let count : length xs ≡ net.nodes + flow_count net sets = t.count ∙ rows-length net sets rate pattern good sets_are in
       pattern_solved xs count (of_table net sets rate pattern good sets_are xs count t)
 
@@ -306,7 +306,7 @@ module _ (net : Network) (sets : Sets) (rate : ℚ) (pattern : Pattern) (p : IsP
         cases (Some link) h = on_link link h
         cases None h = number_at-beyond flows e (let b = entry_beyond net.links e h in let c = s.flow_count in omega arith)
 
-    flows_back : flows_in net.nodes sets.active (values flows slopes) ≡ flows
+    flows_back : link_flows_in net.nodes sets.active (values flows slopes) ≡ flows
     flows_back = ap (onto_links sets.active) (drop-front slopes (packed sets.active flows) net.nodes s.slope_count) ∙ onto-packed sets.active flows flow_length idle
 
     slopes_back : slopes_in net.nodes (values flows slopes) ≡ slopes
@@ -315,28 +315,28 @@ module _ (net : Network) (sets : Sets) (rate : ℚ) (pattern : Pattern) (p : IsP
     pub solves_table : SolvesTable rows (values flows slopes)
     solves_table = to_table net sets rate pattern good sets_are (values flows slopes) values-length
         (rows_right (values flows slopes) values-length
-        (subst (λ (l : List ℚ). Solves net sets rate pattern (flows_in net.nodes sets.active (values flows slopes)) l) (sym slopes_back)
+        (subst (λ (l : List ℚ). Solves net sets rate pattern (link_flows_in net.nodes sets.active (values flows slopes)) l) (sym slopes_back)
         (subst (λ (f : List ℚ). Solves net sets rate pattern f slopes) (sym flows_back) s)))
 
-  values_of : (xs : List ℚ) → length xs ≡ net.nodes + flow_count net sets → values (flows_in net.nodes sets.active xs) (slopes_in net.nodes xs) ≡ xs
+  values_of : (xs : List ℚ) → length xs ≡ net.nodes + flow_count net sets → values (link_flows_in net.nodes sets.active xs) (slopes_in net.nodes xs) ≡ xs
   values_of xs count =
       ap (λ (l : List ℚ). take net.nodes xs ++ l) (packed-onto sets.active 0 (drop net.nodes xs) (rest-length xs net.nodes (flow_count net sets) count))
       ∙ both_parts xs net.nodes
 
   pub solves_alone : (passes : Passing) (xs : List ℚ) → table_list passes rows ≡ Ok (Some xs)
-      → SolvesAlone net sets rate pattern (flows_in net.nodes sets.active xs) (slopes_in net.nodes xs)
+      → SolvesAlone net sets rate pattern (link_flows_in net.nodes sets.active xs) (slopes_in net.nodes xs)
   solves_alone passes xs h =
       let one = one_solution passes rows xs (is_square net sets rate pattern good sets_are) h in
       record {
         solves = solves_pattern xs one.solves;
         only = λ flows slopes s. (let same = one.only (values flows slopes) (solves_table flows slopes s) in
-            (sym (flows_back flows slopes s) ∙ ap (flows_in net.nodes sets.active) same, sym (slopes_back flows slopes s) ∙ ap (slopes_in net.nodes) same));
+            (sym (flows_back flows slopes s) ∙ ap (link_flows_in net.nodes sets.active) same, sym (slopes_back flows slopes s) ∙ ap (slopes_in net.nodes) same));
       }
 
   pub solves_not_alone : (passes : Passing) (flows slopes : List ℚ) → table_list passes rows ≡ Ok None → SolvesAlone net sets rate pattern flows slopes → ⊥
   solves_not_alone passes flows slopes h alone = not_one_solution passes rows (is_square net sets rate pattern good sets_are) h (values flows slopes)
       (record {
         solves = solves_table flows slopes alone.solves;
-        only = λ ys t. (let same = alone.only (flows_in net.nodes sets.active ys) (slopes_in net.nodes ys) (solves_pattern ys t) in
+        only = λ ys t. (let same = alone.only (link_flows_in net.nodes sets.active ys) (slopes_in net.nodes ys) (solves_pattern ys t) in
             sym (values_of ys (t.count ∙ rows-length net sets rate pattern good sets_are)) ∙ ap (λ (f : List ℚ). values f (slopes_in net.nodes ys)) same.0 ∙ ap (values flows) same.1);
       })

@@ -7,7 +7,7 @@ use Rattle.nf_model.specs.Network.{Network, IsNetwork, unbounded}
 use Rattle.nf_model.specs.ThinFlow.{Sets}
 use Rattle.nf_model.specs.Pattern.{Pattern, IsPattern, Solves}
 use Rattle.nf_linear_def.specs.Table.{table_list}
-use Rattle.nf_thin_def.specs.Equations.{equations, slopes_in, flows_in}
+use Rattle.nf_thin_def.specs.Equations.{equations, slopes_in, link_flows_in}
 use Rattle.nf_thin_laws.specs.ActiveLinks.{AreSets}
 use Rattle.nf_linear_laws.specs.Solution.{IsSquare}
 
@@ -31,7 +31,7 @@ pub record EquationsAreThePatterns : Type 0 where
       → IsSquare (equations net sets rate pattern)
   pub one : (passes : Passing) (net : Network) (sets : Sets) (rate : ℚ) (pattern : Pattern) (values : List ℚ) → IsPatternIn net sets pattern
       → table_list passes (equations net sets rate pattern) ≡ Ok (Some values)
-      → SolvesAlone net sets rate pattern (flows_in net.nodes sets.active values) (slopes_in net.nodes values)
+      → SolvesAlone net sets rate pattern (link_flows_in net.nodes sets.active values) (slopes_in net.nodes values)
   pub not_one : (passes : Passing) (net : Network) (sets : Sets) (rate : ℚ) (pattern : Pattern) (flows slopes : List ℚ)
       → IsPatternIn net sets pattern
       → table_list passes (equations net sets rate pattern) ≡ Ok None → SolvesAlone net sets rate pattern flows slopes → ⊥

@@ -108,7 +108,7 @@ pub use Rattle.nf_thin_laws.specs.Forcing.{
   forced_state,
   free_state,
   given_state,
-  left_of,
+  unforced_of,
   now_resetting,
   sets_left,
   still_active,

@@ -15,15 +15,15 @@ use Rattle.nf_model.specs.Equilibrium.{Trace}
 use Rattle.nf_net_def.specs.declared.Cause.{Cause}
 use Rattle.nf_rational.specs.Signs.{is_positive}
 use Rattle.nf_thin_def.specs.CurveList.{QueueStep, LinkStep, LinkPhase, rate_over, size_at, slope_at, queue_step, link_step, link_phase, curve_list}
-use Rattle.nf_thin_def.specs.ReportCurves.{GrowingCurve, LinkCurves, with_point, first_label_curve, first_trace, first_queue, first_curves, label_curves_after, trace_after, queue_after, curves_after, link_curves_after, amount_so_far}
+use Rattle.nf_thin_def.specs.ReportCurves.{GrowingCurve, LinkCurves, with_point, first_label_curve, first_trace, first_queue, first_curves, label_curves_after, trace_after, queue_curve_after, curves_after, link_curves_after, amount_so_far}
 use Rattle.nf_thin_def.specs.PhaseRun.{Standing, Bounds, PhaseStep, IsStart, standing_after, phase_lists, Goes, Runs, at_horizon, at_phases, fails, goes, IsPhaseRun}
 use Rattle.nf_thin_laws.proofs.Exact.{advanced_exact}
-use Rattle.nf_thin_def.specs.Ends.{end_of, EndsAtLabels}
+use Rattle.nf_thin_def.specs.Ends.{time_of_last, EndsAtLabels}
 use Rattle.nf_frac_def.proofs.Binding.{bind_ok}
 
 -- ---- the last point
 
-end-with_point : (goes : Bool) (points : List Point) (point : Point) → end_of (with_point goes points point) ≡ point.0
+end-with_point : (goes : Bool) (points : List Point) (point : Point) → time_of_last (with_point goes points point) ≡ point.0
 end-with_point true points point = ap (λ (o : Option Point). option_map_or (λ p. p.0) o 0ℚ) (last-append None (take (length points - 1) points) point)
 end-with_point false points point = ap (λ (o : Option Point). option_map_or (λ p. p.0) o 0ℚ) (last-append None points point)
 
@@ -59,11 +59,11 @@ module _ (net : Network) (is_network : IsNetwork net) where
       at (inl h) = cc
       at (inr h) = ≤ℚ_antisymm x 0ℚ h.1 nn
 
-  first_trace_end : (b : Bool) (label : ℚ) → 0ℚ ≤ℚ label → is_positive label ≡ b → end_of (first_trace b label).points ≡ label
+  first_trace_end : (b : Bool) (label : ℚ) → 0ℚ ≤ℚ label → is_positive label ≡ b → time_of_last (first_trace b label).points ≡ label
   first_trace_end true label nn test = refl
   first_trace_end false label nn test = sym (not_positive label nn test)
 
-  first_queue_end : (b : Bool) (label : ℚ) → 0ℚ ≤ℚ label → is_positive label ≡ b → end_of (first_queue b label).points ≡ label
+  first_queue_end : (b : Bool) (label : ℚ) → 0ℚ ≤ℚ label → is_positive label ≡ b → time_of_last (first_queue b label).points ≡ label
   first_queue_end true label nn test = refl
   first_queue_end false label nn test = sym (not_positive label nn test)
 
@@ -76,15 +76,15 @@ module _ (net : Network) (is_network : IsNetwork net) where
   start_ends : (s : Standing) → IsStart net s → EndsAtLabels net s
   start_ends s h = record {
     labels = λ v curve at. (let from = from_map first_label_curve s.labels v curve (ap (λ (l : List GrowingCurve). slice_get l v) (sym h.label_curves) ∙ at) in
-        ap (λ (c : GrowingCurve). end_of c.points) (sym from.2) ∙ sym h.time);
+        ap (λ (c : GrowingCurve). time_of_last c.points) (sym from.2) ∙ sym h.time);
     inflows = λ e link curves is_link at. (let are = first_curves_are s.labels e link curves is_link (ap (λ (l : List LinkCurves). slice_get l e) (sym h.link_curves) ∙ at) in
-        ap (λ (c : LinkCurves). end_of c.inflow.points) (sym are)
+        ap (λ (c : LinkCurves). time_of_last c.inflow.points) (sym are)
         ∙ first_trace_end _ (number_at s.labels link.tail) (start_nn s.labels h.labels link.tail (is_network.tails e link is_link)) refl);
     outflows = λ e link curves is_link at. (let are = first_curves_are s.labels e link curves is_link (ap (λ (l : List LinkCurves). slice_get l e) (sym h.link_curves) ∙ at) in
-        ap (λ (c : LinkCurves). end_of c.outflow.points) (sym are)
+        ap (λ (c : LinkCurves). time_of_last c.outflow.points) (sym are)
         ∙ first_trace_end _ (number_at s.labels link.head) (start_nn s.labels h.labels link.head (is_network.heads e link is_link)) refl);
     queues = λ e link curves is_link at. (let are = first_curves_are s.labels e link curves is_link (ap (λ (l : List LinkCurves). slice_get l e) (sym h.link_curves) ∙ at) in
-        ap (λ (c : LinkCurves). end_of c.queue.points) (sym are)
+        ap (λ (c : LinkCurves). time_of_last c.queue.points) (sym are)
         ∙ first_queue_end _ (number_at s.labels link.tail) (start_nn s.labels h.labels link.tail (is_network.tails e link is_link)) refl);
   }
 
@@ -166,21 +166,21 @@ module _ (passes : Passing) where
       }
 
 -- ---- one phase's points
-trace_end : (trace : Trace) (label amount : ℚ) (rate : Option ℚ) → (rate ≡ None → end_of trace.points ≡ label) → end_of (trace_after trace label amount rate).points ≡ label
+trace_end : (trace : Trace) (label amount : ℚ) (rate : Option ℚ) → (rate ≡ None → time_of_last trace.points ≡ label) → time_of_last (trace_after trace label amount rate).points ≡ label
 trace_end trace label amount None stands = stands refl
 trace_end trace label amount (Some rate) stands = end-with_point _ trace.points (label, amount)
 
-queue_end : (curve : GrowingCurve) (label : ℚ) (step : Option QueueStep) → (step ≡ None → end_of curve.points ≡ label) → end_of (queue_after curve label step).points ≡ label
+queue_end : (curve : GrowingCurve) (label : ℚ) (step : Option QueueStep) → (step ≡ None → time_of_last curve.points ≡ label) → time_of_last (queue_curve_after curve label step).points ≡ label
 queue_end curve label None stands = stands refl
 queue_end curve label (Some step) stands = end-with_point _ curve.points (label, step.size)
 
 label_end : (time : ℚ) (labels slopes : List ℚ) (curves : List GrowingCurve) (v : ℕ) (curve : GrowingCurve)
-    → slice_get (label_curves_after time labels slopes curves) v ≡ Some curve → end_of curve.points ≡ time
+    → slice_get (label_curves_after time labels slopes curves) v ≡ Some curve → time_of_last curve.points ≡ time
 label_end time [] slopes curves v curve h = absurd (none-some curve h)
 label_end time (x ∷ labels) [] curves v curve h = absurd (none-some curve h)
 label_end time (x ∷ labels) (r ∷ slopes) [] v curve h = absurd (none-some curve h)
 label_end time (x ∷ labels) (r ∷ slopes) (c ∷ curves) zero curve h =
-    ap (λ (k : GrowingCurve). end_of k.points) (sym (same_Some _ curve h)) ∙ end-with_point _ c.points (time, x)
+    ap (λ (k : GrowingCurve). time_of_last k.points) (sym (same_Some _ curve h)) ∙ end-with_point _ c.points (time, x)
 label_end time (x ∷ labels) (r ∷ slopes) (c ∷ curves) (suc v) curve h = label_end time labels slopes curves v curve h
 
 -- The curves of a link after the phase, from those before the phase and the link's step.
@@ -270,15 +270,15 @@ module _ (passes : Passing) (net : Network) (is_network : IsNetwork net) (horizo
     step_ends = record {
       labels = λ v curve at. label_end (s.time +ℚ step.length) step.labels slopes s.label_curves v curve at;
       inflows = λ e link curves is_link at. (let a = after_of e link curves is_link at in
-          ap (λ (c : LinkCurves). end_of c.inflow.points) (sym a.is_after)
+          ap (λ (c : LinkCurves). time_of_last c.inflow.points) (sym a.is_after)
           ∙ trace_end a.before.inflow (number_at step.labels link.tail) a.step.amount a.step.inflow_rate
           (λ none. kept.ends.inflows e link a.before is_link a.at_before ∙ still_tail e link a.step is_link a.at_step none));
       outflows = λ e link curves is_link at. (let a = after_of e link curves is_link at in
-          ap (λ (c : LinkCurves). end_of c.outflow.points) (sym a.is_after)
+          ap (λ (c : LinkCurves). time_of_last c.outflow.points) (sym a.is_after)
           ∙ trace_end a.before.outflow (number_at step.labels link.head) a.step.amount a.step.outflow_rate
           (λ none. kept.ends.outflows e link a.before is_link a.at_before ∙ still_head e link a.step is_link a.at_step none));
       queues = λ e link curves is_link at. (let a = after_of e link curves is_link at in
-          ap (λ (c : LinkCurves). end_of c.queue.points) (sym a.is_after)
+          ap (λ (c : LinkCurves). time_of_last c.queue.points) (sym a.is_after)
           ∙ queue_end a.before.queue (number_at step.labels link.tail) a.step.queue
           (λ none. kept.ends.queues e link a.before is_link a.at_before ∙ still_queue e link a.step is_link a.at_step none));
     }

@@ -1,7 +1,7 @@
 -- Patterns with forced states, and patterns without the forced links.
 use Rattle.std.proofs.Common.{◌≡◌, ◌⊎◌, inl, inr, ℕ, Bool, true, false, List, [], ◌∷◌, length, refl, sym, ap, ◌∙◌, arith, Option, Some, None, slice_get}
 use Rattle.nf_thin_laws.proofs.Common.{none-some, same_Some, slice_get_within, State, Tight, Full, Zero, Has, Hop, Sets, Pattern, HasState, NeedsState}
-use Rattle.nf_thin_laws.proofs.Common.{IsPattern, IsTrail, IsForest, IsListed, entry, free_state, given_state, left_of, filled, still_active, now_resetting}
+use Rattle.nf_thin_laws.proofs.Common.{IsPattern, IsTrail, IsForest, IsListed, entry, free_state, given_state, unforced_of, filled, still_active, now_resetting}
 use Rattle.nf_thin_laws.proofs.Common.{sets_left, IsForcing, HasForced}
 use Rattle.nf_thin_laws.proofs.Entrywise.{entrywise-length, entrywise-at, entrywise-parts, entrywise-back}
 
@@ -21,25 +21,25 @@ bare_left : (forced p : Pattern) → IsBare forced p → (e : ℕ) (f s : Option
 bare_left forced p b e None s h k = refl
 bare_left forced p b e (Some f) s h k = same_Some None s (sym (b e f h) ∙ k)
 
-pub left_of-filled : (forced p : Pattern) → length forced ≡ length p → IsBare forced p → left_of forced (filled forced p) ≡ p
-left_of-filled forced p n b = entrywise-back free_state given_state forced p n (bare_left forced p b)
+pub unforced_of-filled : (forced p : Pattern) → length forced ≡ length p → IsBare forced p → unforced_of forced (filled forced p) ≡ p
+unforced_of-filled forced p n b = entrywise-back free_state given_state forced p n (bare_left forced p b)
 
 forced_given : (forced p : Pattern) → HasForced forced p → (e : ℕ) (f s : Option State) → slice_get forced e ≡ Some f → slice_get p e ≡ Some s → given_state f (free_state f s) ≡ s
 forced_given forced p has e None s h k = refl
 forced_given forced p has e (Some f) s h k = same_Some (Some f) s (sym (has e f h) ∙ k)
 
-pub filled-left_of : (forced p : Pattern) → length forced ≡ length p → HasForced forced p → filled forced (left_of forced p) ≡ p
-filled-left_of forced p n has = entrywise-back given_state free_state forced p n (forced_given forced p has)
+pub filled-unforced_of : (forced p : Pattern) → length forced ≡ length p → HasForced forced p → filled forced (unforced_of forced p) ≡ p
+filled-unforced_of forced p n has = entrywise-back given_state free_state forced p n (forced_given forced p has)
 
 -- ---- entries
-state_left : (forced p : Pattern) (e : ℕ) (s : State) → HasState (left_of forced p) e s → (slice_get forced e ≡ Some None) × HasState p e s
+state_left : (forced p : Pattern) (e : ℕ) (s : State) → HasState (unforced_of forced p) e s → (slice_get forced e ≡ Some None) × HasState p e s
 state_left forced p e s h = let w = entrywise-parts free_state forced p e (Some s) h in go w.0 w.1 w.2 w.3 w.4
   where
     go : (f t : Option State) → slice_get forced e ≡ Some f → slice_get p e ≡ Some t → Some s ≡ free_state f t → (slice_get forced e ≡ Some None) × HasState p e s
     go None t at_f at_t is = (at_f, at_t ∙ ap (λ (x : Option State). Some x) (sym is))
     go (Some f) t at_f at_t is = absurd (none-some s (sym is))
 
-left_state : (forced p : Pattern) (e : ℕ) (s : State) → slice_get forced e ≡ Some None → HasState p e s → HasState (left_of forced p) e s
+left_state : (forced p : Pattern) (e : ℕ) (s : State) → slice_get forced e ≡ Some None → HasState p e s → HasState (unforced_of forced p) e s
 left_state forced p e s free h = entrywise-at free_state forced p e None (Some s) free h
 
 state_filled : (forced p : Pattern) (e : ℕ) (s : State) → HasState (filled forced p) e s → ((slice_get forced e ≡ Some None) × HasState p e s) ⊎ HasState forced e s
@@ -133,7 +133,7 @@ module _ (sets : Sets) (unbounded : List Bool) (forced : Pattern) (is : IsForcin
   flags_count = entrywise-length now_resetting forced sets.resetting (is.count ∙ sym is.flags) ∙ is.flags
 
   -- ---- patterns
-  pub left_pattern : (p : Pattern) → IsPattern sets unbounded p → IsPattern (sets_left forced sets) unbounded (left_of forced p)
+  pub left_pattern : (p : Pattern) → IsPattern sets unbounded p → IsPattern (sets_left forced sets) unbounded (unforced_of forced p)
   left_pattern p pattern = record {
     count = entrywise-length free_state forced p (same_count p pattern) ∙ (pattern.count ∙ sym sets_count);
     states = λ e. (
@@ -181,35 +181,35 @@ module _ (sets : Sets) (unbounded : List Bool) (forced : Pattern) (is : IsForcin
 
   -- ---- listed patterns
   module _ (nodes source : ℕ) (hops : List Hop) where
-    pub left_listed : (p : Pattern) → IsListed nodes source hops sets unbounded p → HasForced forced p → IsListed nodes source hops (sets_left forced sets) unbounded (left_of forced p)
+    pub left_listed : (p : Pattern) → IsListed nodes source hops sets unbounded p → HasForced forced p → IsListed nodes source hops (sets_left forced sets) unbounded (unforced_of forced p)
     left_listed p listed has = record {
       states = left_pattern p listed.states;
-      forest = forest_within hops (λ (e : ℕ). HasState (left_of forced p) e Tight) (λ (e : ℕ). HasState p e Tight) (λ e h. (state_left forced p e Tight h).1) listed.forest;
+      forest = forest_within hops (λ (e : ℕ). HasState (unforced_of forced p) e Tight) (λ (e : ℕ). HasState p e Tight) (λ e h. (state_left forced p e Tight h).1) listed.forest;
       entered = λ v less other. let w = listed.entered v less other in (w.0, w.1, w.2, w.3, enters w.0 w.4);
     }
       where
-        free_or : (e : ℕ) (s : State) → HasState p e s → HasState (left_of forced p) e s ⊎ HasState forced e s
+        free_or : (e : ℕ) (s : State) → HasState p e s → HasState (unforced_of forced p) e s ⊎ HasState forced e s
         free_or e s h = let f = entry forced e (let w = slice_get_within p e (Some s) h in let n = same_count p listed.states in omega arith) in go f.0 f.1
           where
             same : (f : State) → HasState forced e f → f ≡ s
             same f at = same_Some f s (same_Some (Some f) (Some s) (sym (has e f at) ∙ h))
 
-            go : (f : Option State) → slice_get forced e ≡ Some f → HasState (left_of forced p) e s ⊎ HasState forced e s
+            go : (f : Option State) → slice_get forced e ≡ Some f → HasState (unforced_of forced p) e s ⊎ HasState forced e s
             go None at = inl (left_state forced p e s at h)
             go (Some f) at = inr (at ∙ ap (λ (x : State). Some (Some x)) (same f at))
 
-        tight : (e : ℕ) → HasState (left_of forced p) e Tight ⊎ HasState forced e Tight
-            → Has (sets_left forced sets).resetting e ⊎ (HasState (left_of forced p) e Tight ⊎ HasState (left_of forced p) e Full)
+        tight : (e : ℕ) → HasState (unforced_of forced p) e Tight ⊎ HasState forced e Tight
+            → Has (sets_left forced sets).resetting e ⊎ (HasState (unforced_of forced p) e Tight ⊎ HasState (unforced_of forced p) e Full)
         tight e (inl h) = inr (inl h)
         tight e (inr at) = absurd (is.not_tight e at)
 
-        full : (e : ℕ) → HasState (left_of forced p) e Full ⊎ HasState forced e Full
-            → Has (sets_left forced sets).resetting e ⊎ (HasState (left_of forced p) e Tight ⊎ HasState (left_of forced p) e Full)
+        full : (e : ℕ) → HasState (unforced_of forced p) e Full ⊎ HasState forced e Full
+            → Has (sets_left forced sets).resetting e ⊎ (HasState (unforced_of forced p) e Tight ⊎ HasState (unforced_of forced p) e Full)
         full e (inl h) = inr (inr h)
         full e (inr at) = inl (full_resets e at)
 
         enters : (e : ℕ) → Has sets.resetting e ⊎ (HasState p e Tight ⊎ HasState p e Full)
-            → Has (sets_left forced sets).resetting e ⊎ (HasState (left_of forced p) e Tight ⊎ HasState (left_of forced p) e Full)
+            → Has (sets_left forced sets).resetting e ⊎ (HasState (unforced_of forced p) e Tight ⊎ HasState (unforced_of forced p) e Full)
         enters e (inl r) = inl (still_resets e r)
         enters e (inr (inl h)) = tight e (free_or e Tight h)
         enters e (inr (inr h)) = full e (free_or e Full h)

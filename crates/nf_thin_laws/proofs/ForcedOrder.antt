@@ -1,6 +1,6 @@
 -- Patterns with forced states have the order of the patterns left.
 use Rattle.std.proofs.Common.{◌≡◌, ◌⊎◌, inl, inr, suc, ◌+◌, ◌<◌, Bool, true, false, [], ◌∷◌, length, refl, sym, ap, ◌∙◌, arith}
-use Rattle.nf_thin_laws.proofs.Common.{◌↔◌, Option, Some, None, ◌==◌, if◌then◌else◌, same_Some, State, Pattern, rank, changes, IsEarlier, IsBefore, left_of}
+use Rattle.nf_thin_laws.proofs.Common.{◌↔◌, Option, Some, None, ◌==◌, if◌then◌else◌, same_Some, State, Pattern, rank, changes, IsEarlier, IsBefore, unforced_of}
 use Rattle.nf_thin_laws.proofs.Common.{HasForced, change, forced_changes}
 
 pub changes_first : (b s : Option State) (base p : Pattern) → changes (b ∷ base) (s ∷ p) ≡ change b s + changes base p
@@ -11,7 +11,7 @@ changes_first b s base p = go (rank b == rank s)
     go false = omega arith
 
 pub changes_split : (forced base p : Pattern) → length forced ≡ length p → length base ≡ length p → HasForced forced p
-    → changes base p ≡ forced_changes forced base + changes (left_of forced base) (left_of forced p)
+    → changes base p ≡ forced_changes forced base + changes (unforced_of forced base) (unforced_of forced p)
 changes_split [] [] [] n m h = refl
 changes_split [] [] (s ∷ p) n m h = absurd (omega arith)
 changes_split [] (b ∷ base) [] n m h = absurd (omega arith)
@@ -21,12 +21,12 @@ changes_split (f ∷ forced) [] (s ∷ p) n m h = absurd (omega arith)
 changes_split (f ∷ forced) (b ∷ base) [] n m h = absurd (omega arith)
 changes_split (None ∷ forced) (b ∷ base) (s ∷ p) n m h =
     let one = changes_first b s base p in
-    let other = changes_first b s (left_of forced base) (left_of forced p) in
+    let other = changes_first b s (unforced_of forced base) (unforced_of forced p) in
     let rest = changes_split forced base p (omega arith) (omega arith) (λ e g k. h (suc e) g k) in
     omega arith
 changes_split (Some f ∷ forced) (b ∷ base) (s ∷ p) n m h =
     let one = changes_first b s base p in
-    let other = changes_first None None (left_of forced base) (left_of forced p) in
+    let other = changes_first None None (unforced_of forced base) (unforced_of forced p) in
     let here : change b s ≡ change b (Some f) = ap (change b) (same_Some s (Some f) (h 0 f refl)) in
     let rest = changes_split forced base p (omega arith) (omega arith) (λ e g k. h (suc e) g k) in
     omega arith
@@ -40,7 +40,7 @@ only_later none same f (inl less) = absurd (none less)
 only_later none same f (inr later) = inr (same, f later.1)
 
 earlier_forced : (forced p q : Pattern) → length forced ≡ length p → length q ≡ length p → HasForced forced p → HasForced forced q
-    → IsEarlier p q ↔ IsEarlier (left_of forced p) (left_of forced q)
+    → IsEarlier p q ↔ IsEarlier (unforced_of forced p) (unforced_of forced q)
 earlier_forced [] [] [] n m h k = ((λ less. less), (λ less. less))
 earlier_forced [] [] (t ∷ q) n m h k = absurd (omega arith)
 earlier_forced [] (s ∷ p) q n m h k = absurd (omega arith)
@@ -55,16 +55,16 @@ earlier_forced (Some f ∷ forced) (s ∷ p) (t ∷ q) n m h k =
     (only_later (λ (less : rank s < rank t). let r : rank s ≡ rank t = ap rank same in omega arith) refl rest.0, only_later (λ (less : 0 < 0). omega arith) same rest.1)
 
 module _ (forced base p q : Pattern) (n : length forced ≡ length p) (b : length base ≡ length p) (m : length q ≡ length p) (h : HasForced forced p) (k : HasForced forced q) where
-  first : changes base p ≡ forced_changes forced base + changes (left_of forced base) (left_of forced p)
+  first : changes base p ≡ forced_changes forced base + changes (unforced_of forced base) (unforced_of forced p)
   first = changes_split forced base p n b h
 
-  second : changes base q ≡ forced_changes forced base + changes (left_of forced base) (left_of forced q)
+  second : changes base q ≡ forced_changes forced base + changes (unforced_of forced base) (unforced_of forced q)
   second = changes_split forced base q (n ∙ sym m) (b ∙ sym m) k
 
-  pub before_left : IsBefore base p q → IsBefore (left_of forced base) (left_of forced p) (left_of forced q)
+  pub before_left : IsBefore base p q → IsBefore (unforced_of forced base) (unforced_of forced p) (unforced_of forced q)
   before_left (inl less) = let c = first in let d = second in inl (omega arith)
   before_left (inr less) = let c = first in let d = second in let e = less.0 in inr (omega arith, (earlier_forced forced p q n m h k).0 less.1)
 
-  pub before_put : IsBefore (left_of forced base) (left_of forced p) (left_of forced q) → IsBefore base p q
+  pub before_put : IsBefore (unforced_of forced base) (unforced_of forced p) (unforced_of forced q) → IsBefore base p q
   before_put (inl less) = let c = first in let d = second in inl (omega arith)
   before_put (inr less) = let c = first in let d = second in let e = less.0 in inr (omega arith, (earlier_forced forced p q n m h k).1 less.1)

@@ -1,17 +1,17 @@
 -- A search among patterns with forced states, and the search among all.
 use Rattle.std.proofs.Common.{◌≡◌, ◌⊎◌, inl, inr, ℕ, zero, suc, ◌+◌, ◌<◌, ◌≤◌, List, length, refl, sym, ap, subst, ◌∙◌, arith, Some, slice_get, Bool}
 use Rattle.nf_thin_laws.proofs.Common.{same_Some, slice_get_within, ℚ, Passing, Network, hops, unbounded, Sets, Pattern, IsPattern, IsListed, IsListedIn}
-use Rattle.nf_thin_laws.proofs.Common.{IsBefore, changes, IsAccepted, HasPlace, NoneAcceptedBefore, NoneAccepted, IsOverBudget, entry, compared, left_of}
+use Rattle.nf_thin_laws.proofs.Common.{IsBefore, changes, IsAccepted, HasPlace, NoneAcceptedBefore, NoneAccepted, IsOverBudget, entry, compared, unforced_of}
 use Rattle.nf_thin_laws.proofs.Common.{filled, sets_left, IsForcing, HasForced, forced_changes}
 use Rattle.nf_thin_laws.proofs.Listings.{IsBefore-asymmetric}
 use Rattle.nf_thin_laws.specs.NarrowLaws.{Narrows, NoneFilledBefore}
-use Rattle.nf_thin_laws.proofs.Forced.{left_of-filled, filled-left_of, same_count, left_count, filled_pattern, has_forced, left_bare, left_listed, filled_listed}
+use Rattle.nf_thin_laws.proofs.Forced.{unforced_of-filled, filled-unforced_of, same_count, left_count, filled_pattern, has_forced, left_bare, left_listed, filled_listed}
 use Rattle.nf_thin_laws.proofs.ForcedOrder.{changes_split, before_left, before_put}
 
 module _ (sets : Sets) (unbounded : List Bool) (forced base p : Pattern) (is : IsForcing sets unbounded forced) (b : IsPattern sets unbounded base)
     (pattern : IsPattern (sets_left forced sets) unbounded p) where
-  pub taken_out : left_of forced (filled forced p) ≡ p
-  taken_out = left_of-filled forced p (left_count sets unbounded forced is p pattern) (left_bare sets unbounded forced is p pattern)
+  pub taken_out : unforced_of forced (filled forced p) ≡ p
+  taken_out = unforced_of-filled forced p (left_count sets unbounded forced is p pattern) (left_bare sets unbounded forced is p pattern)
 
   pub filled_count : length (filled forced p) ≡ length sets.active
   filled_count = (filled_pattern sets unbounded forced is p pattern).count
@@ -19,9 +19,9 @@ module _ (sets : Sets) (unbounded : List Bool) (forced base p : Pattern) (is : I
   pub has_it : HasForced forced (filled forced p)
   has_it = has_forced sets unbounded forced is p (left_count sets unbounded forced is p pattern)
 
-  pub more_changes : changes base (filled forced p) ≡ forced_changes forced base + changes (left_of forced base) p
+  pub more_changes : changes base (filled forced p) ≡ forced_changes forced base + changes (unforced_of forced base) p
   more_changes = changes_split forced base (filled forced p) (is.count ∙ sym filled_count) (b.count ∙ sym filled_count) has_it
-      ∙ ap (λ (x : Pattern). forced_changes forced base + changes (left_of forced base) x) taken_out
+      ∙ ap (λ (x : Pattern). forced_changes forced base + changes (unforced_of forced base) x) taken_out
 
 module _ (sets : Sets) (unbounded : List Bool) (forced base p q : Pattern) (is : IsForcing sets unbounded forced) (b : IsPattern sets unbounded base)
     (one : IsPattern (sets_left forced sets) unbounded p) (other : IsPattern (sets_left forced sets) unbounded q) where
@@ -32,16 +32,16 @@ module _ (sets : Sets) (unbounded : List Bool) (forced base p q : Pattern) (is :
   count_q = filled_count sets unbounded forced base q is b other
 
   abbrev Left : Pattern → Pattern → Type 0
-  Left x y = IsBefore (left_of forced base) x y
+  Left x y = IsBefore (unforced_of forced base) x y
 
-  same_left : (x y : Pattern) → left_of forced (filled forced p) ≡ x → left_of forced (filled forced q) ≡ y
-      → Left (left_of forced (filled forced p)) (left_of forced (filled forced q)) → Left x y
-  same_left x y e f less = subst (λ (z : Pattern). Left z y) e (subst (λ (z : Pattern). Left (left_of forced (filled forced p)) z) f less)
+  same_left : (x y : Pattern) → unforced_of forced (filled forced p) ≡ x → unforced_of forced (filled forced q) ≡ y
+      → Left (unforced_of forced (filled forced p)) (unforced_of forced (filled forced q)) → Left x y
+  same_left x y e f less = subst (λ (z : Pattern). Left z y) e (subst (λ (z : Pattern). Left (unforced_of forced (filled forced p)) z) f less)
 
   pub order_put : Left p q → IsBefore base (filled forced p) (filled forced q)
   order_put less = before_put forced base (filled forced p) (filled forced q) (is.count ∙ sym count_p) (b.count ∙ sym count_p) (count_q ∙ sym count_p)
       (has_it sets unbounded forced base p is b one) (has_it sets unbounded forced base q is b other)
-      (subst (λ (z : Pattern). Left z (left_of forced (filled forced q))) (sym (taken_out sets unbounded forced base p is b one))
+      (subst (λ (z : Pattern). Left z (unforced_of forced (filled forced q))) (sym (taken_out sets unbounded forced base p is b one))
       (subst (λ (z : Pattern). Left p z) (sym (taken_out sets unbounded forced base q is b other)) less))
 
   pub order_left : IsBefore base (filled forced p) (filled forced q) → Left p q
@@ -72,8 +72,8 @@ module _ (passes : Passing) (net : Network) (sets : Sets) (rate : ℚ) (base for
   back j r at accepted =
       let listed : IsListedIn net sets r = n.whole.listed (suc j) r (j, refl, at) in
       let has = n.allowed r listed accepted.solvable in
-      let w = n.part.whole (left_of forced r) (left_listed sets (unbounded net) forced n.forcing net.nodes net.source (hops net) r listed has) in
-      (w.1.0, left_of forced r, w.1.2, filled-left_of forced r (same_count sets (unbounded net) forced n.forcing r listed.states) has)
+      let w = n.part.whole (unforced_of forced r) (left_listed sets (unbounded net) forced n.forcing net.nodes net.source (hops net) r listed has) in
+      (w.1.0, unforced_of forced r, w.1.2, filled-unforced_of forced r (same_count sets (unbounded net) forced n.forcing r listed.states) has)
 
   not_itself : (p : Pattern) → IsBefore base p p → ⊥
   not_itself p less = IsBefore-asymmetric base p p less less

@@ -11,7 +11,7 @@ use Rattle.nf_thin_def.specs.Accepted.{IsAccepted}
 use Rattle.nf_thin_def.specs.Listing.{HasPlace, IsListing, IsListingIn}
 use Rattle.nf_thin_def.specs.Search.{Found, OverBudget, NoneAcceptedBefore, NoneAccepted, IsOverBudget, IsSearch}
 use Rattle.nf_thin_laws.specs.ActiveLinks.{AreSets, HoldNoCycle}
-use Rattle.nf_thin_laws.specs.Forcing.{left_of, filled, sets_left, IsForcing, HasForced, forced_changes, forced_by}
+use Rattle.nf_thin_laws.specs.Forcing.{unforced_of, filled, sets_left, IsForcing, HasForced, forced_changes, forced_by}
 use Rattle.nf_thin_laws.specs.Ways.{Choices, AreIn, ways_before, AreSole, choices_of}
 use Rattle.nf_thin_laws.specs.Firm.{choices_by, AreFirm, AllAscend, firm_before}
 
@@ -21,22 +21,22 @@ pub record ForcedPatternsAreListed : Type 0 where
   pub taken : (nodes source : ℕ) (hops : List Hop) (sets : Sets) (unbounded : List Bool) (forced p : Pattern)
       → IsForcing sets unbounded forced
       → IsListed nodes source hops sets unbounded p → HasForced forced p
-      → IsListed nodes source hops (sets_left forced sets) unbounded (left_of forced p) × (filled forced (left_of forced p) ≡ p)
+      → IsListed nodes source hops (sets_left forced sets) unbounded (unforced_of forced p) × (filled forced (unforced_of forced p) ≡ p)
   pub put : (nodes source : ℕ) (hops : List Hop) (sets : Sets) (unbounded : List Bool) (forced p : Pattern)
       → IsForcing sets unbounded forced
       → IsListed nodes source hops (sets_left forced sets) unbounded p
       → IsListed nodes source hops sets unbounded (filled forced p) × HasForced forced (filled forced p)
-      × (left_of forced (filled forced p) ≡ p)
+      × (unforced_of forced (filled forced p) ≡ p)
   pub base : (sets : Sets) (unbounded : List Bool) (forced p : Pattern) → IsForcing sets unbounded forced
-      → IsPattern sets unbounded p → IsPattern (sets_left forced sets) unbounded (left_of forced p)
+      → IsPattern sets unbounded p → IsPattern (sets_left forced sets) unbounded (unforced_of forced p)
   pub order : (sets : Sets) (unbounded : List Bool) (forced base p q : Pattern) → IsForcing sets unbounded forced
       → IsPattern sets unbounded base
       → IsPattern (sets_left forced sets) unbounded p → IsPattern (sets_left forced sets) unbounded q
-      → IsBefore (left_of forced base) p q ↔ IsBefore base (filled forced p) (filled forced q)
+      → IsBefore (unforced_of forced base) p q ↔ IsBefore base (filled forced p) (filled forced q)
   pub more : (sets : Sets) (unbounded : List Bool) (forced base p : Pattern) → IsForcing sets unbounded forced
       → IsPattern sets unbounded base
       → IsPattern (sets_left forced sets) unbounded p
-      → changes base (filled forced p) ≡ forced_changes forced base + changes (left_of forced base) p
+      → changes base (filled forced p) ≡ forced_changes forced base + changes (unforced_of forced base) p
 
 -- ---- searches
 
@@ -45,7 +45,7 @@ pub record Narrows (net : Network) (sets : Sets) (rate : ℚ) (base forced : Pat
   pub forcing : IsForcing sets (unbounded net) forced
   pub starts : IsPattern sets (unbounded net) base
   pub whole : IsListingIn net sets base listing
-  pub part : IsListing net.nodes net.source (hops net) (sets_left forced sets) (unbounded net) (left_of forced base) narrow
+  pub part : IsListing net.nodes net.source (hops net) (sets_left forced sets) (unbounded net) (unforced_of forced base) narrow
   pub allowed : (pattern : Pattern) → IsListedIn net sets pattern → IsSolvable net sets rate pattern → HasForced forced pattern
 
 -- No pattern before this rank is accepted, with the forced states put in.

@@ -5,7 +5,7 @@ use Rattle.nf_model.specs.declared.State.{State}
 use Rattle.nf_model.specs.Pattern.{Pattern, rank}
 use Rattle.nf_thin_laws.specs.Forcing.{change}
 use Rattle.nf_thin_laws.specs.Ways.{Choices, left_ways, ways_by, ways_below, ways, ways_fewer}
-use Rattle.nf_thin_narrow.specs.Rows.{most, number_in, Tells, first_ways}
+use Rattle.nf_thin_narrow.specs.Rows.{most, count_at, CountsCapped, first_ways}
 
 pub counted_capped : (t : Bool) (x y m : ℕ) → x ≡ min y m → (if t then x else 0) ≡ min (if t then y else 0) m
 counted_capped true x y m h = h
@@ -42,7 +42,7 @@ by_alike f g [] b n h = refl
 by_alike f g (t ∷ states) b n h = let one = left_alike f g (change b t) n h in let rest = by_alike f g states b n h in omega arith
 
 -- the numbers of a row, up to one within it
-pub caps_of : (row : List ℕ) (f : ℕ → ℕ) (n : ℕ) → Tells row f → n < length row → (k : ℕ) → k ≤ n → number_in row k ≡ min (f k) most
+pub caps_of : (row : List ℕ) (f : ℕ → ℕ) (n : ℕ) → CountsCapped row f → n < length row → (k : ℕ) → k ≤ n → count_at row k ≡ min (f k) most
 caps_of row f n h less k le = h k (omega arith)
 
 pub first_fewer : (choices : Choices) (base : Pattern) (n : ℕ) → first_ways (ways choices base) n ≡ ways_fewer choices base n

@@ -11,7 +11,7 @@ use Rattle.nf_thin_laws.specs.Ways.{left_ways, ways_by, ways_below, ways, ways_e
 use Rattle.nf_thin_laws.proofs.ForcedOrder.{changes_first}
 use Rattle.nf_thin_laws.proofs.Counting.{left_ways-of}
 use Rattle.nf_rational_laws.proofs.Entries.{drop_entry}
-use Rattle.nf_thin_narrow.specs.Rows.{most, number_in, Tells}
+use Rattle.nf_thin_narrow.specs.Rows.{most, count_at, CountsCapped}
 use Rattle.nf_thin_narrow.proofs.Capping.{by_capped, below_capped, caps_of, counted_capped}
 
 pub changes_behind : (base p : Pattern) (i : ℕ) → changes (drop i base) (drop i p) ≤ changes base p
@@ -36,22 +36,22 @@ changes_step_at base p i j b s at h k =
     ∙ (changes_first b s (drop (suc i) base) (drop (suc i) p) ∙ ap (λ (n : ℕ). change b s + changes (drop n base) (drop n p)) (sym at))
 
 -- One more link with these states. The row counts the assignments `behind` it, of the later links alone.
-module _ (states : List (Option State)) (b s : Option State) (behind : ℕ → ℕ) (row : List ℕ) (tells : Tells row behind) where
+module _ (states : List (Option State)) (b s : Option State) (behind : ℕ → ℕ) (row : List ℕ) (tells : CountsCapped row behind) where
   -- The row with the link.
   pub row_more : (here : ℕ → ℕ) → ((k : ℕ) → here k ≡ ways_by states b behind k) → (after : List ℕ) → length after ≡ length row
-      → ((k : ℕ) → k < length row → number_in after k ≡ min (ways_by states b (number_in row) k) most) → Tells after here
+      → ((k : ℕ) → k < length row → count_at after k ≡ min (ways_by states b (count_at row) k) most) → CountsCapped after here
   row_more here step after count is k less =
-      is k (omega arith) ∙ (by_capped most behind (number_in row) states b k (caps_of row behind k tells (omega arith)) ∙ ap (λ (x : ℕ). min x most) (sym (step k)))
+      is k (omega arith) ∙ (by_capped most behind (count_at row) states b k (caps_of row behind k tells (omega arith)) ∙ ap (λ (x : ℕ). min x most) (sym (step k)))
 
   -- The earlier assignments, with the link. Those that agree with the pattern at the link count if `kept`.
   pub earlier_more : (kept : Bool) (earlier_behind : ℕ → ℕ) (earlier made now : ℕ)
       → earlier ≡ ways_below states b s behind now + (if kept then left_ways (change b s) earlier_behind now else 0) → now ≡ change b s + made → now < length row
-      → (before under same after : ℕ) → before ≡ min (earlier_behind made) most → under ≡ min (ways_below states b s (number_in row) now) most
+      → (before under same after : ℕ) → before ≡ min (earlier_behind made) most → under ≡ min (ways_below states b s (count_at row) now) most
       → same ≡ (if kept then before else 0) → after ≡ min (same + under) most → after ≡ min earlier most
   earlier_more kept earlier_behind earlier made now step split less before under same after is under_is same_is after_is =
       let rest : left_ways (change b s) earlier_behind now ≡ earlier_behind made = left_ways-of (change b s) earlier_behind now made split in
       let capped = counted_capped kept before (left_ways (change b s) earlier_behind now) most (let r = rest in omega arith) in
-      let below = below_capped most behind (number_in row) states b s now (caps_of row behind now tells less) in omega arith
+      let below = below_capped most behind (count_at row) states b s now (caps_of row behind now tells less) in omega arith
 
 pub earlier_at : (earlier_from : ℕ → ℕ → ℕ) (base p : Pattern) (e next made before : ℕ) → e ≡ next → made ≡ changes (drop e base) (drop e p) → before ≡ min (earlier_from e made) most
     → before ≡ min (earlier_from next (changes (drop next base) (drop next p))) most

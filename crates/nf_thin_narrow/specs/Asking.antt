@@ -2,7 +2,7 @@
 use Rattle.std.specs.Prelude.{◌≡◌, Bool, ℕ, zero, suc, ◌≤◌, ◌<◌, MatchBool, List, Some, slice_get}
 use Rattle.nf_model.specs.Pattern.{Pattern}
 use Rattle.nf_thin_def.specs.Listing.{HasPlace}
-use Rattle.nf_thin_laws.specs.Forcing.{left_of, sets_left}
+use Rattle.nf_thin_laws.specs.Forcing.{unforced_of, sets_left}
 use Rattle.nf_pattern.specs.Given.{Question, Given, Last, AtStart, UpTo, IsLater}
 use Rattle.nf_pattern.specs.Front.{IsListingOf}
 
@@ -14,7 +14,7 @@ question_left forced question = record {
   hops = question.hops;
   sets = sets_left forced question.sets;
   unbounded = question.unbounded;
-  base = left_of forced question.base;
+  base = unforced_of forced question.base;
 }
 
 -- A pattern's rank in the question's listing is within the budget, or beyond it, as `within` says.

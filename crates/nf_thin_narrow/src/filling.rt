@@ -1,7 +1,7 @@
 // Forced states of links: patterns with and without them, and the link sets without the forced links.
 ghost use Rattle.std.specs.Prelude.{◌≡◌, length, List, Bool, IfOk};
 ghost use Rattle.nf_graph.specs.Sets.{AreLinkSets};
-ghost use Rattle.nf_thin_laws.specs.Forcing.{entrywise, free_state as free_state_of, given_state as given_state_of, still_active as still_active_of, now_resetting as now_resetting_of, left_of, filled, sets_left, IsForcing};
+ghost use Rattle.nf_thin_laws.specs.Forcing.{entrywise, free_state as free_state_of, given_state as given_state_of, still_active as still_active_of, now_resetting as now_resetting_of, unforced_of, filled, sets_left, IsForcing};
 
 use nf_graph::{LinkId, LinkSets};
 use nf_model::State;
@@ -75,7 +75,7 @@ pub(crate) fn left_pattern(
 ) -> Result<Pattern, AllocError>
     requires forced { length forced.now ≡ links }
     requires pattern { length pattern.now ≡ links }
-    ensures { IfOk result (λ left. left ≡ left_of forced.now pattern.now) }
+    ensures { IfOk result (λ left. left ≡ unforced_of forced.now pattern.now) }
 {
     let mut left = Pattern::none(alloc, links)?;
     for e in 0..links {

@@ -4,7 +4,7 @@ ghost use Rattle.nf_model.specs.Pattern.{changes as changes_of};
 ghost use Rattle.nf_thin_laws.specs.Forcing.{change as change_of};
 ghost use Rattle.nf_thin_laws.specs.Ways.{left_ways, ways_by, ways_below, ways};
 ghost use Rattle.nf_thin_laws.specs.Firm.{is_in, firm_earlier, firm_before};
-ghost use Rattle.nf_thin_narrow.specs.Rows.{most, number_in, Tells, none_left};
+ghost use Rattle.nf_thin_narrow.specs.Rows.{most, count_at, CountsCapped, none_left};
 ghost use Rattle.nf_thin_narrow.specs.Firming.{states_of_firm, firm_choices};
 
 use crate::row::{change, count_changes, first_row, sum_of, ways_with};
@@ -25,7 +25,7 @@ pub struct Firm {
 fn ways_if(row: &[u64], base: Option<State>, allowed: bool, state: State, changes: usize) -> u64
     requires { changes < length row.now }
     ensures { result ≡ (if allowed then left_ways (change_of base (Some state))
-        (number_in row.now) changes else 0) }
+        (count_at row.now) changes else 0) }
 {
     if allowed {
         ways_with(row, base, Some(state), changes)
@@ -38,7 +38,7 @@ fn ways_if(row: &[u64], base: Option<State>, allowed: bool, state: State, change
 fn firm_at(row: &[u64], base: Option<State>, firm: Firm, changes: usize) -> u64
     requires { changes < length row.now }
     ensures { result
-        ≡ min (ways_by (states_of_firm base firm) base (number_in row.now) changes) most }
+        ≡ min (ways_by (states_of_firm base firm) base (count_at row.now) changes) most }
 {
     if base.is_none() {
         return ways_with(row, base, None, changes);
@@ -59,7 +59,7 @@ fn firm_under(
 ) -> u64
     requires { changes < length row.now }
     ensures { result
-        ≡ min (ways_below (states_of_firm base firm) base state (number_in row.now) changes) most }
+        ≡ min (ways_below (states_of_firm base firm) base state (count_at row.now) changes) most }
 {
     let rank = rank(state);
     if base.is_none() {
@@ -100,8 +100,8 @@ fn along(may_have: bool, earlier: u64) -> u64
 fn add_firm(row: &mut [u64], base: Option<State>, firm: Firm)
     ensures count { length row.new ≡ length row.old }
     ensures ways { (k : ℕ) → k < length row.old
-        → number_in row.new k
-        ≡ min (ways_by (states_of_firm base firm) base (number_in row.old) k) most }
+        → count_at row.new k
+        ≡ min (ways_by (states_of_firm base firm) base (count_at row.old) k) most }
 {
     let mut k = row.len();
     while k > 0 {
@@ -113,13 +113,13 @@ fn add_firm(row: &mut [u64], base: Option<State>, firm: Firm)
 // Returns how many assignments of combinable states with as many changes as the pattern are earlier link by link, capped at 2^64 - 1. The
 // row counts no link at first and all links at the end.
 fn earlier_firm(row: &mut [u64], base: &Pattern, pattern: &Pattern, firm: &[Firm]) -> u64
-    requires start { Tells row.old none_left }
+    requires start { CountsCapped row.old none_left }
     requires changes { length row.old ≡ suc (changes_of base.now pattern.now) }
     requires pattern { length pattern.now ≡ length base.now }
     requires firm { length firm.now ≡ length base.now }
     requires fewer { length base.now < 2 ^ 32 }
     ensures count { length row.new ≡ length row.old }
-    ensures ways { Tells row.new (ways (firm_choices base.now firm.now) base.now) }
+    ensures ways { CountsCapped row.new (ways (firm_choices base.now firm.now) base.now) }
     ensures earlier { result ≡ min (firm_earlier (firm_choices base.now firm.now) base.now
         pattern.now (changes_of base.now pattern.now)) most }
 {

@@ -3,7 +3,7 @@ ghost use Rattle.std.specs.Prelude.{◌≡◌, ◌<◌, ◌≤◌, ◌^◌, ℕ,
 ghost use Rattle.nf_model.specs.Pattern.{changes as changes_of};
 ghost use Rattle.nf_thin_laws.specs.Forcing.{change as change_of};
 ghost use Rattle.nf_thin_laws.specs.Ways.{left_ways, ways_by, ways_below, ways, ways_earlier, states_of, choices_of, ways_before as ways_before_of};
-ghost use Rattle.nf_thin_narrow.specs.Rows.{most, number_in, Tells, first_ways, none_left};
+ghost use Rattle.nf_thin_narrow.specs.Rows.{most, count_at, CountsCapped, first_ways, none_left};
 
 use nf_graph::LinkId;
 use nf_model::State;
@@ -26,7 +26,7 @@ pub(crate) fn ways_with(
     changes: usize,
 ) -> u64
     requires { changes < length row.now }
-    ensures { result ≡ left_ways (change_of base state) (number_in row.now) changes }
+    ensures { result ≡ left_ways (change_of base state) (count_at row.now) changes }
 {
     if change(base, state) == 0 {
         return row[changes];
@@ -38,7 +38,7 @@ pub(crate) fn ways_with(
 fn ways_at(row: &[u64], base: Option<State>, unbounded: bool, sole: bool, changes: usize) -> u64
     requires { changes < length row.now }
     ensures { result
-        ≡ min (ways_by (states_of base unbounded sole) base (number_in row.now) changes) most }
+        ≡ min (ways_by (states_of base unbounded sole) base (count_at row.now) changes) most }
 {
     if base.is_none() {
         return ways_with(row, base, None, changes);
@@ -67,7 +67,7 @@ fn ways_under(
 ) -> u64
     requires { changes < length row.now }
     ensures { (sole : Bool) → result ≡ min
-        (ways_below (states_of base unbounded sole) base state (number_in row.now) changes) most }
+        (ways_below (states_of base unbounded sole) base state (count_at row.now) changes) most }
 {
     let rank = rank(state);
     if base.is_none() {
@@ -94,8 +94,8 @@ fn ways_under(
 fn add_link(row: &mut [u64], base: Option<State>, unbounded: bool, sole: bool)
     ensures count { length row.new ≡ length row.old }
     ensures ways { (k : ℕ) → k < length row.old
-        → number_in row.new k
-        ≡ min (ways_by (states_of base unbounded sole) base (number_in row.old) k) most }
+        → count_at row.new k
+        ≡ min (ways_by (states_of base unbounded sole) base (count_at row.old) k) most }
 {
     let mut k = row.len();
     while k > 0 {
@@ -122,7 +122,7 @@ pub fn count_changes(base: &Pattern, pattern: &Pattern, links: u32) -> usize
 // Returns the sum of the first `count` entries, capped at 2^64 - 1.
 pub(crate) fn sum_of(row: &[u64], count: usize) -> u64
     requires { count ≤ length row.now }
-    ensures { (ways : ℕ → ℕ) → Tells row.now ways → result ≡ min (first_ways ways count) most }
+    ensures { (ways : ℕ → ℕ) → CountsCapped row.now ways → result ≡ min (first_ways ways count) most }
 {
     let mut sum = 0u64;
     for k in 0..count {
@@ -140,14 +140,14 @@ fn count_earlier(
     unbounded: &[bool],
     sole: &[bool],
 ) -> u64
-    requires start { Tells row.old none_left }
+    requires start { CountsCapped row.old none_left }
     requires changes { length row.old ≡ suc (changes_of base.now pattern.now) }
     requires pattern { length pattern.now ≡ length base.now }
     requires unbounded { length unbounded.now ≡ length base.now }
     requires sole { length sole.now ≡ length base.now }
     requires fewer { length base.now < 2 ^ 32 }
     ensures count { length row.new ≡ length row.old }
-    ensures ways { Tells row.new (ways (choices_of base.now unbounded.now sole.now) base.now) }
+    ensures ways { CountsCapped row.new (ways (choices_of base.now unbounded.now sole.now) base.now) }
     ensures earlier { let choices = choices_of base.now unbounded.now sole.now in
         result
         ≡ min (ways_earlier choices base.now pattern.now (changes_of base.now pattern.now)) most }
@@ -172,7 +172,7 @@ fn count_earlier(
 pub(crate) fn first_row(alloc: Global, changes: usize) -> Result<Vec<u64>, AllocError>
     requires { changes < 2 ^ 32 }
     ensures count { IfOk result (λ row. length row.items ≡ suc changes) }
-    ensures ways { IfOk result (λ row. Tells row.items none_left) }
+    ensures ways { IfOk result (λ row. CountsCapped row.items none_left) }
 {
     let mut row = vec![in alloc; 0u64; changes + 1]?;
     row[0] = 1;

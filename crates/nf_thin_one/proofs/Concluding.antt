@@ -18,7 +18,7 @@ use Rattle.nf_model.specs.Pattern.{Pattern, Meets}
 use Rattle.nf_thin_def.specs.Verdict.{verdict_list}
 use Rattle.nf_thin_laws.proofs.Ending.{enumerated}
 use Rattle.nf_thin_laws.proofs.Flags.{number_at-beyond}
-use Rattle.nf_thin_one.specs.Judging.{NoneNegativeBefore, IsFirstFailing, first_of, numbered_verdict, broken_after, first_broken}
+use Rattle.nf_thin_one.specs.Judging.{NoneNegativeBefore, IsFirstFailing, first_failed, numbered_verdict, broken_after, first_broken}
 use Rattle.nf_frac_def.proofs.AtPart.{part_ok}
 use Rattle.nf_thin_one.proofs.Folds.{goes_on, stops_in, ends}
 use Rattle.nf_thin_one.proofs.Failing.{AllMeet, SoFar, found_means, passes_means}
@@ -50,18 +50,18 @@ module _ (passes : Passing) (net : Network) (pattern : Pattern) (flows slopes : 
     at_here = subst (λ (j : ℕ). slice_get whole e ≡ Some (j, here.0)) (omega arith) (enumerated 0 net.links e here.0 here.1)
 
     pub loop_goes_on : (holds : Bool) → ((link : Link) → IsLink net e link → Ok holds ≡ at_part Verdict (numbered_verdict passes pattern flows slopes (e, link)))
-        → fold_checked after None whole ≡ fold_checked after (first_of found holds e) (drop (e + 1) whole)
+        → fold_checked after None whole ≡ fold_checked after (first_failed found holds e) (drop (e + 1) whole)
     loop_goes_on holds judged =
         let next : suc e ≡ e + 1 = omega arith in
-        subst (λ (j : ℕ). fold_checked after None whole ≡ fold_checked after (first_of found holds e) (drop j whole)) next
-        (goes_on after whole None found (first_of found holds e) e (e, here.0) at_here so
-        (ap (λ (r : Checked Bool). r >>= λ h. Ok (first_of found h e)) (part_ok Verdict (numbered_verdict passes pattern flows slopes (e, here.0)) holds (judged here.0 here.1))))
+        subst (λ (j : ℕ). fold_checked after None whole ≡ fold_checked after (first_failed found holds e) (drop j whole)) next
+        (goes_on after whole None found (first_failed found holds e) e (e, here.0) at_here so
+        (ap (λ (r : Checked Bool). r >>= λ h. Ok (first_failed found h e)) (part_ok Verdict (numbered_verdict passes pattern flows slopes (e, here.0)) holds (judged here.0 here.1))))
 
     pub loop_stops : (p : PassedAt ℚ) → ((link : Link) → IsLink net e link → Err p ≡ at_part Verdict (numbered_verdict passes pattern flows slopes (e, link)))
         → Err p ≡ at_part Verdict (first_broken passes net pattern flows slopes)
     unfolding first_broken
     loop_stops p judged = sym (stops_in Verdict after whole None found e (e, here.0) p at_here so
-        (bind_part Verdict (numbered_verdict passes pattern flows slopes (e, here.0)) (λ h. Ok (first_of found h e)) p (judged here.0 here.1)))
+        (bind_part Verdict (numbered_verdict passes pattern flows slopes (e, here.0)) (λ h. Ok (first_failed found h e)) p (judged here.0 here.1)))
 
   pub loop_ends : (found : Option ℕ) (e : ℕ) → length net.links ≤ e → fold_checked after None whole ≡ fold_checked after found (drop e whole)
       → Ok found ≡ at_part Verdict (first_broken passes net pattern flows slopes)

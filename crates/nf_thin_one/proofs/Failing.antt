@@ -16,7 +16,7 @@ use Rattle.nf_model.specs.Entries.{number_at}
 use Rattle.nf_model.specs.Network.{Link, Network, IsLink}
 use Rattle.nf_model.specs.Pattern.{Pattern, Inequality}
 use Rattle.nf_thin_def.specs.Verdict.{bound_of, verdict_list}
-use Rattle.nf_thin_one.specs.Judging.{MeetsAt, keeps, first_of, link_verdict, broken_after, first_broken}
+use Rattle.nf_thin_one.specs.Judging.{MeetsAt, keeps, first_failed, link_verdict, broken_after, first_broken}
 use Rattle.nf_thin_one.proofs.Inequalities.{bound_value, bound_exact, keeps_inequality, inequality_keeps, all_true}
 use Rattle.std.proofs.lemmas.Bool.{and_parts}
 
@@ -37,19 +37,19 @@ module _ (passes : Passing) (net : Network) (pattern : Pattern) (flows slopes : 
   after = broken_after passes pattern flows slopes
 
   -- ---- one step
-  step_ok : (found : Option ℕ) (e : ℕ) (link : Link) (bound : Option ℚ) → bound_at (e, link) ≡ Ok bound → after found (e, link) ≡ Ok (first_of found (test e link) e)
+  step_ok : (found : Option ℕ) (e : ℕ) (link : Link) (bound : Option ℚ) → bound_at (e, link) ≡ Ok bound → after found (e, link) ≡ Ok (first_failed found (test e link) e)
   unfolding link_verdict
   step_ok found e link bound h =
       ap (λ (r : Checked (Option ℚ)). (r >>= λ b. Ok (le_ℚ 0ℚ (number_at flows e) && keeps (state_of e) b (number_at flows e) (number_at slopes link.tail)
-      (number_at slopes link.head))) >>= λ holds. Ok (first_of found holds e)) h
-      ∙ ap (λ (b : Option ℚ). Ok (first_of found (le_ℚ 0ℚ (number_at flows e) && keeps (state_of e) b (number_at flows e) (number_at slopes link.tail)
+      (number_at slopes link.head))) >>= λ holds. Ok (first_failed found holds e)) h
+      ∙ ap (λ (b : Option ℚ). Ok (first_failed found (le_ℚ 0ℚ (number_at flows e) && keeps (state_of e) b (number_at flows e) (number_at slopes link.tail)
       (number_at slopes link.head)) e)) (bound_exact passes (state_of e) link.capacity (number_at slopes link.head) bound h)
 
   step_err : (found : Option ℕ) (e : ℕ) (link : Link) (p : Passed ℚ) → bound_at (e, link) ≡ Err p → after found (e, link) ≡ Err p
   unfolding link_verdict
   step_err found e link p h =
       ap (λ (r : Checked (Option ℚ)). (r >>= λ b. Ok (le_ℚ 0ℚ (number_at flows e) && keeps (state_of e) b (number_at flows e) (number_at slopes link.tail)
-      (number_at slopes link.head))) >>= λ holds. Ok (first_of found holds e)) h
+      (number_at slopes link.head))) >>= λ holds. Ok (first_failed found holds e)) h
 
   -- ---- what the test says
   module _ (e : ℕ) (link : Link) (is_link : IsLink net e link) where
@@ -113,7 +113,7 @@ module _ (passes : Passing) (net : Network) (pattern : Pattern) (flows slopes : 
         go (x ∷ xs) zero b = (x, refl)
         go (x ∷ xs) (suc i) b = go xs i (omega arith)
 
-    next_so_far : (found : Option ℕ) (b : Bool) (e : ℕ) (link : Link) → IsLink net e link → test e link ≡ b → SoFar found e → SoFar (first_of found b e) (e + 1)
+    next_so_far : (found : Option ℕ) (b : Bool) (e : ℕ) (link : Link) → IsLink net e link → test e link ≡ b → SoFar found e → SoFar (first_failed found b e) (e + 1)
     next_so_far (Some x) b e link is_link h so = so
     next_so_far None true e link is_link h so = λ i below. one_more e i so (test_meets e link is_link h) below
     next_so_far None false e link is_link h so = (let there = entry_there e link is_link in meets_not e link is_link there.0 there.1 h, so)
@@ -127,7 +127,7 @@ module _ (passes : Passing) (net : Network) (pattern : Pattern) (flows slopes : 
         same x y e = cc
     go_on (link ∷ links) k so_far found is h so =
         by_bound (bound_at (k, link)) refl
-        (λ h. go_on links (k + 1) (first_of so_far (test k link) k) found (λ i l at. subst (λ (j : ℕ). IsLink net j l) (omega arith) (is (suc i) l at)) h
+        (λ h. go_on links (k + 1) (first_failed so_far (test k link) k) found (λ i l at. subst (λ (j : ℕ). IsLink net j l) (omega arith) (is (suc i) l at)) h
         (next_so_far so_far (test k link) k link here refl so))
       where
         here : IsLink net k link
@@ -146,7 +146,7 @@ module _ (passes : Passing) (net : Network) (pattern : Pattern) (flows slopes : 
         )
 
         by_bound : (r : Checked (Option ℚ)) → bound_at (k, link) ≡ r
-            → (fold_checked after (first_of so_far (test k link) k) (enumerate_from (k + 1) links) ≡ Ok found
+            → (fold_checked after (first_failed so_far (test k link) k) (enumerate_from (k + 1) links) ≡ Ok found
             → IsOk (each bound_at (enumerate_from (k + 1) links)) × SoFar found ((k + 1) + length links))
             → IsOk (each bound_at ((k, link) ∷ enumerate_from (k + 1) links)) × SoFar found (k + suc (length links))
         by_bound (Ok bound) e rest = done bound e
@@ -167,10 +167,10 @@ module _ (passes : Passing) (net : Network) (pattern : Pattern) (flows slopes : 
   passes_too : (links : List Link) (k : ℕ) (so_far : Option ℕ) (p : Passed ℚ) → fold_checked after so_far (enumerate_from k links) ≡ Err p
       → each bound_at (enumerate_from k links) ≡ Err p
   passes_too [] k so_far p h = absurd (cc)
-  passes_too (link ∷ links) k so_far p h = by_bound (bound_at (k, link)) refl (passes_too links (k + 1) (first_of so_far (test k link) k) p)
+  passes_too (link ∷ links) k so_far p h = by_bound (bound_at (k, link)) refl (passes_too links (k + 1) (first_failed so_far (test k link) k) p)
     where
       by_bound : (r : Checked (Option ℚ)) → bound_at (k, link) ≡ r
-          → (fold_checked after (first_of so_far (test k link) k) (enumerate_from (k + 1) links) ≡ Err p → each bound_at (enumerate_from (k + 1) links) ≡ Err p)
+          → (fold_checked after (first_failed so_far (test k link) k) (enumerate_from (k + 1) links) ≡ Err p → each bound_at (enumerate_from (k + 1) links) ≡ Err p)
           → each bound_at ((k, link) ∷ enumerate_from (k + 1) links) ≡ Err p
       by_bound (Ok bound) e rest =
           ap (λ (r : Checked (Option ℚ)). r >>= λ y. each bound_at (enumerate_from (k + 1) links) >>= λ ys. Ok (y ∷ ys)) e

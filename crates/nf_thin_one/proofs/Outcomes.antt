@@ -12,7 +12,7 @@ use Rattle.nf_model.specs.ThinFlow.{Sets}
 use Rattle.nf_model.specs.Pattern.{Pattern, IsSolution, IsSolvable}
 use Rattle.nf_linear_def.specs.Table.{table_list}
 use Rattle.nf_thin_def.specs.Verdict.{verdict_list}
-use Rattle.nf_thin_def.specs.Equations.{active_from, equations, slopes_in, flows_in}
+use Rattle.nf_thin_def.specs.Equations.{active_from, equations, slopes_in, link_flows_in}
 use Rattle.nf_thin_def.specs.Accepted.{pattern_lists}
 use Rattle.nf_linear_laws.proofs.Solutions.{one_solution}
 use Rattle.nf_thin_equation_laws.specs.Equations.{IsPatternIn}
@@ -42,7 +42,7 @@ module _ (passes : Passing) (net : Network) (sets : Sets) (rate : ℚ) (pattern 
       ∙ rows-length net sets rate pattern p.network p.sets_are
 
   pub tried_values : (values : List ℚ) → AreValuesOf passes net sets rate pattern values → (r : Result (Option ThinFlow) (Halt ℚ))
-      → JudgesValues net pattern (flows_in net.nodes sets.active values) (slopes_in net.nodes values)
+      → JudgesValues net pattern (link_flows_in net.nodes sets.active values) (slopes_in net.nodes values)
       (at_part Part.Verdict (verdict_list passes net pattern (slopes_in net.nodes values))) r
       → TriesOne passes net sets rate pattern r
   tried_values values h (Ok (Some thin)) j =
@@ -61,21 +61,21 @@ module _ (passes : Passing) (net : Network) (sets : Sets) (rate : ℚ) (pattern 
   into_err at s = table_passes passes net sets rate pattern p at (sym s)
 
   into_own : (values : List ℚ) → AreValuesOf passes net sets rate pattern values → (r : Result Tried (PassedAt ℚ))
-      → JudgesFlows net pattern (flows_in net.nodes sets.active values) (slopes_in net.nodes values)
+      → JudgesFlows net pattern (link_flows_in net.nodes sets.active values) (slopes_in net.nodes values)
       (at_part Part.Verdict (verdict_list passes net pattern (slopes_in net.nodes values))) r
-      → TriesInto passes net sets rate pattern (flows_in net.nodes sets.active values) (slopes_in net.nodes values) r
+      → TriesInto passes net sets rate pattern (link_flows_in net.nodes sets.active values) (slopes_in net.nodes values) r
   into_own values h (Ok Tried.Accepted) j = accepted passes net sets rate pattern p values h j.0 j.1
   into_own values h (Ok Tried.NotSolvable) j = refused passes net sets rate pattern p values h j.0 j.1
   into_own values h (Err at) j = verdict_passes passes net sets rate pattern p values h at j
 
-  pub into_values : (values flows slopes : List ℚ) → AreValuesOf passes net sets rate pattern values → flows ≡ flows_in net.nodes sets.active values → slopes ≡ slopes_in net.nodes values
+  pub into_values : (values flows slopes : List ℚ) → AreValuesOf passes net sets rate pattern values → flows ≡ link_flows_in net.nodes sets.active values → slopes ≡ slopes_in net.nodes values
       → (r : Result Tried (PassedAt ℚ)) → JudgesFlows net pattern flows slopes (at_part Part.Verdict (verdict_list passes net pattern slopes)) r
       → TriesInto passes net sets rate pattern flows slopes r
   into_values values flows slopes h f s r j =
-      let i = subst (λ (l : List ℚ). JudgesFlows net pattern (flows_in net.nodes sets.active values) l (at_part Part.Verdict (verdict_list passes net pattern l)) r) s
+      let i = subst (λ (l : List ℚ). JudgesFlows net pattern (link_flows_in net.nodes sets.active values) l (at_part Part.Verdict (verdict_list passes net pattern l)) r) s
       (subst (λ (k : List ℚ). JudgesFlows net pattern k slopes (at_part Part.Verdict (verdict_list passes net pattern slopes)) r) f j) in
       subst (λ (k : List ℚ). TriesInto passes net sets rate pattern k slopes r) (sym f)
-      (subst (λ (l : List ℚ). TriesInto passes net sets rate pattern (flows_in net.nodes sets.active values) l r) (sym s) (into_own values h r i))
+      (subst (λ (l : List ℚ). TriesInto passes net sets rate pattern (link_flows_in net.nodes sets.active values) l r) (sym s) (into_own values h r i))
 
 -- what is judged, of lists that are the same
 pub judged_so : (net : Network) (pattern : Pattern) (fs gs ss ts : List ℚ) (j k : Judged) → fs ≡ gs → ss ≡ ts → j ≡ k

@@ -14,7 +14,7 @@ use Rattle.nf_model.specs.ThinFlow.{Sets}
 use Rattle.nf_model.specs.Pattern.{Pattern, Meets, IsSolution, IsSolvable}
 use Rattle.nf_linear_def.specs.Table.{table_list}
 use Rattle.nf_thin_def.specs.Verdict.{verdict_list}
-use Rattle.nf_thin_def.specs.Equations.{equations, slopes_in, flows_in}
+use Rattle.nf_thin_def.specs.Equations.{equations, slopes_in, link_flows_in}
 use Rattle.nf_thin_def.specs.Accepted.{Solved, after_table, pattern_lists, IsAccepted}
 use Rattle.nf_thin_equation_laws.specs.Equations.{IsPatternIn, SolvesAlone}
 use Rattle.nf_thin_equation_laws.proofs.Table.{solves_alone, solves_not_alone}
@@ -63,7 +63,7 @@ module _ (passes : Passing) (net : Network) (sets : Sets) (rate : ℚ) (pattern 
 
   module _ (values : List ℚ) (h : at_part Table table ≡ Ok (Some values)) where
     abbrev flows : List ℚ
-    flows = flows_in net.nodes sets.active values
+    flows = link_flows_in net.nodes sets.active values
 
     abbrev slopes : List ℚ
     slopes = slopes_in net.nodes values

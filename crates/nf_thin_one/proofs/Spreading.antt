@@ -3,12 +3,12 @@ use Rattle.std.proofs.Common.{◌≡◌, ℕ, suc, ◌+◌, ◌<◌, List, [], �
 use Rattle.std.specs.Prelude.{Some, slice_get}
 use Rattle.nf_rational.specs.Rational.{ℚ}
 use Rattle.nf_rational.specs.Operations.{0ℚ}
-use Rattle.nf_thin_def.specs.Equations.{active_from, onto_links, flows_in}
+use Rattle.nf_thin_def.specs.Equations.{active_from, onto_links, link_flows_in}
 use Rattle.nf_rational_laws.proofs.Entries.{drop_entry}
 
 -- the flows of the links before link e, with the values from this place on left for the others
 pub record AreFlows (active : List Bool) (values : List ℚ) (nodes : ℕ) (flows : List ℚ) (e next : ℕ) : Type 0 where
-  pub said : flows ++ onto_links (drop e active) (drop next values) ≡ flows_in nodes active values
+  pub said : flows ++ onto_links (drop e active) (drop next values) ≡ link_flows_in nodes active values
   pub left : next + length (active_from 0 (drop e active)) ≡ length values
 
 same_count : (active : List Bool) (j k : ℕ) → length (active_from j active) ≡ length (active_from k active)

@@ -58,10 +58,10 @@ keeps (Some Zero) bound flow tail_slope head_slope = le_ℚ head_slope tail_slop
 keeps None bound flow tail_slope head_slope = true
 
 -- the first that fails, after one more
-abbrev pub first_of : Option ℕ → Bool → ℕ → Option ℕ
-first_of (Some first) keeps e = Some first
-first_of None true e = None
-first_of None false e = Some e
+abbrev pub first_failed : Option ℕ → Bool → ℕ → Option ℕ
+first_failed (Some first) keeps e = Some first
+first_failed None true e = None
+first_failed None false e = Some e
 
 module _ (passes : Passing) where
   unfoldable pub link_verdict : Option State → Option ℚ → ℚ → ℚ → ℚ → Checked Bool
@@ -78,7 +78,7 @@ module _ (passes : Passing) where
   abbrev pub broken_after : Pattern → List ℚ → List ℚ → Option ℕ → ℕ × Link → Checked (Option ℕ)
   broken_after pattern flows slopes found numbered = do
     holds ← numbered_verdict pattern flows slopes numbered
-    Ok (first_of found holds numbered.0)
+    Ok (first_failed found holds numbered.0)
 
   -- the first link that fails
   unfoldable pub first_broken : Network → Pattern → List ℚ → List ℚ → Checked (Option ℕ)

@@ -9,7 +9,7 @@ ghost use Rattle.nf_model.specs.Pattern.{IsPattern};
 ghost use Rattle.nf_thin_laws.specs.ActiveLinks.{AreSets};
 ghost use Rattle.nf_linear_def.specs.Table.{table_list};
 ghost use Rattle.nf_thin_def.specs.Verdict.{verdict_list};
-ghost use Rattle.nf_thin_def.specs.Equations.{active_from, unknowns, equations, flows_in, slopes_in};
+ghost use Rattle.nf_thin_def.specs.Equations.{active_from, unknowns, equations, link_flows_in, slopes_in};
 ghost use Rattle.nf_linear.specs.Solved.{values_of};
 ghost use Rattle.nf_linear.specs.Holding.{takes_small};
 ghost use Rattle.nf_thin_equation_laws.specs.Equations.{IsPatternIn};
@@ -45,7 +45,7 @@ fn spread_flows(net: &Network, sets: &LinkSets, values: &[Q], flows: &mut [Q])
     requires values { length values.now
         ≡ net.now.net.nodes + length (active_from 0 sets.now.active) }
     requires flows { length flows.old ≡ length net.now.net.links }
-    ensures { flows.new ≡ flows_in net.now.net.nodes sets.now.active values.now }
+    ensures { flows.new ≡ link_flows_in net.now.net.nodes sets.now.active values.now }
 {
     let mut next = net.node_count() as usize;
     for e in 0..net.link_count() {
@@ -69,7 +69,7 @@ fn flows_of(
     requires values { length values.now
         ≡ net.now.net.nodes + length (active_from 0 sets.now.active) }
     ensures { IfOk result
-        (λ flows. flows.items ≡ flows_in net.now.net.nodes sets.now.active values.now) }
+        (λ flows. flows.items ≡ link_flows_in net.now.net.nodes sets.now.active values.now) }
 {
     let mut flows = vec![in alloc; Q::zero(); net.link_count() as usize]?;
     spread_flows(net, sets, values, &mut flows);
@@ -111,7 +111,7 @@ fn judge_into(
         ≡ net.now.net.nodes + length (active_from 0 sets.now.active) }
     requires flows { length flows.old ≡ length net.now.net.links }
     requires slopes { length slopes.old ≡ net.now.net.nodes }
-    ensures flows { flows.new ≡ flows_in net.now.net.nodes sets.now.active values.now }
+    ensures flows { flows.new ≡ link_flows_in net.now.net.nodes sets.now.active values.now }
     ensures slopes { slopes.new ≡ slopes_in net.now.net.nodes values.now }
     ensures judged { JudgesFlows net.now.net pattern.now flows.new slopes.new
         (at_part Part.Verdict (verdict_list passes_Q net.now.net pattern.now slopes.new)) result }
@@ -134,7 +134,7 @@ pub fn judge_values(
     requires values { length values.items
         ≡ net.now.net.nodes + length (active_from 0 sets.now.active) }
     ensures { JudgesValues net.now.net pattern.now
-        (flows_in net.now.net.nodes sets.now.active values.items)
+        (link_flows_in net.now.net.nodes sets.now.active values.items)
         (slopes_in net.now.net.nodes values.items)
         (at_part Part.Verdict (verdict_list passes_Q net.now.net pattern.now
         (slopes_in net.now.net.nodes values.items))) result }

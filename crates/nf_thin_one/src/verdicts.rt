@@ -8,7 +8,7 @@ ghost use Rattle.nf_frac_def.specs.Checked.{at_part};
 ghost use Rattle.nf_model.specs.Entries.{number_at};
 ghost use Rattle.nf_model.specs.Network.{Link as SeenLink, IsLink};
 ghost use Rattle.nf_thin_def.specs.Verdict.{bound_on, verdict_list};
-ghost use Rattle.nf_thin_one.specs.Judging.{keeps, link_verdict, numbered_verdict, first_of, first_broken, NoneNegativeBefore, IsFirstNegative, IsJudged, Judges};
+ghost use Rattle.nf_thin_one.specs.Judging.{keeps, link_verdict, numbered_verdict, first_failed, first_broken, NoneNegativeBefore, IsFirstNegative, IsJudged, Judges};
 
 use nf_frac::{Part, PassedAt, Q, at};
 use nf_graph::{LinkId, LinkSets, NodeId};
@@ -123,7 +123,7 @@ fn judge(
 
 // Returns the first link that fails, after one more link: `found` before it, and `keeps` states whether it meets its inequalities.
 fn first_after(found: Option<LinkId>, keeps: bool, link: LinkId) -> Option<LinkId>
-    ensures { result ≡ first_of found keeps link }
+    ensures { result ≡ first_failed found keeps link }
 {
     match found {
         Some(first) => Some(first),

@@ -7,10 +7,10 @@ use Rattle.nf_thin_rank.specs.declared.standing.Standing.{Standing}
 use Rattle.nf_thin_rank.specs.declared.pace.Pace.{Pace}
 
 -- The budget status of a pattern is right: within, beyond or unknown.
-abbrev pub Tells : Question → Pattern → ℕ → Standing → Type 0
-Tells question pattern budget Standing.Within = StandsWithin question pattern budget true
-Tells question pattern budget Standing.Beyond = StandsWithin question pattern budget false
-Tells question pattern budget Standing.Unknown = Unit {0}
+abbrev pub TellsStanding : Question → Pattern → ℕ → Standing → Type 0
+TellsStanding question pattern budget Standing.Within = StandsWithin question pattern budget true
+TellsStanding question pattern budget Standing.Beyond = StandsWithin question pattern budget false
+TellsStanding question pattern budget Standing.Unknown = Unit {0}
 
 -- The full listing, if it is advanced.
 abbrev pub walk_of : Pace → Option Given

@@ -1,5 +1,5 @@
 // The budget status of the patterns that the narrow search tries, one after the other.
-ghost use Rattle.nf_thin_rank.specs.Keeping.{Tells, IsInStep, StaysBehind, walk_of};
+ghost use Rattle.nf_thin_rank.specs.Keeping.{TellsStanding, IsInStep, StaysBehind, walk_of};
 ghost use Rattle.nf_thin_rank.specs.Posing.{IsPosed, question_in, IsListedFor};
 
 use crate::listings::listing;
@@ -40,7 +40,7 @@ impl Pace {
         requires ranking { IsPosed ranking.now }
         requires listed { IsListedFor ranking.now pattern.now }
         requires behind { StaysBehind (question_in ranking.now) self.old pattern.now }
-        ensures told { Tells (question_in ranking.now) pattern.now ranking.now.budget result }
+        ensures told { TellsStanding (question_in ranking.now) pattern.now ranking.now.budget result }
         ensures in_step { (result ≡ Beyond → ⊥)
             → IsInStep (question_in ranking.now) self.new pattern.now }
     {
@@ -65,7 +65,7 @@ impl Pace {
         requires ranking { IsPosed ranking.now }
         requires listed { IsListedFor ranking.now pattern.now }
         ensures told { IfOk result
-            (λ standing. Tells (question_in ranking.now) pattern.now ranking.now.budget standing) }
+            (λ standing. TellsStanding (question_in ranking.now) pattern.now ranking.now.budget standing) }
         ensures in_step { IfOk result (λ standing. (standing ≡ Beyond → ⊥)
             → IsInStep (question_in ranking.now) self.new pattern.now) }
     {
@@ -87,7 +87,7 @@ impl Pace {
         requires listed { IsListedFor ranking.now pattern.now }
         requires behind { StaysBehind (question_in ranking.now) self.old pattern.now }
         ensures told { IfOk result
-            (λ standing. Tells (question_in ranking.now) pattern.now ranking.now.budget standing) }
+            (λ standing. TellsStanding (question_in ranking.now) pattern.now ranking.now.budget standing) }
         ensures in_step { IfOk result (λ standing. (standing ≡ Beyond → ⊥)
             → IsInStep (question_in ranking.now) self.new pattern.now) }
     {

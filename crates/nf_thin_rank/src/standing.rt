@@ -1,7 +1,7 @@
 // The budget status of a listed pattern: whether its rank in the listing is within the budget.
 ghost use Rattle.std.specs.Prelude.{◌≡◌, true, false, length, IfOk, IfSome};
 ghost use Rattle.nf_thin_narrow.specs.Asking.{StandsWithin};
-ghost use Rattle.nf_thin_rank.specs.Keeping.{Tells};
+ghost use Rattle.nf_thin_rank.specs.Keeping.{TellsStanding};
 ghost use Rattle.nf_thin_rank.specs.Posing.{IsPosed, question_in, IsListedFor};
 
 use crate::families::listed_before;
@@ -128,7 +128,7 @@ impl Standing {
     ) -> Result<bool, AllocError>
         requires ranking { IsPosed ranking.now }
         requires pattern { length pattern.now ≡ length ranking.now.net.now.net.links }
-        requires told { Tells (question_in ranking.now) pattern.now ranking.now.budget self }
+        requires told { TellsStanding (question_in ranking.now) pattern.now ranking.now.budget self }
         ensures { IfOk result (λ within.
             StandsWithin (question_in ranking.now) pattern.now ranking.now.budget within) }
     {

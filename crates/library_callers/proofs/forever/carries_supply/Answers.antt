@@ -1,6 +1,6 @@
 use Rattle.std.proofs.Common.{◌≡◌, ℕ, ◌<◌, length, ap, subst}
 use Rattle.std.specs.Prelude.{Option, IfSome, option_map}
-use Rattle.nf_curve.specs.Flows.{flow_of}
+use Rattle.nf_curve.specs.Flows.{seen_flow}
 use Rattle.nf_forever_laws.specs.TailGrowth.{TailGrows}
 use Rattle.nf_forever.specs.declared.forever.Tail.{Tail}
 use Rattle.nf_forever.specs.Seen.{tail_in, forever_in}
@@ -17,7 +17,7 @@ is_level-requires c =
 pub returns-in-Some-clause-carries : goal.returns-in-Some-clause-carries
 returns-in-Some-clause-carries c =
     let net = c.args.net.now.net in
-    let flow = flow_of c.in_ok-forever.forever.flow in
+    let flow = seen_flow c.in_ok-forever.forever.flow in
     let grows = subst (λ (t : Option Tail). IfSome t (λ tail. TailGrows net flow (tail_in tail))) c.in-Some.is c.in_ok-forever.ensures.grows in
     by_slope net flow (tail_in c.in-Some.tail) c.is_level.result c.recall.ensures.network.sink grows c.is_level.ensures
 

@@ -2,7 +2,7 @@ use Rattle.std.proofs.Common.{◌≡◌, ℕ, List, length, sym, ap, subst, ◌�
 use Rattle.std.specs.Prelude.{map, Err}
 use Rattle.std.proofs.lemmas.List.{length-map}
 use Rattle.std.proofs.lemmas.Result.{err_from_is_err_and}
-use Rattle.nf_curve.specs.Flows.{trace_of}
+use Rattle.nf_curve.specs.Flows.{seen_trace}
 use Rattle.nf_report_def.specs.ReportFile.{report_in}
 use Rattle.nf_report_read.specs.Files.{IfBroken, seen_report}
 use Rattle.nf_app.proofs.CheckResult.{report_refused, checking_stopped, verdict_given}
@@ -17,12 +17,12 @@ check-requires-clause-labels c =
 
 pub check-requires-clause-inflows : goal.check-requires-clause-inflows
 check-requires-clause-inflows c =
-    sym (length-map c.in_ok-report.report.flow.inflows.items trace_of) ∙ sym (length-map (map trace_of c.in_ok-report.report.flow.inflows.items) (λ trace. trace.points))
+    sym (length-map c.in_ok-report.report.flow.inflows.items seen_trace) ∙ sym (length-map (map seen_trace c.in_ok-report.report.flow.inflows.items) (λ trace. trace.points))
     ∙ c.in_ok-report.ensures.formed.shape.inflows.count
 
 pub check-requires-clause-outflows : goal.check-requires-clause-outflows
 check-requires-clause-outflows c =
-    sym (length-map c.in_ok-report.report.flow.outflows.items trace_of) ∙ sym (length-map (map trace_of c.in_ok-report.report.flow.outflows.items) (λ trace. trace.points))
+    sym (length-map c.in_ok-report.report.flow.outflows.items seen_trace) ∙ sym (length-map (map seen_trace c.in_ok-report.report.flow.outflows.items) (λ trace. trace.points))
     ∙ c.in_ok-report.ensures.formed.shape.outflows.count
 
 pub check-requires-clause-queues : goal.check-requires-clause-queues

@@ -4,7 +4,7 @@ use Rattle.std.proofs.lemmas.Result.{err_from_is_err_and}
 use Rattle.nf_phase_run_laws.proofs.Reading.{resumed_reads_back}
 use Rattle.nf_report_def.specs.ReportFile as reports
 use Rattle.nf_report_read.specs.Files.{IfBroken, seen_report}
-use Rattle.nf_phase.specs.Solution.{bounds_of, report_in}
+use Rattle.nf_phase.specs.Solution.{bounds_of, solution_report}
 use Rattle.nf_app.proofs.Reports.{a_report}
 use Rattle.nf_app.proofs.ResumeResult.{old_refused, gone_on_given}
 use Rattle.nf_app.proofs.answering.resume_to.Goals as goal
@@ -28,7 +28,7 @@ returns-in-Ok c file name =
     let bounds = bounds_of c.args.horizon c.args.budgets in
     let old = seen_report c.in_ok-report.report in
     let reads = ap (reports.report_in c.args.net.now) (sym c.deref.ensures.value) ∙ c.in_ok-report.ensures.reads in
-    let new = report_in c.args.horizon s in (
+    let new = solution_report c.args.horizon s in (
       gone_on_given c.args.net.now file name c.args.text.items c.args.horizon c.args.budgets.phases c.args.budgets.patterns old
           (a_report c.args.net.now c.recall.ensures c.args.text.items old reads) new s.phases
           e.not_earlier e.resumed e.formed e.equilibrium e.goes_on e.short e.ends

@@ -1,5 +1,5 @@
 use Rattle.std.proofs.Common.{refl, arith}
-use Rattle.nf_phase.specs.Solution.{bounds_of, report_in}
+use Rattle.nf_phase.specs.Solution.{bounds_of, solution_report}
 use Rattle.nf_phase_run_laws.proofs.ReadingBack.{reads_back}
 use Rattle.nf_app.proofs.answering.solve_to.Goals as goal
 
@@ -7,7 +7,7 @@ pub returns : goal.returns
 returns c file text =
     let s = c.in_ok-solution.solution in
     let e = c.in_ok-solution.ensures.solution in
-    let report = report_in c.args.horizon s in (
+    let report = solution_report c.args.horizon s in (
       record {
         report = report;
         is = refl;

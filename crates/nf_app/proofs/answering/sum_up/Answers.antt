@@ -1,5 +1,5 @@
 use Rattle.std.proofs.Common.{ℕ, ◌<◌, refl, sym, subst}
-use Rattle.nf_phase.specs.Solution.{bounds_of, report_in}
+use Rattle.nf_phase.specs.Solution.{bounds_of, solution_report}
 use Rattle.nf_app.proofs.QuickTold.{sink_in, at_sink, last_is_label}
 use Rattle.nf_app.proofs.answering.sum_up.Goals as goal
 
@@ -10,7 +10,7 @@ last_label-arrival-requires c =
 pub returns : goal.returns
 returns c text =
     let s = c.in_ok-solution.solution in
-    let report = report_in c.args.horizon s in
+    let report = solution_report c.args.horizon s in
     let net = c.args.net.now.net in
     let is = last_is_label net c.recall.ensures.network (bounds_of c.args.horizon c.args.budgets) report s.phases c.in_ok-solution.ensures.solution
     (subst (λ (v : ℕ). v < net.nodes) c.sink.ensures.value c.sink.ensures.node) c.last_label-arrival.result

@@ -2,7 +2,7 @@ use Rattle.std.proofs.Common.{◌≡◌, ℕ, ◌-◌, ◌<◌, List, length, su
 use Rattle.std.specs.Prelude.{Some, slice_get}
 use Rattle.nf_model.specs.Curve.{Point}
 use Rattle.nf_model.specs.Equilibrium.{points_at}
-use Rattle.nf_curve.specs.Flows.{flow_of}
+use Rattle.nf_curve.specs.Flows.{seen_flow}
 use Rattle.nf_report_pages.proofs.Parts.{points_there}
 use Rattle.nf_app.proofs.arrival.last_label.Goals as goal
 
@@ -11,5 +11,5 @@ returns c =
     let below = subst (λ (i : ℕ). i < length c.args.flow.now.labels.items) (sym c.index-place.ensures) c.requires in
     let here = subst (λ (l : List Point). slice_get l (length l - 1) ≡ Some c.last_point.result)
     (points_there c.args.flow.now.labels.items c.index-place.result c.index-label.result.now c.index-label.ensures below) c.last_point.ensures in
-    subst (λ (i : ℕ). slice_get (points_at (flow_of c.args.flow.now).labels i)
-    (length (points_at (flow_of c.args.flow.now).labels i) - 1) ≡ Some c.last_point.result) c.index-place.ensures here
+    subst (λ (i : ℕ). slice_get (points_at (seen_flow c.args.flow.now).labels i)
+    (length (points_at (seen_flow c.args.flow.now).labels i) - 1) ≡ Some c.last_point.result) c.index-place.ensures here

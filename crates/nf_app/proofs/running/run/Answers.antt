@@ -1,6 +1,6 @@
 use Rattle.std.proofs.Common.{refl}
 use Rattle.nf_app_answers.specs.Outcomes.{answer_in}
-use Rattle.nf_app_answers.specs.Refusals.{answer_of}
+use Rattle.nf_app_answers.specs.Refusals.{refused_answer}
 use Rattle.nf_app_files.specs.Sinks.{took_of}
 use Rattle.nf_app.proofs.Calls.{took_no_text, refused_shown}
 use Rattle.nf_app.proofs.Derived.{derived}
@@ -11,9 +11,9 @@ returns-in-Ok-clause-promises g c = derived _ (record { answer = answer_in c.in-
 
 pub returns-in-Err-clause-promises : goal.returns-in-Err-clause-promises
 returns-in-Err-clause-promises g c = derived _ (record {
-  answer = answer_of c.in-Err.refusal;
+  answer = refused_answer c.in-Err.refusal;
   comes = c.in-Err.ensures.answered;
-  shown = refused_shown (answer_of c.in-Err.refusal) (took_of g.O.Sink c.args.out.now c.args.out.now) (took_of g.E.Sink c.args.err.now c.refuse.new.err) c.refuse.result
+  shown = refused_shown (refused_answer c.in-Err.refusal) (took_of g.O.Sink c.args.out.now c.args.out.now) (took_of g.E.Sink c.args.err.now c.refuse.new.err) c.refuse.result
       (took_no_text (g.O.Sink.took c.args.out.now) c.in-Err.refusal) refl c.refuse.ensures.status c.refuse.ensures.told;
 })
 

@@ -2,7 +2,7 @@ use Rattle.std.proofs.Common.{◌≡◌, ℕ, List, [], ◌++◌, sym, ap, subst
 use Rattle.std.specs.Prelude.{map}
 use Rattle.std.specs.Option.{option_copied}
 use Rattle.nf_net_def.specs.Report.{Report, report_text}
-use Rattle.nf_curve.specs.Flows.{flow_of}
+use Rattle.nf_curve.specs.Flows.{seen_flow}
 use Rattle.nf_app_answers.specs.Solution.{report_in}
 use Rattle.nf_report_def.specs.Texts.{load_text}
 use Rattle.nf_load.specs.declared.loading.Loaded as code
@@ -25,7 +25,7 @@ write_forever-requires g c = subst (λ (f : Computed). HasTextWith c.args.net.no
 pub returns-in-Solved : goal.returns-in-Solved
 returns-in-Solved g c =
     let s = c.in-Solved.solution in
-    let written : Report = record { horizon = c.in-Solved.horizon; flow = flow_of s.flow; stop = option_copied c.as_ref.result; last = s.last } in
+    let written : Report = record { horizon = c.in-Solved.horizon; flow = seen_flow s.flow; stop = option_copied c.as_ref.result; last = s.last } in
     let same : written ≡ report_in c.in-Solved.horizon s = cc (c.as_ref.ensures.value) in
     same_text (report_text c.args.net.now written) (text_with c.args.net.now c.args.found.now)
     (ap (λ (r : Report). report_text c.args.net.now r) same ∙ sym (ap (text_with c.args.net.now) c.in-Solved.is))

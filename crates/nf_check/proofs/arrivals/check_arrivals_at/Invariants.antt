@@ -1,5 +1,5 @@
 use Rattle.nf_check_def.specs.CheckList.{arrivals}
-use Rattle.nf_check_rules.specs.Exits.{AreKept}
+use Rattle.nf_check_rules.specs.Exits.{AreStored}
 use Rattle.nf_check_rules.specs.Views.{in_view}
 use Rattle.nf_check_rules.proofs.Looping.{LeftBut}
 use Rattle.nf_check.proofs.arrivals.check_arrivals_at.Given as goal
@@ -7,5 +7,5 @@ use Rattle.nf_check.proofs.arrivals.check_arrivals_at.Given as goal
 abbrev pub invariant-loop-number : goal.invariant-loop-number
 invariant-loop-number l = record {
   left : LeftBut (in_view arrivals l.worked) l.worked.net.now.net.source l.worked.net.now.net.nodes l.number;
-  kept : AreKept l.worked l.exits;
+  kept : AreStored l.worked l.exits;
 }

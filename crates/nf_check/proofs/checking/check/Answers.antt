@@ -1,5 +1,5 @@
 use Rattle.nf_frac_def.specs.Passing.{passes_Q}
-use Rattle.nf_curve.specs.Flows.{flow_of}
+use Rattle.nf_curve.specs.Flows.{seen_flow}
 use Rattle.nf_check.proofs.Answering.{by_list, rules_answer, is_exact, given_by}
 use Rattle.nf_check.proofs.checking.check.Goals as goal
 
@@ -11,20 +11,20 @@ test_all-requires c =
     c.know_traces-2.ensures c.know_curves-2.ensures)
 
 pub returns-clause-list : goal.returns-clause-list
-returns-clause-list c = by_list passes_Q c.args.net.now.net (flow_of c.args.flow.now) c.answer_of.result (c.answer_of.ensures _ c.test_all.ensures)
+returns-clause-list c = by_list passes_Q c.args.net.now.net (seen_flow c.args.flow.now) c.answer_of.result (c.answer_of.ensures _ c.test_all.ensures)
 
 pub returns-clause-rules : goal.returns-clause-rules
 returns-clause-rules c =
-    rules_answer passes_Q c.args.net.now.net (flow_of c.args.flow.now) (given_by c.args.net.now.net c.args.flow.now c.recall.ensures.network
+    rules_answer passes_Q c.args.net.now.net (seen_flow c.args.flow.now) (given_by c.args.net.now.net c.args.flow.now c.recall.ensures.network
     c.requires.labels c.requires.inflows c.requires.outflows c.requires.queues c.requires.inflow_rates c.requires.outflow_rates c.requires.reached
     c.deref.result.now c.deref-4.result.now c.deref-2.result.now c.deref-3.result.now c.deref.ensures.value c.deref-2.ensures.value c.deref-3.ensures.value
     c.deref-4.ensures.value c.know_curves.ensures c.know_traces.ensures c.know_traces-2.ensures c.know_curves-2.ensures).checked c.answer_of.result
-    (by_list passes_Q c.args.net.now.net (flow_of c.args.flow.now) c.answer_of.result (c.answer_of.ensures _ c.test_all.ensures))
+    (by_list passes_Q c.args.net.now.net (seen_flow c.args.flow.now) c.answer_of.result (c.answer_of.ensures _ c.test_all.ensures))
 
 pub returns-clause-exact : goal.returns-clause-exact
 returns-clause-exact c =
-    is_exact passes_Q c.args.net.now.net (flow_of c.args.flow.now) (given_by c.args.net.now.net c.args.flow.now c.recall.ensures.network c.requires.labels
+    is_exact passes_Q c.args.net.now.net (seen_flow c.args.flow.now) (given_by c.args.net.now.net c.args.flow.now c.recall.ensures.network c.requires.labels
     c.requires.inflows c.requires.outflows c.requires.queues c.requires.inflow_rates c.requires.outflow_rates c.requires.reached c.deref.result.now
     c.deref-4.result.now c.deref-2.result.now c.deref-3.result.now c.deref.ensures.value c.deref-2.ensures.value c.deref-3.ensures.value
     c.deref-4.ensures.value c.know_curves.ensures c.know_traces.ensures c.know_traces-2.ensures c.know_curves-2.ensures).checked c.answer_of.result
-    (by_list passes_Q c.args.net.now.net (flow_of c.args.flow.now) c.answer_of.result (c.answer_of.ensures _ c.test_all.ensures))
+    (by_list passes_Q c.args.net.now.net (seen_flow c.args.flow.now) c.answer_of.result (c.answer_of.ensures _ c.test_all.ensures))

@@ -3,11 +3,11 @@ use Rattle.std.proofs.Common.{◌≡◌, List, ap, subst, sym, ◌∙◌}
 use Rattle.std.specs.Prelude.{Ok}
 use Rattle.nf_frac_def.specs.Passing.{passes_Q}
 use Rattle.nf_frac_def.specs.Checked.{each}
-use Rattle.nf_curve.specs.Flows.{flow_of}
+use Rattle.nf_curve.specs.Flows.{seen_flow}
 use Rattle.nf_curve.specs.Points.{Grown}
-use Rattle.nf_check_def.specs.Rules.{all_nodes}
+use Rattle.nf_check_def.specs.Rules.{numbers_of_nodes}
 use Rattle.nf_check_def.specs.CheckList.{label_cut, trial}
-use Rattle.nf_check_rules.specs.Kept.{curves_of}
+use Rattle.nf_check_rules.specs.Kept.{points_of_each}
 use Rattle.nf_check_rules.specs.Steps.{worked_list, tested_list}
 use Rattle.nf_check_rules.specs.Trials.{done}
 use Rattle.nf_check_rules.proofs.Trying.{ends, ends_as}
@@ -24,15 +24,15 @@ check_labels-requires-clause-whole c = subst (λ (l : List Grown). AreWhole l c.
 pub returns-in_err-check_labels : goal.returns-in_err-check_labels
 returns-in_err-check_labels c =
     let p = err_from_is_err_and c.from_residual.result c.from_residual.ensures.1 in
-    rw (p.1, p.2) (labels_end passes_Q c.args.net.now.net (flow_of c.args.flow.now) c.in_err-check_labels.field-0.0 c.in_err-check_labels.ensures)
+    rw (p.1, p.2) (labels_end passes_Q c.args.net.now.net (seen_flow c.args.flow.now) c.in_err-check_labels.field-0.0 c.in_err-check_labels.ensures)
 
 pub test_with-requires-clause-labels : goal.test_with-requires-clause-labels
-test_with-requires-clause-labels c = c.in_ok-check_labels.ensures ∙ ap (λ (l : List Grown). Ok (curves_of l)) (sym c.deref-then-are_whole.ensures.value)
+test_with-requires-clause-labels c = c.in_ok-check_labels.ensures ∙ ap (λ (l : List Grown). Ok (points_of_each l)) (sym c.deref-then-are_whole.ensures.value)
 
 pub returns-in_err-labels : goal.returns-in_err-labels
 returns-in_err-labels c =
     let p = err_from_is_err_and c.from_residual-in_err-labels.result c.from_residual-in_err-labels.ensures.1 in
-    rw (p.1, p.2) (labels_end passes_Q c.args.net.now.net (flow_of c.args.flow.now) c.in_err-labels.field-0.0 c.in_err-labels.ensures)
+    rw (p.1, p.2) (labels_end passes_Q c.args.net.now.net (seen_flow c.args.flow.now) c.in_err-labels.field-0.0 c.in_err-labels.ensures)
 
 pub test_with-requires-2-clause-labels : goal.test_with-requires-2-clause-labels
-test_with-requires-2-clause-labels c = c.in_ok-labels.ensures ∙ ap (λ (l : List Grown). Ok (curves_of l)) (sym c.deref-2.ensures.value)
+test_with-requires-2-clause-labels c = c.in_ok-labels.ensures ∙ ap (λ (l : List Grown). Ok (points_of_each l)) (sym c.deref-2.ensures.value)

@@ -1,10 +1,10 @@
 use Rattle.std.proofs.lemmas.Result.{err_from_is_err_and}
 use Rattle.std.proofs.Common.{List, length, sym, ap, ◌∙◌}
 use Rattle.nf_frac_def.specs.Passing.{passes_Q}
-use Rattle.nf_curve.specs.Flows.{flow_of}
+use Rattle.nf_curve.specs.Flows.{seen_flow}
 use Rattle.nf_load.specs.declared.loading.Loaded.{Loaded}
 use Rattle.nf_check_def.specs.CheckList.{trial}
-use Rattle.nf_check_rules.specs.Kept.{curves_of, loadings_of}
+use Rattle.nf_check_rules.specs.Kept.{points_of_each, loadings_of}
 use Rattle.nf_check_rules.specs.Steps.{worked_list, compared_list, tested_list}
 use Rattle.nf_check_rules.specs.Trials.{done}
 use Rattle.nf_check_rules.proofs.Known.{worked_known}
@@ -16,9 +16,9 @@ pub returns-in_err-loaded : goal.returns-in_err-loaded
 unfolding tested_list
 returns-in_err-loaded c =
     let p = err_from_is_err_and c.from_residual.result c.from_residual.ensures.1 in
-    rw (p.1, p.2) (ends_as c.in_err-loaded.field-0.0 (done (trial passes_Q c.args.net.now.net (flow_of c.args.flow.now))) _
-    (tested-is passes_Q c.args.net.now.net (flow_of c.args.flow.now))
-    (ends c.in_err-loaded.field-0.0 (worked_list passes_Q c.args.net.now.net (flow_of c.args.flow.now)) _ c.in_err-loaded.ensures.list))
+    rw (p.1, p.2) (ends_as c.in_err-loaded.field-0.0 (done (trial passes_Q c.args.net.now.net (seen_flow c.args.flow.now))) _
+    (tested-is passes_Q c.args.net.now.net (seen_flow c.args.flow.now))
+    (ends c.in_err-loaded.field-0.0 (worked_list passes_Q c.args.net.now.net (seen_flow c.args.flow.now)) _ c.in_err-loaded.ensures.list))
 
 pub invariant_of-worked : goal.invariant_of-worked
 invariant_of-worked c =
@@ -29,8 +29,8 @@ invariant_of-worked c =
 
 pub returns : goal.returns
 unfolding tested_list
-returns c = tries_as (λ _. tt) c.compare_all.result (done (trial passes_Q c.args.net.now.net (flow_of c.args.flow.now))) _
-    (tested-is passes_Q c.args.net.now.net (flow_of c.args.flow.now)
-    ∙ goes_on (worked_list passes_Q c.args.net.now.net (flow_of c.args.flow.now)) _ (curves_of c.args.labels.now, loadings_of c.in_ok-loaded.loaded.items) c.in_ok-loaded.ensures.list
-    ∙ ap (λ (l : List Loaded). compared_list passes_Q c.args.net.now.net (flow_of c.args.flow.now) (curves_of c.args.labels.now) (loadings_of l)) (sym c.deref.ensures.value))
+returns c = tries_as (λ _. tt) c.compare_all.result (done (trial passes_Q c.args.net.now.net (seen_flow c.args.flow.now))) _
+    (tested-is passes_Q c.args.net.now.net (seen_flow c.args.flow.now)
+    ∙ goes_on (worked_list passes_Q c.args.net.now.net (seen_flow c.args.flow.now)) _ (points_of_each c.args.labels.now, loadings_of c.in_ok-loaded.loaded.items) c.in_ok-loaded.ensures.list
+    ∙ ap (λ (l : List Loaded). compared_list passes_Q c.args.net.now.net (seen_flow c.args.flow.now) (points_of_each c.args.labels.now) (loadings_of l)) (sym c.deref.ensures.value))
     c.compare_all.ensures

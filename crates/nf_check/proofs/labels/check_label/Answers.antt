@@ -2,24 +2,24 @@ use Rattle.std.proofs.Common.{◌≡◌, List, refl, sym, ap, ◌∙◌}
 use Rattle.std.specs.Prelude.{Ok}
 use Rattle.nf_frac_def.specs.Passing.{passes_Q}
 use Rattle.nf_model.specs.Equilibrium.{points_at}
-use Rattle.nf_curve.specs.Flows.{flow_of}
+use Rattle.nf_curve.specs.Flows.{seen_flow}
 use Rattle.nf_curve.specs.Points.{Grown}
 use Rattle.nf_check_def.specs.declared.CheckRule.TheVariants.{C1}
 use Rattle.nf_check_def.specs.declared.Subject.TheVariants.{Node}
 use Rattle.nf_check_def.specs.PointRules.{negative_point}
 use Rattle.nf_check_def.specs.Trial.{unless}
 use Rattle.nf_check_def.specs.CheckList.{label_cut}
-use Rattle.nf_check_rules.specs.Kept.{curves_of}
+use Rattle.nf_check_rules.specs.Kept.{points_of_each}
 use Rattle.nf_check_rules.proofs.Trying.{tries_as, tries_map}
 use Rattle.nf_check_rules.proofs.Known.{label_cut_whole}
 use Rattle.nf_check.proofs.labels.check_label.Goals as goal
 
 pub returns : goal.returns
 returns c = λ net.
-    let label = points_at (flow_of c.args.flow.now).labels c.args.node in
+    let label = points_at (seen_flow c.args.flow.now).labels c.args.node in
     let label_is : c.curve_at-label.result.now.points ≡ label =
-    c.curve_at-label.ensures ∙ ap (λ (l : List Grown). points_at (curves_of l) c.index.result) c.deref.ensures.value ∙ ap (points_at (flow_of c.args.flow.now).labels) c.index.ensures in
+    c.curve_at-label.ensures ∙ ap (λ (l : List Grown). points_at (points_of_each l) c.index.result) c.deref.ensures.value ∙ ap (points_at (seen_flow c.args.flow.now).labels) c.index.ensures in
     let tested = rw (c.negative_point.ensures, label_is) at c.unless.ensures in
-    tries_as (λ _. label) c.unless.result (label_cut passes_Q net (flow_of c.args.flow.now) c.args.node) _
-    (label_cut_whole passes_Q net (flow_of c.args.flow.now) c.args.node label refl (c.requires.whole c.args.node c.requires.node))
+    tries_as (λ _. label) c.unless.result (label_cut passes_Q net (seen_flow c.args.flow.now) c.args.node) _
+    (label_cut_whole passes_Q net (seen_flow c.args.flow.now) c.args.node label refl (c.requires.whole c.args.node c.requires.node))
     (tries_map (λ _. tt) (λ _. label) c.unless.result (unless C1 (Node c.args.node) (negative_point label)) tested)

@@ -3,7 +3,7 @@ use Rattle.std.proofs.Common.{◌≡◌, List, ap, ◌∙◌}
 use Rattle.nf_frac_def.specs.Passing.{passes_Q}
 use Rattle.nf_frac_def.specs.declared.Part.TheVariants.{Check}
 use Rattle.nf_model.specs.Equilibrium.{points_at}
-use Rattle.nf_curve.specs.Flows.{flow_of}
+use Rattle.nf_curve.specs.Flows.{seen_flow}
 use Rattle.nf_curve.specs.Points.{Grown}
 use Rattle.nf_curve_def.specs.Values.{checked_cut}
 use Rattle.nf_check_def.specs.declared.CheckRule.TheVariants.{C1}
@@ -11,34 +11,34 @@ use Rattle.nf_check_def.specs.declared.Subject.TheVariants.{Node}
 use Rattle.nf_check_def.specs.PointRules.{negative_point}
 use Rattle.nf_check_def.specs.Trial.{unless}
 use Rattle.nf_check_def.specs.CheckList.{label_cut}
-use Rattle.nf_check_rules.specs.Kept.{curves_of}
+use Rattle.nf_check_rules.specs.Kept.{points_of_each}
 use Rattle.nf_check_rules.proofs.Trying.{goes_on, ends, ends_as, part_goes, part_stops}
 use Rattle.nf_check.proofs.labels.cut_label.Goals as goal
 
 pub returns-in_err-cut : goal.returns-in_err-cut
 returns-in_err-cut c = λ net.
     let p = err_from_is_err_and c.from_residual.result c.from_residual.ensures.1 in
-    let label_is : c.curve_at-label.result.now.points ≡ points_at (flow_of c.args.flow.now).labels c.args.node =
-    c.curve_at-label.ensures ∙ ap (λ (l : List Grown). points_at (curves_of l) c.index.result) c.deref.ensures.value ∙ ap (points_at (flow_of c.args.flow.now).labels) c.index.ensures in
+    let label_is : c.curve_at-label.result.now.points ≡ points_at (seen_flow c.args.flow.now).labels c.args.node =
+    c.curve_at-label.ensures ∙ ap (λ (l : List Grown). points_at (points_of_each l) c.index.result) c.deref.ensures.value ∙ ap (points_at (seen_flow c.args.flow.now).labels) c.index.ensures in
     let stopped = rw label_is at c.in_err-cut.ensures.list in
-    rw (p.1, p.2) (part_stops Check (checked_cut passes_Q (points_at (flow_of c.args.flow.now).labels c.args.node) c.args.flow.now.reached) _ c.in_err-cut.field-0.0 stopped)
+    rw (p.1, p.2) (part_stops Check (checked_cut passes_Q (points_at (seen_flow c.args.flow.now).labels c.args.node) c.args.flow.now.reached) _ c.in_err-cut.field-0.0 stopped)
 
 pub returns-in_err-unless : goal.returns-in_err-unless
 returns-in_err-unless c = λ net.
     let p = err_from_is_err_and c.from_residual-in_err-unless.result c.from_residual-in_err-unless.ensures.1 in
-    let label_is : c.curve_at-label.result.now.points ≡ points_at (flow_of c.args.flow.now).labels c.args.node =
-    c.curve_at-label.ensures ∙ ap (λ (l : List Grown). points_at (curves_of l) c.index.result) c.deref.ensures.value ∙ ap (points_at (flow_of c.args.flow.now).labels) c.index.ensures in
+    let label_is : c.curve_at-label.result.now.points ≡ points_at (seen_flow c.args.flow.now).labels c.args.node =
+    c.curve_at-label.ensures ∙ ap (λ (l : List Grown). points_at (points_of_each l) c.index.result) c.deref.ensures.value ∙ ap (points_at (seen_flow c.args.flow.now).labels) c.index.ensures in
     let came = rw label_is at c.in_ok-cut.ensures.list in
     let ended = rw c.negative_point.ensures at c.in_err-unless.ensures in
-    rw (p.1, p.2) (ends_as c.in_err-unless.field-0.0 (label_cut passes_Q net (flow_of c.args.flow.now) c.args.node) _
-    (part_goes Check (checked_cut passes_Q (points_at (flow_of c.args.flow.now).labels c.args.node) c.args.flow.now.reached) _ c.in_ok-cut.cut.points came)
+    rw (p.1, p.2) (ends_as c.in_err-unless.field-0.0 (label_cut passes_Q net (seen_flow c.args.flow.now) c.args.node) _
+    (part_goes Check (checked_cut passes_Q (points_at (seen_flow c.args.flow.now).labels c.args.node) c.args.flow.now.reached) _ c.in_ok-cut.cut.points came)
     (ends c.in_err-unless.field-0.0 (unless C1 (Node c.args.node) (negative_point c.in_ok-cut.cut.points)) _ ended))
 
 pub returns : goal.returns
 returns c = λ net.
-    let label_is : c.curve_at-label.result.now.points ≡ points_at (flow_of c.args.flow.now).labels c.args.node =
-    c.curve_at-label.ensures ∙ ap (λ (l : List Grown). points_at (curves_of l) c.index.result) c.deref.ensures.value ∙ ap (points_at (flow_of c.args.flow.now).labels) c.index.ensures in
+    let label_is : c.curve_at-label.result.now.points ≡ points_at (seen_flow c.args.flow.now).labels c.args.node =
+    c.curve_at-label.ensures ∙ ap (λ (l : List Grown). points_at (points_of_each l) c.index.result) c.deref.ensures.value ∙ ap (points_at (seen_flow c.args.flow.now).labels) c.index.ensures in
     let came = rw label_is at c.in_ok-cut.ensures.list in
     let through = rw c.negative_point.ensures at c.in_ok-unless.ensures in
-    part_goes Check (checked_cut passes_Q (points_at (flow_of c.args.flow.now).labels c.args.node) c.args.flow.now.reached) _ c.in_ok-cut.cut.points came
+    part_goes Check (checked_cut passes_Q (points_at (seen_flow c.args.flow.now).labels c.args.node) c.args.flow.now.reached) _ c.in_ok-cut.cut.points came
     ∙ goes_on (unless C1 (Node c.args.node) (negative_point c.in_ok-cut.cut.points)) _ tt through

@@ -2,7 +2,7 @@ use Rattle.std.proofs.Common.{None}
 use Rattle.std.specs.Prelude.{option_map}
 use Rattle.nf_frac_def.specs.Passing.{passes_Q}
 use Rattle.nf_check_def.specs.Curves.{with_exit}
-use Rattle.nf_check_rules.specs.Exits.{AreKept}
+use Rattle.nf_check_rules.specs.Exits.{AreStored}
 use Rattle.nf_check_rules.specs.Views.{labels_in, loaded_in}
 use Rattle.nf_check_rules.proofs.Folding.{Folds}
 use Rattle.nf_check_rules.proofs.arriving.least_exits.Given as goal
@@ -11,5 +11,5 @@ abbrev pub invariant-loop-number : goal.invariant-loop-number
 invariant-loop-number l = record {
   folds : Folds (with_exit passes_Q (labels_in l.worked) (loaded_in l.worked) l.worked.flow.now.reached l.node) l.worked.net.now.net.links None
       (option_map (λ c. c.points) l.least) l.number;
-  kept : AreKept l.worked l.exits;
+  kept : AreStored l.worked l.exits;
 }

@@ -5,7 +5,7 @@ use Rattle.nf_frac_def.specs.Passing.{passes_Q}
 use Rattle.nf_model.specs.Network.{Link}
 use Rattle.nf_curve.specs.Points.{Grown}
 use Rattle.nf_check_rules.specs.declared.exits.Exits.{Exits}
-use Rattle.nf_check_rules.specs.Exits.{AreKept}
+use Rattle.nf_check_rules.specs.Exits.{AreStored}
 use Rattle.nf_check_rules.specs.Views.{labels_in, loaded_in}
 use Rattle.nf_check_rules.proofs.Attaining.{exit_left_out, exit_goes, exit_stops}
 use Rattle.nf_check_rules.proofs.Keeping.{keep_kept, same_some}
@@ -61,7 +61,7 @@ pub keep-requires : goal.keep-requires
 keep-requires c = subst (λ (n : ℕ). c.args.link < n) (sym c.requires.kept.count) c.requires.link
 
 pub returns-in_err-keep-clause-kept : goal.returns-in_err-keep-clause-kept
-returns-in_err-keep-clause-kept c = subst (λ (e : Exits). AreKept c.args.worked.now e) (sym c.in_err-keep.ensures.as_it_was) c.requires.kept
+returns-in_err-keep-clause-kept c = subst (λ (e : Exits). AreStored c.args.worked.now e) (sym c.in_err-keep.ensures.as_it_was) c.requires.kept
 
 pub returns-in_err-least-clause-kept : goal.returns-in_err-least-clause-kept
 returns-in_err-least-clause-kept c = keep_kept c.args.worked.now c.args.exits.now c.keep.new.self c.requires.kept c.args.link c.link.result c.link.ensures.link

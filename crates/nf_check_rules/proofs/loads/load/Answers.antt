@@ -1,11 +1,11 @@
 use Rattle.nf_load.specs.Loadings.{loaded_of}
 use Rattle.nf_check_rules.proofs.Trying.{part_ends, part_ok}
 use Rattle.nf_check_rules.proofs.Keeping.{same_some}
-use Rattle.nf_check_rules.specs.Kept.{curves_of}
+use Rattle.nf_check_rules.specs.Kept.{points_of_each}
 use Rattle.nf_frac_def.specs.declared.Part.TheVariants.{Load}
 use Rattle.nf_check_def.specs.Curves.{greatest_value}
 use Rattle.nf_curve.specs.declared.flow.Trace.{Trace}
-use Rattle.nf_curve.specs.Flows.{flow_of, trace_of}
+use Rattle.nf_curve.specs.Flows.{seen_flow, seen_trace}
 use Rattle.nf_model.specs.Equilibrium.{points_at, points_of}
 use Rattle.nf_model.specs.Curve.{Point, NeverFalls, value}
 use mathlib.Core.Path.{ap₂}
@@ -41,8 +41,8 @@ load_link-requires-clause-transit c =
 
 pub load_link-requires-clause-rises : goal.load_link-requires-clause-rises
 load_link-requires-clause-rises c =
-    let told : c.trace_at.result.now.curve.points ≡ points_at (points_of (flow_of c.args.flow.now).inflows) c.args.link =
-    c.trace_at.ensures.points ∙ ap (λ (l : List Trace). points_at (points_of (map trace_of l)) c.args.link) c.deref.ensures.value in
+    let told : c.trace_at.result.now.curve.points ≡ points_at (points_of (seen_flow c.args.flow.now).inflows) c.args.link =
+    c.trace_at.ensures.points ∙ ap (λ (l : List Trace). points_at (points_of (map seen_trace l)) c.args.link) c.deref.ensures.value in
     subst (λ (l : List Point). NeverFalls (value l)) (sym told) c.requires.inflow.1
 
 pub returns-in_err-loaded : goal.returns-in_err-loaded
@@ -51,16 +51,16 @@ returns-in_err-loaded c = λ here is.
     let one : c.link-here.result ≡ here = same_some c.link-here.result here (sym c.link-here.ensures.link ∙ is) in
     let transit : c.here.inside.transit ≡ here.transit = ap (λ (l : Link). l.transit) (c.here.view_is ∙ one) in
     let capacity : c.here.inside.capacity ≡ here.capacity = ap (λ (l : Link). l.capacity) (c.here.view_is ∙ one) in
-    let told : c.trace_at.result.now.curve.points ≡ points_at (points_of (flow_of c.args.flow.now).inflows) c.args.link =
-    c.trace_at.ensures.points ∙ ap (λ (l : List Trace). points_at (points_of (map trace_of l)) c.args.link) c.deref.ensures.value in
-    let tail : c.greatest_value-tail.result ≡ greatest_value (points_at (curves_of c.args.labels.now) here.tail) =
+    let told : c.trace_at.result.now.curve.points ≡ points_at (points_of (seen_flow c.args.flow.now).inflows) c.args.link =
+    c.trace_at.ensures.points ∙ ap (λ (l : List Trace). points_at (points_of (map seen_trace l)) c.args.link) c.deref.ensures.value in
+    let tail : c.greatest_value-tail.result ≡ greatest_value (points_at (points_of_each c.args.labels.now) here.tail) =
     c.greatest_value-tail.ensures.value ∙ ap greatest_value (c.curve_at.ensures
-    ∙ ap (points_at (curves_of c.args.labels.now)) (c.index.ensures ∙ ap (λ (l : Link). l.tail) (c.here.view_is ∙ one))) in
-    let head : c.greatest_value-head.result ≡ greatest_value (points_at (curves_of c.args.labels.now) here.head) =
+    ∙ ap (points_at (points_of_each c.args.labels.now)) (c.index.ensures ∙ ap (λ (l : Link). l.tail) (c.here.view_is ∙ one))) in
+    let head : c.greatest_value-head.result ≡ greatest_value (points_at (points_of_each c.args.labels.now) here.head) =
     c.greatest_value-head.ensures.value ∙ ap greatest_value (c.curve_at-2.ensures
-    ∙ ap (points_at (curves_of c.args.labels.now)) (c.index-2.ensures ∙ ap (λ (l : Link). l.head) (c.here.view_is ∙ one))) in
-    let until : c.greater.result ≡ max_ℚ (greatest_value (points_at (curves_of c.args.labels.now) here.tail))
-    (greatest_value (points_at (curves_of c.args.labels.now) here.head)) = c.greater.ensures ∙ ap₂ max_ℚ tail head in
+    ∙ ap (points_at (points_of_each c.args.labels.now)) (c.index-2.ensures ∙ ap (λ (l : Link). l.head) (c.here.view_is ∙ one))) in
+    let until : c.greater.result ≡ max_ℚ (greatest_value (points_at (points_of_each c.args.labels.now) here.tail))
+    (greatest_value (points_at (points_of_each c.args.labels.now) here.head)) = c.greater.ensures ∙ ap₂ max_ℚ tail head in
     rw (p.1, p.2) (part_ends Load c.in_err-loaded.field-0.0 _ (rw (sym transit, sym capacity, sym told, sym until) c.in_err-loaded.ensures.list))
 
 pub returns : goal.returns
@@ -68,16 +68,16 @@ returns c = λ here is.
     let one : c.link-here.result ≡ here = same_some c.link-here.result here (sym c.link-here.ensures.link ∙ is) in
     let transit : c.here.inside.transit ≡ here.transit = ap (λ (l : Link). l.transit) (c.here.view_is ∙ one) in
     let capacity : c.here.inside.capacity ≡ here.capacity = ap (λ (l : Link). l.capacity) (c.here.view_is ∙ one) in
-    let told : c.trace_at.result.now.curve.points ≡ points_at (points_of (flow_of c.args.flow.now).inflows) c.args.link =
-    c.trace_at.ensures.points ∙ ap (λ (l : List Trace). points_at (points_of (map trace_of l)) c.args.link) c.deref.ensures.value in
-    let tail : c.greatest_value-tail.result ≡ greatest_value (points_at (curves_of c.args.labels.now) here.tail) =
+    let told : c.trace_at.result.now.curve.points ≡ points_at (points_of (seen_flow c.args.flow.now).inflows) c.args.link =
+    c.trace_at.ensures.points ∙ ap (λ (l : List Trace). points_at (points_of (map seen_trace l)) c.args.link) c.deref.ensures.value in
+    let tail : c.greatest_value-tail.result ≡ greatest_value (points_at (points_of_each c.args.labels.now) here.tail) =
     c.greatest_value-tail.ensures.value ∙ ap greatest_value (c.curve_at.ensures
-    ∙ ap (points_at (curves_of c.args.labels.now)) (c.index.ensures ∙ ap (λ (l : Link). l.tail) (c.here.view_is ∙ one))) in
-    let head : c.greatest_value-head.result ≡ greatest_value (points_at (curves_of c.args.labels.now) here.head) =
+    ∙ ap (points_at (points_of_each c.args.labels.now)) (c.index.ensures ∙ ap (λ (l : Link). l.tail) (c.here.view_is ∙ one))) in
+    let head : c.greatest_value-head.result ≡ greatest_value (points_at (points_of_each c.args.labels.now) here.head) =
     c.greatest_value-head.ensures.value ∙ ap greatest_value (c.curve_at-2.ensures
-    ∙ ap (points_at (curves_of c.args.labels.now)) (c.index-2.ensures ∙ ap (λ (l : Link). l.head) (c.here.view_is ∙ one))) in
-    let until : c.greater.result ≡ max_ℚ (greatest_value (points_at (curves_of c.args.labels.now) here.tail))
-    (greatest_value (points_at (curves_of c.args.labels.now) here.head)) = c.greater.ensures ∙ ap₂ max_ℚ tail head in
+    ∙ ap (points_at (points_of_each c.args.labels.now)) (c.index-2.ensures ∙ ap (λ (l : Link). l.head) (c.here.view_is ∙ one))) in
+    let until : c.greater.result ≡ max_ℚ (greatest_value (points_at (points_of_each c.args.labels.now) here.tail))
+    (greatest_value (points_at (points_of_each c.args.labels.now) here.head)) = c.greater.ensures ∙ ap₂ max_ℚ tail head in
     part_ok Load _ (loaded_of c.in_ok-loaded.loaded) (rw (sym transit, sym capacity, sym told, sym until) c.in_ok-loaded.ensures.list)
 
 pub curve_at-requires : goal.curve_at-requires

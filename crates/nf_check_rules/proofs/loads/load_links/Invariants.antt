@@ -1,9 +1,9 @@
 use Rattle.nf_frac_def.specs.Passing.{passes_Q}
 use Rattle.nf_check_def.specs.CheckList.{loading}
-use Rattle.nf_curve.specs.Flows.{flow_of}
-use Rattle.nf_check_rules.specs.Kept.{curves_of, loadings_of}
+use Rattle.nf_curve.specs.Flows.{seen_flow}
+use Rattle.nf_check_rules.specs.Kept.{points_of_each, loadings_of}
 use Rattle.nf_check_rules.proofs.Looping.{FrontLinks}
 use Rattle.nf_check_rules.proofs.loads.load_links.Given as goal
 
 abbrev pub invariant-loop-number : goal.invariant-loop-number
-invariant-loop-number l = FrontLinks (loading passes_Q l.net.net (flow_of l.flow) (curves_of l.labels)) l.net.net.links l.number (loadings_of l.loaded.items)
+invariant-loop-number l = FrontLinks (loading passes_Q l.net.net (seen_flow l.flow) (points_of_each l.labels)) l.net.net.links l.number (loadings_of l.loaded.items)

@@ -1,9 +1,9 @@
 use Rattle.std.proofs.Common.{length}
 use Rattle.nf_frac_def.specs.Passing.{passes_Q}
 use Rattle.nf_check_def.specs.CheckList.{link_rates}
-use Rattle.nf_curve.specs.Flows.{flow_of}
+use Rattle.nf_curve.specs.Flows.{seen_flow}
 use Rattle.nf_check_rules.proofs.Looping.{LeftBelow}
 use Rattle.nf_check_rules.proofs.rates.check_rates.Given as goal
 
 abbrev pub invariant-loop-number : goal.invariant-loop-number
-invariant-loop-number l = LeftBelow (link_rates passes_Q l.net.net (flow_of l.flow)) (length l.net.net.links) l.number
+invariant-loop-number l = LeftBelow (link_rates passes_Q l.net.net (seen_flow l.flow)) (length l.net.net.links) l.number

@@ -7,7 +7,7 @@ use Rattle.std.proofs.lemmas.Result.{err_from_is_err_and}
 use Rattle.nf_frac_def.specs.Passing.{passes_Q}
 use Rattle.nf_model.specs.Network.{Link}
 use Rattle.nf_model.specs.Equilibrium.{points_at, points_of}
-use Rattle.nf_curve.specs.Flows.{trace_of}
+use Rattle.nf_curve.specs.Flows.{seen_trace}
 use Rattle.nf_curve.specs.declared.flow.Trace.{Trace}
 use Rattle.nf_load_def.specs.Loading as lists
 use Rattle.nf_load.specs.declared.loading.Loaded.{Loaded}
@@ -50,7 +50,7 @@ returns-in_err-detour c = λ here is.
     let p = err_from_is_err_and c.from_residual.result c.from_residual.ensures.1 in
     let one : c.link-here.result ≡ here = same_some c.link-here.result here (sym c.link-here.ensures.link ∙ is) in
     rw (p.1, p.2) (route_ends passes_Q c.args.worked.now.net.now.net (flow_in c.args.worked.now) (labels_in c.args.worked.now) (loaded_in c.args.worked.now) c.args.link here _ _ _ _
-    (c.trace_at.ensures.points ∙ ap (λ (l : List Trace). points_at (points_of (map trace_of l)) c.args.link) c.deref.ensures.value)
+    (c.trace_at.ensures.points ∙ ap (λ (l : List Trace). points_at (points_of (map seen_trace l)) c.args.link) c.deref.ensures.value)
     (ap (λ (l : lists.Loaded). l.exit) c.loaded_at.ensures)
     (c.label_at.ensures.points ∙ ap (λ (l : Link). points_at (labels_in c.args.worked.now) l.tail) (c.here.view_is ∙ one))
     (c.label_at-2.ensures.points ∙ ap (λ (l : Link). points_at (labels_in c.args.worked.now) l.head) (c.here.view_is ∙ one))
@@ -61,7 +61,7 @@ returns c = λ here is.
     let one : c.link-here.result ≡ here = same_some c.link-here.result here (sym c.link-here.ensures.link ∙ is) in
     tries_as (λ _. tt) c.unless.result (in_view route c.args.worked.now (c.args.link, here)) _
     (route_goes passes_Q c.args.worked.now.net.now.net (flow_in c.args.worked.now) (labels_in c.args.worked.now) (loaded_in c.args.worked.now) c.args.link here _ _ _ _
-    (c.trace_at.ensures.points ∙ ap (λ (l : List Trace). points_at (points_of (map trace_of l)) c.args.link) c.deref.ensures.value)
+    (c.trace_at.ensures.points ∙ ap (λ (l : List Trace). points_at (points_of (map seen_trace l)) c.args.link) c.deref.ensures.value)
     (ap (λ (l : lists.Loaded). l.exit) c.loaded_at.ensures)
     (c.label_at.ensures.points ∙ ap (λ (l : Link). points_at (labels_in c.args.worked.now) l.tail) (c.here.view_is ∙ one))
     (c.label_at-2.ensures.points ∙ ap (λ (l : Link). points_at (labels_in c.args.worked.now) l.head) (c.here.view_is ∙ one))

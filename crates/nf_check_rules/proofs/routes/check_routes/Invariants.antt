@@ -1,5 +1,5 @@
 use Rattle.nf_check_def.specs.CheckList.{route}
-use Rattle.nf_check_rules.specs.Exits.{AreKept}
+use Rattle.nf_check_rules.specs.Exits.{AreStored}
 use Rattle.nf_check_rules.specs.Views.{in_view}
 use Rattle.nf_check_rules.proofs.Looping.{LeftLinks}
 use Rattle.nf_check_rules.proofs.routes.check_routes.Given as goal
@@ -7,5 +7,5 @@ use Rattle.nf_check_rules.proofs.routes.check_routes.Given as goal
 abbrev pub invariant-loop-number : goal.invariant-loop-number
 invariant-loop-number l = record {
   left : LeftLinks (in_view route l.worked) l.worked.net.now.net.links l.number;
-  kept : AreKept l.worked l.exits;
+  kept : AreStored l.worked l.exits;
 }

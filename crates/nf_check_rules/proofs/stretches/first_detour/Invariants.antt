@@ -1,14 +1,14 @@
 use Rattle.std.proofs.Common.{◌≡◌, length}
 use Rattle.nf_frac_def.specs.Passing.{passes_Q}
 use Rattle.nf_check_def.specs.Routes.{stretches_from}
-use Rattle.nf_check_rules.specs.Departures.{IsDeparture}
+use Rattle.nf_check_rules.specs.Departures.{IsSentDeparture}
 use Rattle.nf_check_rules.specs.Sent.{KeepSlopes, stretches_of, three_after}
 use Rattle.nf_check_rules.proofs.stretches.first_detour.Given as goal
 
 abbrev pub invariant-loop-time : goal.invariant-loop-time
 invariant-loop-time l = record {
   kept : KeepSlopes l.sent l.kept;
-  here : IsDeparture l.sent l.here;
+  here : IsSentDeparture l.sent l.here;
   left : stretches_from passes_Q l.sent.taken.points l.sent.exits.points l.sent.labels.points l.here.time
       (three_after l.here.time l.sent.taken.points l.sent.exits.points l.sent.labels.points) ≡ stretches_of l.sent;
 }

@@ -1,7 +1,7 @@
 use Rattle.std.proofs.Common.{◌≡◌, List, refl, map, sym, ap, ◌∙◌}
 use Rattle.nf_model.specs.Network.{Link}
 use Rattle.nf_model.specs.Equilibrium.{points_at, points_of}
-use Rattle.nf_curve.specs.Flows.{trace_of}
+use Rattle.nf_curve.specs.Flows.{seen_trace}
 use Rattle.nf_curve.specs.declared.flow.Trace.{Trace}
 use Rattle.nf_load_def.specs.Loading as lists
 use Rattle.nf_load.specs.declared.loading.Loaded.{Loaded}
@@ -25,7 +25,7 @@ pub returns : goal.returns
 returns c = λ here is.
     let one : c.link.result ≡ here = same_some c.link.result here (sym c.link.ensures.link ∙ is) in
     let told : c.trace_at.result.now.curve.points ≡ points_at (points_of (flow_in c.args.worked.now).outflows) c.args.link =
-    c.trace_at.ensures.points ∙ ap (λ (l : List Trace). points_at (points_of (map trace_of l)) c.args.link) c.deref.ensures.value in
+    c.trace_at.ensures.points ∙ ap (λ (l : List Trace). points_at (points_of (map seen_trace l)) c.args.link) c.deref.ensures.value in
     let right : (loaded_of c.loaded_at.result.now).outflow ≡ (loaded_at (loaded_in c.args.worked.now) c.args.link).outflow = ap (λ (l : lists.Loaded). l.outflow) c.loaded_at.ensures in
     let last : c.last_label-last.result ≡ last_value (points_at (labels_in c.args.worked.now) here.head) =
     c.last_label-last.ensures.value ∙ ap (λ (l : Link). last_value (points_at (labels_in c.args.worked.now) l.head)) (c.head.view_is ∙ one) in

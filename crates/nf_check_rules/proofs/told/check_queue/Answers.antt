@@ -6,7 +6,7 @@ use Rattle.nf_load_def.specs.Loading as lists
 use Rattle.nf_load.specs.declared.loading.Loaded.{Loaded}
 use Rattle.nf_load.specs.Loadings.{loaded_of}
 use Rattle.nf_check_def.specs.Curves.{loaded_at, last_value}
-use Rattle.nf_check_rules.specs.Kept.{curves_of}
+use Rattle.nf_check_rules.specs.Kept.{points_of_each}
 use Rattle.nf_check_rules.specs.Views.{flow_in, labels_in, loaded_in}
 use Rattle.nf_check_rules.proofs.Keeping.{same_some}
 use Rattle.nf_check_rules.proofs.Known.{below_as, one_there}
@@ -25,7 +25,7 @@ pub returns : goal.returns
 returns c = λ here is.
     let one : c.link.result ≡ here = same_some c.link.result here (sym c.link.ensures.link ∙ is) in
     let told : c.curve_at-told.result.now.points ≡ points_at (flow_in c.args.worked.now).queues c.args.link =
-    c.curve_at-told.ensures ∙ ap (λ (l : List Grown). points_at (curves_of l) c.index.result) c.deref.ensures.value ∙ ap (points_at (flow_in c.args.worked.now).queues) c.index.ensures in
+    c.curve_at-told.ensures ∙ ap (λ (l : List Grown). points_at (points_of_each l) c.index.result) c.deref.ensures.value ∙ ap (points_at (flow_in c.args.worked.now).queues) c.index.ensures in
     let right : (loaded_of c.loaded_at.result.now).queue ≡ (loaded_at (loaded_in c.args.worked.now) c.args.link).queue = ap (λ (l : lists.Loaded). l.queue) c.loaded_at.ensures in
     let last : c.last_label-last.result ≡ last_value (points_at (labels_in c.args.worked.now) here.tail) =
     c.last_label-last.ensures.value ∙ ap (λ (l : Link). last_value (points_at (labels_in c.args.worked.now) l.tail)) (c.tail.view_is ∙ one) in

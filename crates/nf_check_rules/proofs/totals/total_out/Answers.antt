@@ -5,14 +5,14 @@ use Rattle.nf_rational.specs.Rational.{ℚ}
 use Rattle.nf_rational.specs.Operations.{0ℚ}
 use Rattle.nf_model.specs.Equilibrium.{points_of}
 use Rattle.nf_check_def.specs.Curves.{no_amount, with_inflow, total_out}
-use Rattle.nf_curve.specs.Flows.{flow_of}
+use Rattle.nf_curve.specs.Flows.{seen_flow}
 use Rattle.nf_check_rules.proofs.Looping.{link_there}
 use Rattle.nf_check_rules.proofs.Folding.{fold_first, fold_stops, fold_goes, fold_last}
 use Rattle.nf_check_rules.proofs.totals.total_out.Goals as goal
 
 pub loop-number-init : goal.loop-number-init
 loop-number-init c =
-    fold_first (with_inflow passes_Q (points_of (flow_of c.args.flow.now).inflows) c.args.node) c.args.net.now.net.links no_amount
+    fold_first (with_inflow passes_Q (points_of (seen_flow c.args.flow.now).inflows) c.args.node) c.args.net.now.net.links no_amount
     c.in_ok-total.total.points (c.in_ok-total.ensures ∙ ap (λ (y : ℚ). (0ℚ, y) ∷ []) c.zero.ensures)
 
 pub returns-in_err-total-2 : goal.returns-in_err-total-2
@@ -21,7 +21,7 @@ returns-in_err-total-2 c =
     let p = err_from_is_err_and c.from_residual-in_err-total-2.result c.from_residual-in_err-total-2.ensures.1 in
     let inside : c.loop-number.number < length c.args.net.now.net.links = omega arith in
     let there = link_there c.args.net.now.net.links c.loop-number.number inside in
-    rw (p.1, p.2) (fold_stops (with_inflow passes_Q (points_of (flow_of c.args.flow.now).inflows) c.args.node) c.args.net.now.net.links no_amount
+    rw (p.1, p.2) (fold_stops (with_inflow passes_Q (points_of (seen_flow c.args.flow.now).inflows) c.args.node) c.args.net.now.net.links no_amount
     c.loop-number.total.points c.loop-number.number c.loop-number.invariant there.link there.is c.in_err-total-2.field-0.0
     (c.in_err-total-2.ensures there.link there.is))
 
@@ -29,12 +29,12 @@ pub loop-number-preserved : goal.loop-number-preserved
 loop-number-preserved c =
     let inside : c.loop-number.number < length c.args.net.now.net.links = omega arith in
     let there = link_there c.args.net.now.net.links c.loop-number.number inside in
-    fold_goes (with_inflow passes_Q (points_of (flow_of c.args.flow.now).inflows) c.args.node) c.args.net.now.net.links no_amount c.loop-number.total.points
+    fold_goes (with_inflow passes_Q (points_of (seen_flow c.args.flow.now).inflows) c.args.node) c.args.net.now.net.links no_amount c.loop-number.total.points
     c.loop-number.number c.loop-number.invariant there.link there.is c.in_ok-total-2.total.points (c.in_ok-total-2.ensures there.link there.is)
 
 pub returns : goal.returns
 unfolding total_out
 returns c =
     let past : length c.args.net.now.net.links ≤ c.loop-number.number = omega arith in
-    fold_last (with_inflow passes_Q (points_of (flow_of c.args.flow.now).inflows) c.args.node) c.args.net.now.net.links no_amount c.loop-number.total.points
+    fold_last (with_inflow passes_Q (points_of (seen_flow c.args.flow.now).inflows) c.args.node) c.args.net.now.net.links no_amount c.loop-number.total.points
     c.loop-number.number c.loop-number.invariant past

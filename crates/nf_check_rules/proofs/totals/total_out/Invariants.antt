@@ -1,9 +1,9 @@
 use Rattle.nf_frac_def.specs.Passing.{passes_Q}
 use Rattle.nf_model.specs.Equilibrium.{points_of}
 use Rattle.nf_check_def.specs.Curves.{no_amount, with_inflow}
-use Rattle.nf_curve.specs.Flows.{flow_of}
+use Rattle.nf_curve.specs.Flows.{seen_flow}
 use Rattle.nf_check_rules.proofs.Folding.{Folds}
 use Rattle.nf_check_rules.proofs.totals.total_out.Given as goal
 
 abbrev pub invariant-loop-number : goal.invariant-loop-number
-invariant-loop-number l = Folds (with_inflow passes_Q (points_of (flow_of l.flow).inflows) l.node) l.net.net.links no_amount l.total.points l.number
+invariant-loop-number l = Folds (with_inflow passes_Q (points_of (seen_flow l.flow).inflows) l.node) l.net.net.links no_amount l.total.points l.number

@@ -7,7 +7,7 @@ use Rattle.nf_model.specs.Entries.{Has}
 use Rattle.nf_graph.specs.Graph.{AreBelow}
 use Rattle.nf_graph.proofs.Flags.{Has-replicate, free, not_Has_from_place, Has_from_place}
 use Rattle.nf_graph.proofs.Reaching.{fewer_free}
-use Rattle.nf_complete_cycles.specs.Trees.{StepsOut, end_at, NoneStepsOut, way_back, IsWay}
+use Rattle.nf_complete_cycles.specs.Trees.{StepsOut, step_end, NoneStepsOut, way_back, IsWay}
 use Rattle.nf_complete_cycles.proofs.Growing.{IsGrown, grown_first, out_below, grown_more, out_free, way_found, apart_found, tree_below}
 use Rattle.nf_complete_cycles.proofs.way.way.Goals as goal
 
@@ -41,8 +41,8 @@ pub index_mut-requires-in-Some : goal.index_mut-requires-in-Some
 index_mut-requires-in-Some c =
     let o : StepsOut c.args.hops.now c.args.chosen.now c.loop-step.flags.items c.in-Some.step =
     subst (λ (f : List Bool). StepsOut c.args.hops.now c.args.chosen.now f c.in-Some.step) c.deref.ensures.value c.in-Some.ensures in
-    let e : c.index-in-Some.result ≡ end_at c.args.hops.now c.in-Some.step = c.index-in-Some.ensures ∙ c.end_of-node.ensures in
-    let below : end_at c.args.hops.now c.in-Some.step < c.args.nodes = out_below c.args.hops.now c.args.chosen.now c.args.from c.args.nodes
+    let e : c.index-in-Some.result ≡ step_end c.args.hops.now c.in-Some.step = c.index-in-Some.ensures ∙ c.end_of-node.ensures in
+    let below : step_end c.args.hops.now c.in-Some.step < c.args.nodes = out_below c.args.hops.now c.args.chosen.now c.args.from c.args.nodes
     c.loop-step.flags.items c.in-Some.step c.requires.ends o in
     let n = c.loop-step.invariant.count in omega arith
 
@@ -59,10 +59,10 @@ pub loop-step-smaller : goal.loop-step-smaller
 loop-step-smaller c =
     let o : StepsOut c.args.hops.now c.args.chosen.now c.loop-step.flags.items c.in-Some.step =
     subst (λ (f : List Bool). StepsOut c.args.hops.now c.args.chosen.now f c.in-Some.step) c.deref.ensures.value c.in-Some.ensures in
-    let e : c.index-in-Some.result ≡ end_at c.args.hops.now c.in-Some.step = c.index-in-Some.ensures ∙ c.end_of-node.ensures in
+    let e : c.index-in-Some.result ≡ step_end c.args.hops.now c.in-Some.step = c.index-in-Some.ensures ∙ c.end_of-node.ensures in
     subst (λ (i : ℕ). free (set c.loop-step.flags.items i true) < free c.loop-step.flags.items) (sym e)
-    (fewer_free c.loop-step.flags.items (end_at c.args.hops.now c.in-Some.step)
-    (subst (λ (n : ℕ). end_at c.args.hops.now c.in-Some.step < n) (sym c.loop-step.invariant.count)
+    (fewer_free c.loop-step.flags.items (step_end c.args.hops.now c.in-Some.step)
+    (subst (λ (n : ℕ). step_end c.args.hops.now c.in-Some.step < n) (sym c.loop-step.invariant.count)
     (out_below c.args.hops.now c.args.chosen.now c.args.from c.args.nodes c.loop-step.flags.items c.in-Some.step c.requires.ends o))
     (out_free c.args.hops.now c.args.chosen.now c.args.from c.loop-step.flags.items c.in-Some.step o))
 
@@ -70,7 +70,7 @@ pub loop-step-preserved : goal.loop-step-preserved
 loop-step-preserved c =
     let o : StepsOut c.args.hops.now c.args.chosen.now c.loop-step.flags.items c.in-Some.step =
     subst (λ (f : List Bool). StepsOut c.args.hops.now c.args.chosen.now f c.in-Some.step) c.deref.ensures.value c.in-Some.ensures in
-    let e : c.index-in-Some.result ≡ end_at c.args.hops.now c.in-Some.step = c.index-in-Some.ensures ∙ c.end_of-node.ensures in
+    let e : c.index-in-Some.result ≡ step_end c.args.hops.now c.in-Some.step = c.index-in-Some.ensures ∙ c.end_of-node.ensures in
     subst (λ (t : List (ℕ × Bool)). IsGrown c.args.hops.now c.args.chosen.now c.args.from c.args.nodes
     (set c.loop-step.flags.items c.index-in-Some.result true) t) (sym c.in_ok-insert.ensures.items)
     (grown_more c.args.hops.now c.args.chosen.now c.args.from c.args.nodes c.index-in-Some.result c.loop-step.flags.items c.loop-step.tree.items c.in-Some.step c.loop-step.invariant o e

@@ -6,7 +6,7 @@ use Rattle.nf_rational.specs.Rational.{ℚ}
 use Rattle.nf_frac_def.specs.Passing.{passes_Q}
 use Rattle.nf_frac_def.specs.Checked.{at_part}
 use Rattle.nf_curve_def.specs.Composed.{composed_piece, composed_all}
-use Rattle.nf_curve.specs.Places.{place_of}
+use Rattle.nf_curve.specs.Places.{count_until}
 use Rattle.nf_curve.specs.Steps.{behind}
 use Rattle.nf_curve.proofs.Points.{points_there}
 use Rattle.nf_curve.proofs.Placing.{rise-pairs, curve-rises, last_there}
@@ -58,7 +58,7 @@ loop-i-preserved c =
     let k = slice_get_read c.args.inner.now _ c.loop-i.i c.index-inner-i-in-loop-i.result refl c.loop-i-test.true c.index-inner-i-in-loop-i.is in
     record {
       kept = c.in_ok-add_piece.ensures.kept;
-      place = λ p e. c.in_ok-add_piece.ensures.place ∙ ap (λ (x : ℚ × ℚ). place_of x.1 c.args.outer.now)
+      place = λ p e. c.in_ok-add_piece.ensures.place ∙ ap (λ (x : ℚ × ℚ). count_until x.1 c.args.outer.now)
           (let h : slice_get c.args.inner.now c.loop-i.i ≡ Some p = ap (slice_get c.args.inner.now) (sym n) ∙ e in same_Some _ _ (sym k ∙ h));
       so_far = ap (λ (m : ℕ). behind c.add_piece.new.composed.items (composed_all passes_Q c.args.outer.now (drop m c.args.inner.now))) n
           ∙ pieces_go passes_Q c.args.part c.args.outer.now c.args.inner.now c.loop-i.composed.items _

@@ -3,15 +3,15 @@ use Rattle.std.specs.Prelude.{slice_get}
 use Rattle.nf_rational.specs.Rational.{ℚ}
 use Rattle.nf_frac_def.specs.Passing.{passes_Q}
 use Rattle.nf_curve_def.specs.Composed.{composed_all}
-use Rattle.nf_curve.specs.Places.{place_of}
+use Rattle.nf_curve.specs.Places.{count_until}
 use Rattle.nf_curve.specs.Steps.{behind}
-use Rattle.nf_curve.specs.Slopes.{Keeps}
+use Rattle.nf_curve.specs.Slopes.{KeepsSlope}
 use Rattle.nf_curve.proofs.composed.composed_points.Given as goal
 
 -- the points so far, and those of the pieces from this one on
 abbrev pub invariant-loop-i : goal.invariant-loop-i
 invariant-loop-i l = record {
-  kept : Keeps l.outer l.place.kept;
-  place : (p : ℚ × ℚ) → slice_get l.inner (l.i - 1) ≡ Some p → l.place.count ≡ place_of p.1 l.outer;
+  kept : KeepsSlope l.outer l.place.kept;
+  place : (p : ℚ × ℚ) → slice_get l.inner (l.i - 1) ≡ Some p → l.place.count ≡ count_until p.1 l.outer;
   so_far : behind l.composed.items (composed_all passes_Q l.outer (drop (l.i - 1) l.inner)) ≡ composed_all passes_Q l.outer l.inner;
 }

@@ -1,5 +1,5 @@
 use Rattle.std.proofs.Common.{ℕ, ◌<◌, length, subst, length-set, arith}
-use Rattle.nf_linear.specs.Marks.{IsWithin}
+use Rattle.nf_linear.specs.Marks.{IsSubset}
 use Rattle.nf_linear.proofs.Covering.{sets_grow, row_marked, set_got}
 use Rattle.nf_linear.proofs.elimination.mark_row.Goals as goal
 
@@ -14,7 +14,7 @@ loop-at-preserved g c =
       row_marked c.loop-at.columns c.loop-at.at c.args.number c.next_some-at-in-loop-at.result c.put.new.self c.args.row.now here c.put.ensures.put
           c.next_some-at-in-loop-at.ensures.zero c.loop-at.invariant.0,
       sets_grow c.args.columns.now c.loop-at.columns c.loop-at.at c.put.new.self here
-          (subst (λ (word : ℕ). IsWithin word c.put.new.self) (set_got c.loop-at.columns c.loop-at.at c.index-columns-at.result here) c.put.ensures.kept)
+          (subst (λ (word : ℕ). IsSubset word c.put.new.self) (set_got c.loop-at.columns c.loop-at.at c.index-columns-at.result here) c.put.ensures.kept)
           c.loop-at.invariant.1,
       omega arith,
     )

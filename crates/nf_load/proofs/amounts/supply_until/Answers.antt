@@ -10,7 +10,7 @@ use Rattle.nf_frac_def.specs.Passing.{bound_of, passes_Q, is_wide}
 use Rattle.nf_frac_def.specs.Checked.{at_part}
 use Rattle.nf_frac_def.proofs.Each.{with_front}
 use Rattle.nf_model.specs.Network.{Piece}
-use Rattle.nf_load_def.specs.Cumulative.{end_of, point_if_after_0, with_piece, cumulative_from, checked_cumulative}
+use Rattle.nf_load_def.specs.Cumulative.{piece_end, point_if_after_0, with_piece, cumulative_from, checked_cumulative}
 use Rattle.nf_curve.proofs.Exits.{was_ok}
 use Rattle.nf_load.specs.Rates.{rate_if_after_0}
 use Rattle.nf_load.proofs.Supplying.{within_next, begins_with, ends_before_at, ends_there, goes_on_at, stops_at, one_on}
@@ -66,10 +66,10 @@ loop-index-preserved c =
     let g = slice_get_read c.args.pieces.now _ c.loop-index.index c.index-pieces-index.result refl inside c.index-pieces-index.is in
     let below : lt_ℚ c.index-pieces-index.result.start c.args.last ≡ true =
     sym (c.is_below.ensures ∙ ap (λ (p : Piece). lt_ℚ p.start c.args.last) c.piece.view_is) ∙ c.if-not-is_below.false in
-    let end : c.end_of.result ≡ end_of (drop (c.loop-index.index + 1) c.args.pieces.now) c.args.last =
-    c.end_of.ensures ∙ ap (λ (l : List Piece). end_of l c.args.last) (take_rest c.args.pieces.now (c.loop-index.index + 1)) in
+    let end : c.end_of.result ≡ piece_end (drop (c.loop-index.index + 1) c.args.pieces.now) c.args.last =
+    c.end_of.ensures ∙ ap (λ (l : List Piece). piece_end l c.args.last) (take_rest c.args.pieces.now (c.loop-index.index + 1)) in
     let sum : at_part Load (with_piece passes_Q c.loop-index.so_far c.index-pieces-index.result
-    (end_of (drop (c.loop-index.index + 1) c.args.pieces.now) c.args.last)) ≡ Ok c.in_ok-sum.sum =
+    (piece_end (drop (c.loop-index.index + 1) c.args.pieces.now) c.args.last)) ≡ Ok c.in_ok-sum.sum =
     ap (λ (z : ℚ). at_part Load (with_piece passes_Q c.loop-index.so_far c.index-pieces-index.result z)) (sym end) ∙ sym c.in_ok-sum.ensures in
     record {
       points =
@@ -79,13 +79,13 @@ loop-index-preserved c =
           (c.loop-index.index + 1) c.index-pieces-index.result
           g (one_on c.loop-index.index) c.loop-index.invariant.points c.in_ok-sum.sum below sum;
       rates = subst (λ (p : Piece). RatesSoFar c.push.new.self.points.items c.push.new.self.rates.items c.in_ok-sum.sum p.rate
-          (end_of (drop (c.loop-index.index + 1) c.args.pieces.now) c.args.last))
+          (piece_end (drop (c.loop-index.index + 1) c.args.pieces.now) c.args.last))
           (sym c.piece.view_is) (next_rates c.args.pieces.now c.loop-index.index
           (c.loop-index.index + 1) c.index-pieces-index.result c.args.last c.loop-index.so_far c.in_ok-sum.sum _ _ c.requires g
           (one_on c.loop-index.index)
           below (subst (λ (p : Piece). is_wide (bound_of 127) p.rate ≡ false) c.piece.view_is c.recall-in-loop-index-2.ensures)
           (was_ok Load (with_piece passes_Q c.loop-index.so_far c.index-pieces-index.result
-          (end_of (drop (c.loop-index.index + 1) c.args.pieces.now) c.args.last)) c.in_ok-sum.sum sum)
+          (piece_end (drop (c.loop-index.index + 1) c.args.pieces.now) c.args.last)) c.in_ok-sum.sum sum)
           (pushed_rates c.loop-index.supply.points.items _ c.loop-index.supply.rates.items _ c.loop-index.so_far c.loop-index.rate
           c.index-pieces-index.result.start (subst (λ (p : Piece). is_wide (bound_of 127) p.start ≡ false) c.piece.view_is
           c.recall-in-loop-index.ensures)
@@ -129,8 +129,8 @@ returns-in_err-sum-clause-list c =
     let g = slice_get_read c.args.pieces.now _ c.loop-index.index c.index-pieces-index.result refl inside c.index-pieces-index.is in
     let below : lt_ℚ c.index-pieces-index.result.start c.args.last ≡ true =
     sym (c.is_below.ensures ∙ ap (λ (p : Piece). lt_ℚ p.start c.args.last) c.piece.view_is) ∙ c.if-not-is_below.false in
-    let end : c.end_of.result ≡ end_of (drop (c.loop-index.index + 1) c.args.pieces.now) c.args.last =
-    c.end_of.ensures ∙ ap (λ (l : List Piece). end_of l c.args.last) (take_rest c.args.pieces.now (c.loop-index.index + 1)) in
+    let end : c.end_of.result ≡ piece_end (drop (c.loop-index.index + 1) c.args.pieces.now) c.args.last =
+    c.end_of.ensures ∙ ap (λ (l : List Piece). piece_end l c.args.last) (take_rest c.args.pieces.now (c.loop-index.index + 1)) in
     rw (p.1, p.2) (stops_at passes_Q Load c.loop-index.supply.points.items c.loop-index.so_far c.args.last c.args.pieces.now c.loop-index.index
     (c.loop-index.index + 1) c.index-pieces-index.result
     g (one_on c.loop-index.index) c.loop-index.invariant.points c.in_err-sum.field-0.0 below

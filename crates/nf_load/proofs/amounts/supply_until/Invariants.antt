@@ -1,7 +1,7 @@
 use Rattle.std.proofs.Common.{◌≡◌, drop}
 use Rattle.nf_frac_def.specs.Passing.{passes_Q}
 use Rattle.nf_frac_def.proofs.Each.{with_front}
-use Rattle.nf_load_def.specs.Cumulative.{end_of, cumulative_from, checked_cumulative}
+use Rattle.nf_load_def.specs.Cumulative.{piece_end, cumulative_from, checked_cumulative}
 use Rattle.nf_load.proofs.RatesInTurn.{RatesSoFar}
 use Rattle.nf_load.proofs.amounts.supply_until.Given as goal
 
@@ -9,5 +9,5 @@ use Rattle.nf_load.proofs.amounts.supply_until.Given as goal
 abbrev pub invariant-loop-index : goal.invariant-loop-index
 invariant-loop-index l = record {
   points : with_front l.supply.points.items (cumulative_from passes_Q l.so_far (drop l.index l.pieces) l.last) ≡ checked_cumulative passes_Q l.pieces l.last;
-  rates : RatesSoFar l.supply.points.items l.supply.rates.items l.so_far l.rate (end_of (drop l.index l.pieces) l.last);
+  rates : RatesSoFar l.supply.points.items l.supply.rates.items l.so_far l.rate (piece_end (drop l.index l.pieces) l.last);
 }

@@ -10,7 +10,7 @@ use Rattle.nf_curve.specs.declared.curve.Curve.{Curve}
 use Rattle.nf_load_def.specs.Loading.{Exit, queue_point}
 use Rattle.nf_load.specs.InSteps.{moments_of}
 use Rattle.nf_load.specs.Paces.{change_of}
-use Rattle.nf_load.specs.Slopes.{AreSlopes}
+use Rattle.nf_load.specs.Slopes.{AreKnownSlopes}
 use Rattle.nf_load.proofs.curves.queue_curve.Goals as goal
 
 fused : (all : List Exit) → map queue_point (moments_of all) ≡ map (λ (one : Exit). queue_point one.waits) all
@@ -22,7 +22,7 @@ known_short-requires-clause-curve c = rw (c.deref.ensures.value, c.in_ok-points.
 pub known_short-requires-clause-slopes : goal.known_short-requires-clause-slopes
 known_short-requires-clause-slopes c =
     rw (c.deref.ensures.value, c.deref-2.ensures.value, c.in_ok-points.ensures, c.in_ok-slopes.ensures)
-    (subst (λ (l : List Point). AreSlopes l (map (option_map change_of) c.args.paces.now)) (fused c.args.all.now) c.requires.slopes)
+    (subst (λ (l : List Point). AreKnownSlopes l (map (option_map change_of) c.args.paces.now)) (fused c.args.all.now) c.requires.slopes)
 
 pub returns : goal.returns
 returns c =

@@ -7,7 +7,7 @@ use Rattle.nf_frac_def.specs.Checked.{Gives, at_part, each}
 use Rattle.nf_load_def.specs.Loading as lists
 use Rattle.nf_load_def.specs.Loading.{Exit, Waits, exit_of, all_waits}
 use Rattle.nf_curve.proofs.Exits.{stops_on, was_ok}
-use Rattle.nf_load.specs.InSteps.{AreCurves, behind_cut, moments_of, until_transit}
+use Rattle.nf_load.specs.InSteps.{AreLoadCurves, behind_cut, moments_of, until_transit}
 use Rattle.nf_load.specs.Loadings.{loaded_of}
 use Rattle.nf_load.specs.Paces.{ArePaces}
 use Rattle.nf_load.specs.declared.loading.Loaded.{Loaded}
@@ -47,7 +47,7 @@ pub curves_until-requires-clause-curves : goal.curves_until-requires-clause-curv
 curves_until-requires-clause-curves c =
     let same = same_moments c.args.capacity c.args.transit c.deref.result.now c.in_ok-waits.field-0.waits.items c.in_ok-exits.exits.items c.deref.ensures.value c.in_ok-exits.ensures in
     let all = all_are c.args.capacity c.args.transit c.deref.result.now c.in_ok-waits.field-0.waits.items c.in_ok-exits.exits.items c.deref.ensures.value c.in_ok-exits.ensures in
-    rw c.deref-3.ensures.value (subst (λ (l : List Waits). AreCurves l c.in_ok-exits.exits.items) (sym same)
+    rw c.deref-3.ensures.value (subst (λ (l : List Waits). AreLoadCurves l c.in_ok-exits.exits.items) (sym same)
     (are_curves passes_Q Load c.args.transit c.args.capacity c.args.cut.now.points c.args.until c.in_ok-waits.field-0.waits.items c.in_ok-waits.ensures.list
     c.in_ok-exits.exits.items all c.requires.curves))
 

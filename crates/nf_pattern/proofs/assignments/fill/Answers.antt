@@ -1,7 +1,7 @@
 use Rattle.std.proofs.Common.{◌≡◌, ap, refl, sym, ◌∙◌, arith, get_or, length, ◌+◌, ◌-◌, ◌<◌, ◌≤◌, false, subst, ℕ, suc, drop}
 use Rattle.std.specs.Prelude.{Some, None}
 use Rattle.nf_model.specs.Pattern.{Pattern}
-use Rattle.nf_pattern.specs.Successor.{change, fits, choices, first_good, free}
+use Rattle.nf_pattern.specs.Successor.{change, fits_count, choices, first_good, free}
 use Rattle.nf_pattern.proofs.Filling.{none_filled, all_filled, rest_free, has_choice, more_filled, idle_filled, no_state, rest_filled}
 use Rattle.nf_pattern.proofs.Quiet.{quiet_rest, quiet_end}
 use Rattle.nf_pattern.proofs.assignments.fill.Goals as goal
@@ -22,9 +22,9 @@ loop-i-preserved c =
     rest_free c.args.base.now c.args.unbounded.now c.args.changes c.loop-i.states c.loop-i.i c.loop-i.left c.loop-i.later _ _ c.loop-i.invariant.filled
     below c.requires.unbounded None refl false refl c.saturating_sub-later.result less in
     let small : c.saturating_sub-later.result ≤ c.args.more = (let s = c.loop-i.invariant.small in omega arith) in
-    let chosen : c.first_choice.result ≡ first_good (fits (get_or c.args.base.now c.loop-i.i None) c.loop-i.left
+    let chosen : c.first_choice.result ≡ first_good (fits_count (get_or c.args.base.now c.loop-i.i None) c.loop-i.left
     (free (drop (suc c.loop-i.i) c.args.base.now))) (choices (get_or c.args.base.now c.loop-i.i None) (get_or c.args.unbounded.now c.loop-i.i false)) =
-    subst (λ (m : ℕ). c.first_choice.result ≡ first_good (fits (get_or c.args.base.now c.loop-i.i None) c.loop-i.left m)
+    subst (λ (m : ℕ). c.first_choice.result ≡ first_good (fits_count (get_or c.args.base.now c.loop-i.i None) c.loop-i.left m)
     (choices (get_or c.args.base.now c.loop-i.i None) (get_or c.args.unbounded.now c.loop-i.i false))) is_more c.first_choice.ensures in
     record {
       filled = elim c.match-first_choice.branch [

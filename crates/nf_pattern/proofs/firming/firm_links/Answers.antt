@@ -1,6 +1,6 @@
 use Rattle.std.proofs.Common.{ℕ, List, Bool, length, ap, refl, sym, subst, length-set, ◌∙◌, ◌+◌, arith}
 use Rattle.nf_pattern.specs.Forest.{NoneCloses}
-use Rattle.nf_pattern.specs.Walking.{Holds}
+use Rattle.nf_pattern.specs.Walking.{IsTightStack}
 use Rattle.nf_pattern.proofs.Calming.{AreMarked, calm_marked, marked_none, marked_set}
 use Rattle.nf_pattern.proofs.firming.firm_links.Goals as goal
 
@@ -20,7 +20,7 @@ returns-then-not-enter_by_walk c p = calm_marked c.args.hops.now c.args.base.now
 
 pub loop-e-preserved : goal.loop-e-preserved
 loop-e-preserved c = record {
-  holds = subst (λ (n : ℕ). Holds c.args.hops.now c.args.base.now n c.enter_by_walk.new.self) (omega arith) c.if-not-enter_by_walk.ensures.0;
+  holds = subst (λ (n : ℕ). IsTightStack c.args.hops.now c.args.base.now n c.enter_by_walk.new.self) (omega arith) c.if-not-enter_by_walk.ensures.0;
   clear = subst (λ (n : ℕ). NoneCloses c.args.hops.now c.args.base.now n) (omega arith) c.if-not-enter_by_walk.ensures.1;
   count = ap (λ (flags : List Bool). length flags) c.mark.ensures ∙ (length-set c.loop-e.firm.flags.items c.loop-e.e c.is_tight.result ∙ c.loop-e.invariant.count);
   marked = subst (λ (flags : List Bool). AreMarked c.args.base.now (c.loop-e.e + 1) flags) (sym c.mark.ensures)

@@ -1,13 +1,13 @@
 use Rattle.std.proofs.Common.{◌≡◌, length}
 use Rattle.nf_pattern.specs.Forest.{NoneCloses}
-use Rattle.nf_pattern.specs.Walking.{Holds}
+use Rattle.nf_pattern.specs.Walking.{IsTightStack}
 use Rattle.nf_pattern.proofs.Calming.{AreMarked}
 use Rattle.nf_pattern.proofs.firming.firm_links.Given as goal
 
 -- The links so far close no cycle, and the Tight ones are flagged.
 abbrev pub invariant-loop-e : goal.invariant-loop-e
 invariant-loop-e l = record {
-  holds : Holds l.fn.hops l.fn.base l.e l.tight;
+  holds : IsTightStack l.fn.hops l.fn.base l.e l.tight;
   clear : NoneCloses l.fn.hops l.fn.base l.e;
   count : length l.firm.flags.items ≡ length l.fn.hops;
   marked : AreMarked l.fn.base l.e l.firm.flags.items;

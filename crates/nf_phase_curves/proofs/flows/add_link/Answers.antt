@@ -1,6 +1,6 @@
 use Rattle.std.proofs.Common.{◌∙◌, [], ◌∷◌, ap, map}
 use Rattle.std.proofs.lemmas.List.{map-append}
-use Rattle.nf_curve.specs.Flows.{trace_of}
+use Rattle.nf_curve.specs.Flows.{seen_trace}
 use Rattle.nf_curve.specs.Points.{Grown}
 use Rattle.nf_phase_curves.proofs.Places.{nothing_given}
 use Rattle.nf_phase_curves.proofs.flows.add_link.Goals as goal
@@ -18,7 +18,7 @@ pub returns : goal.returns
 returns c = λ i. record {
   reached = c.args.flow.now.reached;
   labels = map (λ (g : Grown). g.points) c.args.flow.now.labels.items;
-  inflows = (ap (map trace_of) c.in_ok-push.ensures.items ∙ map-append trace_of c.args.flow.now.inflows.items (c.args.link.inflow ∷ [])) i;
-  outflows = (ap (map trace_of) c.in_ok-push-2.ensures.items ∙ map-append trace_of c.args.flow.now.outflows.items (c.args.link.outflow ∷ [])) i;
+  inflows = (ap (map seen_trace) c.in_ok-push.ensures.items ∙ map-append seen_trace c.args.flow.now.inflows.items (c.args.link.inflow ∷ [])) i;
+  outflows = (ap (map seen_trace) c.in_ok-push-2.ensures.items ∙ map-append seen_trace c.args.flow.now.outflows.items (c.args.link.outflow ∷ [])) i;
   queues = (ap (map (λ (g : Grown). g.points)) c.in_ok-push-3.ensures.items ∙ map-append (λ (g : Grown). g.points) c.args.flow.now.queues.items (c.args.link.queue ∷ [])) i;
 }

@@ -1,7 +1,7 @@
 use Rattle.std.proofs.Common.{◌∙◌, List, [], ◌∷◌, ◌++◌, take, refl, ap}
 use Rattle.std.proofs.lemmas.List.{take_all}
 use Rattle.std.proofs.lemmas.Option.{slice_get_read}
-use Rattle.nf_curve.specs.Flows.{trace_of, flow_of}
+use Rattle.nf_curve.specs.Flows.{seen_trace, seen_flow}
 use Rattle.nf_thin_def.specs.ReportCurves.{LinkCurves}
 use Rattle.nf_pattern.proofs.Each.{take_pushed}
 use Rattle.nf_phase_curves.specs.Growing.{Roomy, all_grown}
@@ -16,8 +16,8 @@ pub loop-curves-preserved : goal.loop-curves-preserved
 loop-curves-preserved c =
     let so_far = take c.loop-curves.curves-index c.args.links.now in
     let at = slice_get_read c.args.links.now _ c.loop-curves.curves-index c.curves-item.result refl c.loop-curves-test.true c.curves-item.is in
-    one_more_link c.args.reached (all_grown c.args.labels.now) so_far c.curves-item.result (flow_of c.loop-curves.flow) (flow_of c.add_link.new.flow)
-    (trace_of c.in_ok-link.link.inflow) (trace_of c.in_ok-link.link.outflow) c.in_ok-link.link.queue.points c.loop-curves.invariant
+    one_more_link c.args.reached (all_grown c.args.labels.now) so_far c.curves-item.result (seen_flow c.loop-curves.flow) (seen_flow c.add_link.new.flow)
+    (seen_trace c.in_ok-link.link.inflow) (seen_trace c.in_ok-link.link.outflow) c.in_ok-link.link.queue.points c.loop-curves.invariant
     c.in_ok-link.ensures.inflow c.in_ok-link.ensures.outflow c.in_ok-link.ensures.queue c.in_ok-add_link.ensures
     ∙ ap (λ (l : List (Roomy LinkCurves)). flow_so_far c.args.reached (all_grown c.args.labels.now) (all_grown l))
     (take_pushed c.args.links.now so_far (so_far ++ c.curves-item.result ∷ []) c.loop-curves.curves-index c.curves-item.result at refl refl)

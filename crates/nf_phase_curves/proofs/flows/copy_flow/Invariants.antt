@@ -1,8 +1,8 @@
 use Rattle.std.proofs.Common.{◌≡◌, take}
-use Rattle.nf_curve.specs.Flows.{flow_of}
+use Rattle.nf_curve.specs.Flows.{seen_flow}
 use Rattle.nf_phase_curves.specs.Growing.{all_grown}
 use Rattle.nf_phase_curves.specs.Flows.{flow_so_far}
 use Rattle.nf_phase_curves.proofs.flows.copy_flow.Given as goal
 
 abbrev pub invariant-loop-curves : goal.invariant-loop-curves
-invariant-loop-curves l = flow_of l.flow ≡ flow_so_far l.fn.reached (all_grown l.fn.labels) (all_grown (take l.curves-index l.links))
+invariant-loop-curves l = seen_flow l.flow ≡ flow_so_far l.fn.reached (all_grown l.fn.labels) (all_grown (take l.curves-index l.links))

@@ -1,5 +1,5 @@
 use Rattle.std.proofs.Common.{[], ◌∙◌}
-use Rattle.nf_curve.specs.Flows.{trace_of, flow_of}
+use Rattle.nf_curve.specs.Flows.{seen_trace, seen_flow}
 use Rattle.nf_phase_curves.specs.Growing.{all_grown}
 use Rattle.nf_phase_curves.proofs.LinkFlows.{one_more_link}
 use Rattle.nf_phase_curves.proofs.flows.finish_flow.Goals as goal
@@ -9,6 +9,6 @@ loop-curves-init c = c.without_links-flow.ensures ∙ (λ i. record { reached = 
 
 pub loop-curves-preserved : goal.loop-curves-preserved
 loop-curves-preserved c =
-    one_more_link c.args.reached (all_grown c.args.labels.items) c.loop-curves.yielded c.in-Some.curves (flow_of c.loop-curves.flow) (flow_of c.add_link.new.flow)
-    (trace_of c.in_ok-link.link.inflow) (trace_of c.in_ok-link.link.outflow) c.in_ok-link.link.queue.points c.loop-curves.invariant
+    one_more_link c.args.reached (all_grown c.args.labels.items) c.loop-curves.yielded c.in-Some.curves (seen_flow c.loop-curves.flow) (seen_flow c.add_link.new.flow)
+    (seen_trace c.in_ok-link.link.inflow) (seen_trace c.in_ok-link.link.outflow) c.in_ok-link.link.queue.points c.loop-curves.invariant
     c.in_ok-link.ensures.inflow c.in_ok-link.ensures.outflow c.in_ok-link.ensures.queue c.in_ok-add_link.ensures

@@ -1,6 +1,6 @@
 use Rattle.std.proofs.Common.{sym, ap, ◌∙◌}
 use Rattle.nf_model.specs.Network.{Link}
-use Rattle.nf_thin_def.specs.ReportCurves.{trace_after, queue_after}
+use Rattle.nf_thin_def.specs.ReportCurves.{trace_after, queue_curve_after}
 use Rattle.nf_phase_curves.proofs.AtLabels.{number_read, ends_before}
 use Rattle.nf_phase_curves.proofs.link_growth.extend_link.Goals as goal
 
@@ -35,5 +35,5 @@ returns c =
     ∙ (λ i. record {
       inflow = trace_after c.args.curves.now.grown.inflow (sym tail i) c.args.step.now.amount c.args.step.now.inflow_rate;
       outflow = trace_after c.args.curves.now.grown.outflow (sym head i) c.args.step.now.amount c.args.step.now.outflow_rate;
-      queue = queue_after c.args.curves.now.grown.queue (sym tail i) c.args.step.now.queue;
+      queue = queue_curve_after c.args.curves.now.grown.queue (sym tail i) c.args.step.now.queue;
     })

@@ -2,7 +2,7 @@ use Rattle.std.proofs.Common.{◌≡◌, ◌<◌, ℕ, List, length, Some, sym, 
 use Rattle.std.proofs.lemmas.Option.{slice_get_within}
 use Rattle.std.proofs.lemmas.Result.{err_from_is_err_and}
 use Rattle.nf_model.specs.Network.{Link}
-use Rattle.nf_quick_walks.specs.Ways.{Ways, way_at, LeadsToNew, NoneLeadsOn, AreWays}
+use Rattle.nf_quick_walks.specs.Ways.{Ways, walk_to, LeadsToNew, NoneLeadsOn, AreWays}
 use Rattle.nf_quick_walks.proofs.GrowingWays.{unknown, ways_first, fewer, ways_more, all_known}
 use Rattle.nf_quick_walks.proofs.unbounded.all_ways.Goals as goal
 
@@ -12,9 +12,9 @@ loop-link-init c = ways_first c.args.net.now.net c.recall.ensures.network c.in_o
 pub loop-link-smaller : goal.loop-link-smaller
 loop-link-smaller c =
     let on = subst (λ (w : Ways). LeadsToNew c.args.net.now.net w c.in-Some.link) c.deref.ensures.value c.in-Some.ensures in
-    let long = λ (way : List ℕ) (f : way_at c.loop-link.ways.items c.link-here.result.tail ≡ Some way). c.in_ok-way.ensures way
-    (ap (λ (w : Ways). way_at w c.here.inside.tail) c.deref-in-Some.ensures.value
-    ∙ ap (λ (l : Link). way_at c.loop-link.ways.items l.tail) c.here.view_is ∙ f) in
+    let long = λ (way : List ℕ) (f : walk_to c.loop-link.ways.items c.link-here.result.tail ≡ Some way). c.in_ok-way.ensures way
+    (ap (λ (w : Ways). walk_to w c.here.inside.tail) c.deref-in-Some.ensures.value
+    ∙ ap (λ (l : Link). walk_to c.loop-link.ways.items l.tail) c.here.view_is ∙ f) in
     subst (λ (w : Ways). unknown w < unknown c.loop-link.ways.items) (sym c.put.ensures)
     (fewer c.args.net.now.net c.recall.ensures.network c.loop-link.ways.items c.loop-link.invariant c.in-Some.link on c.link-here.result
     c.link-here.ensures.link c.in_ok-way.way long c.here.inside.head (ap (λ (l : Link). l.head) c.here.view_is))
@@ -22,9 +22,9 @@ loop-link-smaller c =
 pub loop-link-preserved : goal.loop-link-preserved
 loop-link-preserved c =
     let on = subst (λ (w : Ways). LeadsToNew c.args.net.now.net w c.in-Some.link) c.deref.ensures.value c.in-Some.ensures in
-    let long = λ (way : List ℕ) (f : way_at c.loop-link.ways.items c.link-here.result.tail ≡ Some way). c.in_ok-way.ensures way
-    (ap (λ (w : Ways). way_at w c.here.inside.tail) c.deref-in-Some.ensures.value
-    ∙ ap (λ (l : Link). way_at c.loop-link.ways.items l.tail) c.here.view_is ∙ f) in
+    let long = λ (way : List ℕ) (f : walk_to c.loop-link.ways.items c.link-here.result.tail ≡ Some way). c.in_ok-way.ensures way
+    (ap (λ (w : Ways). walk_to w c.here.inside.tail) c.deref-in-Some.ensures.value
+    ∙ ap (λ (l : Link). walk_to c.loop-link.ways.items l.tail) c.here.view_is ∙ f) in
     subst (λ (w : Ways). AreWays c.args.net.now.net w) (sym c.put.ensures)
     (ways_more c.args.net.now.net c.recall.ensures.network c.loop-link.ways.items c.loop-link.invariant c.in-Some.link on c.link-here.result
     c.link-here.ensures.link c.in_ok-way.way long c.here.inside.head (ap (λ (l : Link). l.head) c.here.view_is))

@@ -1,7 +1,7 @@
 use Rattle.std.proofs.Common.{List, [], ◌++◌, ◌∙◌, append-nil}
 use Rattle.std.specs.Option.{option_copied}
 use Rattle.nf_net_def.specs.Report.{Report, report_lines}
-use Rattle.nf_curve.specs.Flows.{flow_of}
+use Rattle.nf_curve.specs.Flows.{seen_flow}
 use Rattle.nf_report_pages.specs.Written.{Line}
 use Rattle.nf_report_pages.proofs.Gathering.{gathered_next, gathered_failed, gathered_then_failed, gathered_written, parts_refused}
 use Rattle.nf_report.proofs.Whole.{head_of, body_of, whole}
@@ -16,7 +16,7 @@ put_body-requires-clause-states g c = c.requires.states
 pub returns-in_err-put_head-clause-wrote : goal.returns-in_err-put_head-clause-wrote
 returns-in_err-put_head-clause-wrote g c =
     let n = c.args.net.now in
-    let report : Report = record { horizon = c.args.horizon; flow = flow_of c.args.flow.now; stop = option_copied c.args.stopped; last = c.args.last.now } in
+    let report : Report = record { horizon = c.args.horizon; flow = seen_flow c.args.flow.now; stop = option_copied c.args.stopped; last = c.args.last.now } in
     parts_refused _ _ _ _ c.new-page.ensures c.from_residual.ensures.0
     (gathered_failed (head_of n report) (body_of n report) (report_lines n report) _ (whole n report) c.from_residual.ensures.0 c.in_err-put_head.ensures)
 
@@ -26,7 +26,7 @@ returns-in_err-put_head-clause-reads_back g c = c.written_reads_back.ensures.rea
 pub returns-in_err-put_body-clause-wrote : goal.returns-in_err-put_body-clause-wrote
 returns-in_err-put_body-clause-wrote g c =
     let n = c.args.net.now in
-    let report : Report = record { horizon = c.args.horizon; flow = flow_of c.args.flow.now; stop = option_copied c.args.stopped; last = c.args.last.now } in
+    let report : Report = record { horizon = c.args.horizon; flow = seen_flow c.args.flow.now; stop = option_copied c.args.stopped; last = c.args.last.now } in
     let both : List Line = head_of n report ++ body_of n report in
     parts_refused _ _ _ _ c.new-page.ensures c.from_residual-in_err-put_body.ensures.0
     (gathered_then_failed (head_of n report) (body_of n report) [] (report_lines n report) _ (append-nil both ∙ whole n report) c.from_residual-in_err-put_body.ensures.0
@@ -38,7 +38,7 @@ returns-in_err-put_body-clause-reads_back g c = c.written_reads_back.ensures.rea
 pub returns-clause-wrote : goal.returns-clause-wrote
 returns-clause-wrote g c =
     let n = c.args.net.now in
-    let report : Report = record { horizon = c.args.horizon; flow = flow_of c.args.flow.now; stop = option_copied c.args.stopped; last = c.args.last.now } in
+    let report : Report = record { horizon = c.args.horizon; flow = seen_flow c.args.flow.now; stop = option_copied c.args.stopped; last = c.args.last.now } in
     gathered_written _ _ _ _ c.new-page.ensures c.as_slice.ensures.value
     (gathered_next (head_of n report) (body_of n report) (report_lines n report) (whole n report) c.in_ok-put_head.ensures c.in_ok-put_body.ensures) c.write_text.ensures
 

@@ -1,7 +1,7 @@
 use Rattle.std.proofs.Common.{◌≤◌, [], ◌∷◌, ◌+◌, length, take, drop, suc, ap, arith}
 use Rattle.std.proofs.lemmas.List.{take_all}
 use Rattle.nf_net_def.specs.Report.{point_lines}
-use Rattle.nf_report_pages.specs.Written.{point_line}
+use Rattle.nf_report_pages.specs.Written.{written_point}
 use Rattle.nf_report_pages.proofs.Parts.{point_lines_next, point_lines_left}
 use Rattle.nf_report_pages.proofs.Gathering.{gathered_nil, gathered_next, gathered_then_failed, same_gathered}
 use Rattle.nf_report_pages.proofs.curves.put_curve.Goals as goal
@@ -11,14 +11,14 @@ loop-index-init g c = gathered_nil
 
 pub loop-index-preserved : goal.loop-index-preserved
 loop-index-preserved g c =
-    gathered_next (point_lines c.args.key.now c.args.name.now (take c.loop-index.index c.args.curve.now.points)) (point_line c.args.key.now c.args.name.now c.point.result ∷ [])
+    gathered_next (point_lines c.args.key.now c.args.name.now (take c.loop-index.index c.args.curve.now.points)) (written_point c.args.key.now c.args.name.now c.point.result ∷ [])
     (point_lines c.args.key.now c.args.name.now (take (c.loop-index.index + 1) c.args.curve.now.points))
     (point_lines_next c.args.key.now c.args.name.now c.args.curve.now.points c.loop-index.index c.point.result c.point.ensures)
     c.loop-index.invariant c.in_ok-put_point.ensures
 
 pub returns-in_err-put_point : goal.returns-in_err-put_point
 returns-in_err-put_point g c =
-    gathered_then_failed (point_lines c.args.key.now c.args.name.now (take c.loop-index.index c.args.curve.now.points)) (point_line c.args.key.now c.args.name.now c.point.result ∷ [])
+    gathered_then_failed (point_lines c.args.key.now c.args.name.now (take c.loop-index.index c.args.curve.now.points)) (written_point c.args.key.now c.args.name.now c.point.result ∷ [])
     (point_lines c.args.key.now c.args.name.now (drop (suc c.loop-index.index) c.args.curve.now.points)) (point_lines c.args.key.now c.args.name.now c.args.curve.now.points) _
     (point_lines_left c.args.key.now c.args.name.now c.args.curve.now.points c.loop-index.index c.point.result c.point.ensures)
     c.from_residual.ensures.0 c.loop-index.invariant c.in_err-put_point.ensures

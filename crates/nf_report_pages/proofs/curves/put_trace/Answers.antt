@@ -3,7 +3,7 @@ use Rattle.std.proofs.lemmas.List.{take_all}
 use Rattle.std.specs.Prelude.{slice_get}
 use Rattle.nf_model.specs.Curve.{Point}
 use Rattle.nf_net_def.specs.Report.{trace_lines}
-use Rattle.nf_report_pages.specs.Written.{trace_line}
+use Rattle.nf_report_pages.specs.Written.{written_trace}
 use Rattle.nf_report_pages.proofs.Parts.{trace_lines_next, trace_lines_left}
 use Rattle.nf_report_pages.proofs.Gathering.{gathered_nil, gathered_next, gathered_then_failed, same_gathered}
 use Rattle.nf_report_pages.proofs.curves.put_trace.Goals as goal
@@ -17,7 +17,7 @@ loop-index-preserved g c =
     let points = c.args.trace.now.curve.points in
     let i = c.loop-index.index in
     let rate : c.rate_at.result ≡ slice_get rates i = c.rate_at.ensures ∙ ap (λ l. slice_get l i) c.deref.ensures.value in
-    gathered_next (trace_lines c.args.key.now c.args.name.now (take i points) rates) (trace_line c.args.key.now c.args.name.now c.point.result c.rate_at.result ∷ [])
+    gathered_next (trace_lines c.args.key.now c.args.name.now (take i points) rates) (written_trace c.args.key.now c.args.name.now c.point.result c.rate_at.result ∷ [])
     (trace_lines c.args.key.now c.args.name.now (take (i + 1) points) rates)
     (trace_lines_next c.args.key.now c.args.name.now points rates i c.point.result c.rate_at.result c.point.ensures rate)
     c.loop-index.invariant c.in_ok-put_rated_point.ensures
@@ -28,7 +28,7 @@ returns-in_err-put_rated_point g c =
     let points = c.args.trace.now.curve.points in
     let i = c.loop-index.index in
     let rate : c.rate_at.result ≡ slice_get rates i = c.rate_at.ensures ∙ ap (λ l. slice_get l i) c.deref.ensures.value in
-    gathered_then_failed (trace_lines c.args.key.now c.args.name.now (take i points) rates) (trace_line c.args.key.now c.args.name.now c.point.result c.rate_at.result ∷ [])
+    gathered_then_failed (trace_lines c.args.key.now c.args.name.now (take i points) rates) (written_trace c.args.key.now c.args.name.now c.point.result c.rate_at.result ∷ [])
     (trace_lines c.args.key.now c.args.name.now (drop (suc i) points) (drop (suc i) rates)) (trace_lines c.args.key.now c.args.name.now points rates) _
     (trace_lines_left c.args.key.now c.args.name.now points rates i c.point.result c.rate_at.result c.point.ensures rate)
     c.from_residual.ensures.0 c.loop-index.invariant c.in_err-put_rated_point.ensures

@@ -2,7 +2,7 @@ use Rattle.std.proofs.Common.{◌≡◌, ◌<◌, ◌++◌, length, List, ℕ, �
 use Rattle.std.specs.Prelude.{codes}
 use Rattle.nf_rational.specs.Rational.{ℚ}
 use Rattle.nf_model.specs.Equilibrium as model
-use Rattle.nf_curve.specs.Flows.{flow_of, trace_of}
+use Rattle.nf_curve.specs.Flows.{seen_flow, seen_trace}
 use Rattle.nf_net_def.specs.Names.{name_at}
 use Rattle.nf_net_def.specs.Report.{point_lines, trace_lines, link_lines}
 use Rattle.nf_report_pages.specs.Written.{Line}
@@ -20,8 +20,8 @@ returns g c =
     let inflows : c.args.link < length c.args.flow.now.inflows.items = omega arith in
     let outflows : c.args.link < length c.args.flow.now.outflows.items = omega arith in
     let queues : c.args.link < length c.args.flow.now.queues.items = omega arith in
-    same_gathered (lines_of c.as_bytes-name.result.now (trace_of c.index-inflow.result.now) (trace_of c.index-outflow.result.now) c.index-queue.result.now.points)
-    (link_lines c.args.net.now (flow_of c.args.flow.now) c.args.link)
+    same_gathered (lines_of c.as_bytes-name.result.now (seen_trace c.index-inflow.result.now) (seen_trace c.index-outflow.result.now) c.index-queue.result.now.points)
+    (link_lines c.args.net.now (seen_flow c.args.flow.now) c.args.link)
     (same_link lines_of _ _ _ _ _ _ _ _ name (trace_there c.args.flow.now.inflows.items c.args.link c.index-inflow.result.now c.index-inflow.ensures inflows)
     (trace_there c.args.flow.now.outflows.items c.args.link c.index-outflow.result.now c.index-outflow.ensures outflows)
     (points_there c.args.flow.now.queues.items c.args.link c.index-queue.result.now c.index-queue.ensures queues))

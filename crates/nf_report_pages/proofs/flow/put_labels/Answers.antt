@@ -1,7 +1,7 @@
 use Rattle.std.proofs.Common.{◌≡◌, ◌+◌, ◌<◌, take, drop, suc, arith}
 use Rattle.std.specs.Prelude.{flat_map}
 use Rattle.std.specs.List.{range_with_len}
-use Rattle.nf_curve.specs.Flows.{flow_of}
+use Rattle.nf_curve.specs.Flows.{seen_flow}
 use Rattle.nf_net_def.specs.Report.{label_lines}
 use Rattle.nf_net_def.specs.Report.{for_each}
 use Rattle.nf_report_pages.proofs.Parts.{each_next, each_left, each_all}
@@ -16,21 +16,21 @@ loop-node-preserved g c =
     let i = c.loop-node.node in
     let n = c.args.net.now.net.nodes in
     let below : i < n = omega arith in
-    gathered_next (flat_map (label_lines c.args.net.now (flow_of c.args.flow.now)) (take i (range_with_len 0 n)))
-    ((label_lines c.args.net.now (flow_of c.args.flow.now)) i) (flat_map (label_lines c.args.net.now (flow_of c.args.flow.now))
+    gathered_next (flat_map (label_lines c.args.net.now (seen_flow c.args.flow.now)) (take i (range_with_len 0 n)))
+    ((label_lines c.args.net.now (seen_flow c.args.flow.now)) i) (flat_map (label_lines c.args.net.now (seen_flow c.args.flow.now))
     (take (i + 1) (range_with_len 0 n)))
-    (each_next n (label_lines c.args.net.now (flow_of c.args.flow.now)) i below) c.loop-node.invariant c.in_ok-put_label.ensures
+    (each_next n (label_lines c.args.net.now (seen_flow c.args.flow.now)) i below) c.loop-node.invariant c.in_ok-put_label.ensures
 
 pub returns-in_err-put_label : goal.returns-in_err-put_label
 returns-in_err-put_label g c =
     let i = c.loop-node.node in
     let n = c.args.net.now.net.nodes in
     let below : i < n = omega arith in
-    gathered_then_failed (flat_map (label_lines c.args.net.now (flow_of c.args.flow.now)) (take i (range_with_len 0 n)))
-    ((label_lines c.args.net.now (flow_of c.args.flow.now)) i) (flat_map (label_lines c.args.net.now (flow_of c.args.flow.now))
+    gathered_then_failed (flat_map (label_lines c.args.net.now (seen_flow c.args.flow.now)) (take i (range_with_len 0 n)))
+    ((label_lines c.args.net.now (seen_flow c.args.flow.now)) i) (flat_map (label_lines c.args.net.now (seen_flow c.args.flow.now))
     (drop (suc i) (range_with_len 0 n)))
-    (for_each n (label_lines c.args.net.now (flow_of c.args.flow.now))) _
-    (each_left n (label_lines c.args.net.now (flow_of c.args.flow.now)) i below) c.from_residual.ensures.0 c.loop-node.invariant
+    (for_each n (label_lines c.args.net.now (seen_flow c.args.flow.now))) _
+    (each_left n (label_lines c.args.net.now (seen_flow c.args.flow.now)) i below) c.from_residual.ensures.0 c.loop-node.invariant
     c.in_err-put_label.ensures
 
 pub returns : goal.returns
@@ -38,6 +38,6 @@ returns g c =
     let i = c.loop-node.node in
     let n = c.args.net.now.net.nodes in
     let end : i ≡ n = omega arith in
-    same_gathered (flat_map (label_lines c.args.net.now (flow_of c.args.flow.now)) (take i (range_with_len 0 n)))
-    (for_each n (label_lines c.args.net.now (flow_of c.args.flow.now)))
-    (each_all n (label_lines c.args.net.now (flow_of c.args.flow.now)) i end) c.loop-node.invariant
+    same_gathered (flat_map (label_lines c.args.net.now (seen_flow c.args.flow.now)) (take i (range_with_len 0 n)))
+    (for_each n (label_lines c.args.net.now (seen_flow c.args.flow.now)))
+    (each_all n (label_lines c.args.net.now (seen_flow c.args.flow.now)) i end) c.loop-node.invariant

@@ -1,11 +1,11 @@
-use Rattle.nf_curve.specs.Flows.{trace_of}
+use Rattle.nf_curve.specs.Flows.{seen_trace}
 use Rattle.nf_curve.specs.declared.flow.Trace.{Trace}
 use Rattle.nf_report_laws.specs.Readable.{IsFractionTrace}
 use Rattle.nf_report_pages.proofs.Entries.{one_read, up_to_end, all_image}
 use Rattle.nf_report_pages.proofs.known.know_traces.Goals as goal
 
 abbrev HasFractions : Trace → Type 0
-HasFractions trace = IsFractionTrace (trace_of trace)
+HasFractions trace = IsFractionTrace (seen_trace trace)
 
 pub loop-trace-preserved : goal.loop-trace-preserved
 loop-trace-preserved c =
@@ -13,5 +13,5 @@ loop-trace-preserved c =
 
 pub returns : goal.returns
 returns c =
-    all_image IsFractionTrace HasFractions trace_of (λ trace h. h) c.args.traces.now
+    all_image IsFractionTrace HasFractions seen_trace (λ trace h. h) c.args.traces.now
     (up_to_end HasFractions c.args.traces.now c.loop-trace.trace-index c.loop-trace-test.false c.loop-trace.invariant)

@@ -4,7 +4,7 @@ use Rattle.std.specs.Option.{option_copied}
 use Rattle.nf_net_def.specs.Report.{Report}
 use Rattle.nf_report_def.specs.ReportFile.{report_in}
 use Rattle.nf_curve.specs.Points.{Grown}
-use Rattle.nf_curve.specs.Flows.{flow_of, trace_of}
+use Rattle.nf_curve.specs.Flows.{seen_flow, seen_trace}
 use Rattle.nf_curve.specs.declared.flow.Trace.{Trace}
 use Rattle.nf_report_laws.specs.Readable.{AreFractionPoints, IsFractionTrace}
 use Rattle.nf_report_laws.proofs.ReportBack.{report_back}
@@ -16,7 +16,7 @@ abbrev CurvesAre : List Grown → Type 0
 CurvesAre curves = AllByRecursion AreFractionPoints (map (λ curve. curve.points) curves)
 
 abbrev TracesAre : List Trace → Type 0
-TracesAre traces = AllByRecursion IsFractionTrace (map trace_of traces)
+TracesAre traces = AllByRecursion IsFractionTrace (map seen_trace traces)
 
 pub returns-clause-readable : goal.returns-clause-readable
 returns-clause-readable c = record {
@@ -31,11 +31,11 @@ returns-clause-readable c = record {
 
 pub returns-clause-reads_back : goal.returns-clause-reads_back
 returns-clause-reads_back c =
-    let report : Report = record { horizon = c.args.horizon; flow = flow_of c.args.flow.now; stop = option_copied c.args.stopped; last = c.args.last.now } in
+    let report : Report = record { horizon = c.args.horizon; flow = seen_flow c.args.flow.now; stop = option_copied c.args.stopped; last = c.args.last.now } in
     report_back c.args.net.now report c.recall.ensures (fit c.args.net.now report c.recall.ensures c.requires (returns-clause-readable c))
 
 pub returns-clause-only : goal.returns-clause-only
 returns-clause-only c other formed readable same =
-    let report : Report = record { horizon = c.args.horizon; flow = flow_of c.args.flow.now; stop = option_copied c.args.stopped; last = c.args.last.now } in
+    let report : Report = record { horizon = c.args.horizon; flow = seen_flow c.args.flow.now; stop = option_copied c.args.stopped; last = c.args.last.now } in
     same_Ok report other (sym (returns-clause-reads_back c) ∙ ap (report_in c.args.net.now) same
     ∙ report_back c.args.net.now other c.recall.ensures (fit c.args.net.now other c.recall.ensures formed readable))

@@ -4,7 +4,7 @@ use Rattle.nf_frac_def.specs.declared.Part.TheVariants.{Curve as OfCurve}
 use Rattle.nf_frac_def.specs.Passing.{passes_Q}
 use Rattle.nf_frac_def.specs.Checked.{at_part}
 use Rattle.nf_resume_def.specs.Resuming.{cut_short, cut_trace}
-use Rattle.nf_curve.specs.Flows.{trace_of}
+use Rattle.nf_curve.specs.Flows.{seen_trace}
 use Rattle.nf_curve.proofs.Exits.{after_err, after_ok, stops_on}
 use Rattle.nf_resume.specs.Cuts.{cut_ends}
 use Rattle.nf_resume.proofs.links.cut_link.Goals as goal
@@ -21,7 +21,7 @@ returns-in_err-outflow c =
     let p = err_from_is_err_and c.from_residual-in_err-outflow.result c.from_residual-in_err-outflow.ensures.1 in
     rw (p.1, p.2) (stops_on c.in_err-outflow.field-0.0 (at_part OfCurve (cut_trace passes_Q c.args.head c.args.outflow.now.curve.points))
     (at_part OfCurve (cut_ends passes_Q c.args.tail c.args.head c.args.inflow.now.curve.points c.args.outflow.now.curve.points c.args.queue.now.points))
-    (λ at e. after_ok OfCurve (cut_trace passes_Q c.args.tail c.args.inflow.now.curve.points) _ (trace_of c.in_ok-inflow.inflow) c.in_ok-inflow.ensures
+    (λ at e. after_ok OfCurve (cut_trace passes_Q c.args.tail c.args.inflow.now.curve.points) _ (seen_trace c.in_ok-inflow.inflow) c.in_ok-inflow.ensures
     ∙ after_err OfCurve (cut_trace passes_Q c.args.head c.args.outflow.now.curve.points) _ at e) c.in_err-outflow.ensures)
 
 pub returns-in_err-queue : goal.returns-in_err-queue
@@ -29,12 +29,12 @@ returns-in_err-queue c =
     let p = err_from_is_err_and c.from_residual-in_err-queue.result c.from_residual-in_err-queue.ensures.1 in
     rw (p.1, p.2) (stops_on c.in_err-queue.field-0.0 (at_part OfCurve (cut_short passes_Q c.args.tail c.args.queue.now.points))
     (at_part OfCurve (cut_ends passes_Q c.args.tail c.args.head c.args.inflow.now.curve.points c.args.outflow.now.curve.points c.args.queue.now.points))
-    (λ at e. after_ok OfCurve (cut_trace passes_Q c.args.tail c.args.inflow.now.curve.points) _ (trace_of c.in_ok-inflow.inflow) c.in_ok-inflow.ensures
-    ∙ after_ok OfCurve (cut_trace passes_Q c.args.head c.args.outflow.now.curve.points) _ (trace_of c.in_ok-outflow.outflow) c.in_ok-outflow.ensures
+    (λ at e. after_ok OfCurve (cut_trace passes_Q c.args.tail c.args.inflow.now.curve.points) _ (seen_trace c.in_ok-inflow.inflow) c.in_ok-inflow.ensures
+    ∙ after_ok OfCurve (cut_trace passes_Q c.args.head c.args.outflow.now.curve.points) _ (seen_trace c.in_ok-outflow.outflow) c.in_ok-outflow.ensures
     ∙ after_err OfCurve (cut_short passes_Q c.args.tail c.args.queue.now.points) _ at e) c.in_err-queue.ensures)
 
 pub returns : goal.returns
 returns c =
-    after_ok OfCurve (cut_trace passes_Q c.args.tail c.args.inflow.now.curve.points) _ (trace_of c.in_ok-inflow.inflow) c.in_ok-inflow.ensures
-    ∙ after_ok OfCurve (cut_trace passes_Q c.args.head c.args.outflow.now.curve.points) _ (trace_of c.in_ok-outflow.outflow) c.in_ok-outflow.ensures
+    after_ok OfCurve (cut_trace passes_Q c.args.tail c.args.inflow.now.curve.points) _ (seen_trace c.in_ok-inflow.inflow) c.in_ok-inflow.ensures
+    ∙ after_ok OfCurve (cut_trace passes_Q c.args.head c.args.outflow.now.curve.points) _ (seen_trace c.in_ok-outflow.outflow) c.in_ok-outflow.ensures
     ∙ after_ok OfCurve (cut_short passes_Q c.args.tail c.args.queue.now.points) _ c.in_ok-queue.queue.points c.in_ok-queue.ensures

@@ -10,13 +10,13 @@ use Rattle.nf_frac_def.specs.Passing.{passes_Q}
 use Rattle.nf_frac_def.specs.Checked.{Checked, Stops, at_part}
 use Rattle.nf_model.specs.Network.{Link}
 use Rattle.nf_model.specs.Equilibrium.{points_at}
-use Rattle.nf_curve.specs.Flows.{trace_of, flow_of}
+use Rattle.nf_curve.specs.Flows.{seen_trace, seen_flow}
 use Rattle.nf_phase_def.specs.Restoring.{value_at_end}
 use Rattle.nf_resume_def.specs.Resuming as lists
 use Rattle.nf_resume_def.specs.Resuming.{links_with, cut_link}
 use Rattle.nf_resume_laws.proofs.CutFlow.{links_with-length}
 use Rattle.nf_resume.specs.declared.links.CutLink.{CutLink}
-use Rattle.nf_resume.specs.Cuts.{curves_of, cut_in}
+use Rattle.nf_resume.specs.Cuts.{points_of_each, cut_in}
 use Rattle.nf_resume.proofs.Looping.{front_first, front_halts, front_goes, front_last}
 use Rattle.nf_resume.proofs.Ends.{link_cut}
 use Rattle.nf_resume.proofs.links.cut_links.Goals as goal
@@ -60,34 +60,34 @@ cut_link-requires-clause-head c =
 pub returns-in_err-cut : goal.returns-in_err-cut
 returns-in_err-cut c =
     let p = err_from_is_err_and c.from_residual-in_err-cut.result c.from_residual-in_err-cut.ensures.1 in
-    let flow = flow_of c.args.flow.now in
-    let one = link_cut passes_Q (curves_of c.args.labels.now) c.args.net.now.net.links c.args.flow.now.inflows.items c.args.flow.now.outflows.items
+    let flow = seen_flow c.args.flow.now in
+    let one = link_cut passes_Q (points_of_each c.args.labels.now) c.args.net.now.net.links c.args.flow.now.inflows.items c.args.flow.now.outflows.items
     c.args.flow.now.queues.items c.loop-number.number c.link-link.result
     c.index-inflow.result.now c.index-outflow.result.now c.index-queue.result.now c.last_label-tail.result c.last_label-head.result c.link-link.ensures.link
-    (c.last_label-tail.ensures ∙ ap (λ (l : Link). value_at_end (points_at (curves_of c.args.labels.now) l.tail)) c.link.view_is)
-    (c.last_label-head.ensures ∙ ap (λ (l : Link). value_at_end (points_at (curves_of c.args.labels.now) l.head)) c.link.view_is)
+    (c.last_label-tail.ensures ∙ ap (λ (l : Link). value_at_end (points_at (points_of_each c.args.labels.now) l.tail)) c.link.view_is)
+    (c.last_label-head.ensures ∙ ap (λ (l : Link). value_at_end (points_at (points_of_each c.args.labels.now) l.head)) c.link.view_is)
     (subst (λ (n : ℕ). c.loop-number.number < n) (c.link_count-number-end.ensures ∙ sym c.requires.inflows) c.loop-number-test.true) c.index-inflow.ensures
     (subst (λ (n : ℕ). c.loop-number.number < n) (c.link_count-number-end.ensures ∙ sym c.requires.outflows) c.loop-number-test.true)
     c.index-outflow.ensures
     (subst (λ (n : ℕ). c.loop-number.number < n) (c.link_count-number-end.ensures ∙ sym c.requires.queues) c.loop-number-test.true) c.index-queue.ensures in
-    rw (p.1, p.2) (front_halts (cut_link passes_Q (curves_of c.args.labels.now))
+    rw (p.1, p.2) (front_halts (cut_link passes_Q (points_of_each c.args.labels.now))
     (links_with c.args.net.now.net.links flow.inflows flow.outflows flow.queues) OfCurve c.loop-number.number (map cut_in c.loop-number.cuts.items)
     c.loop-number.invariant one.0 one.1 c.in_err-cut.field-0.0
     (subst (λ (r : Checked lists.CutLink). Stops (λ (q : ℚ). q) c.in_err-cut.field-0.0 (at_part OfCurve r)) one.2 c.in_err-cut.ensures))
 
 pub loop-number-preserved : goal.loop-number-preserved
 loop-number-preserved c =
-    let flow = flow_of c.args.flow.now in
-    let one = link_cut passes_Q (curves_of c.args.labels.now) c.args.net.now.net.links c.args.flow.now.inflows.items c.args.flow.now.outflows.items
+    let flow = seen_flow c.args.flow.now in
+    let one = link_cut passes_Q (points_of_each c.args.labels.now) c.args.net.now.net.links c.args.flow.now.inflows.items c.args.flow.now.outflows.items
     c.args.flow.now.queues.items c.loop-number.number c.link-link.result
     c.index-inflow.result.now c.index-outflow.result.now c.index-queue.result.now c.last_label-tail.result c.last_label-head.result c.link-link.ensures.link
-    (c.last_label-tail.ensures ∙ ap (λ (l : Link). value_at_end (points_at (curves_of c.args.labels.now) l.tail)) c.link.view_is)
-    (c.last_label-head.ensures ∙ ap (λ (l : Link). value_at_end (points_at (curves_of c.args.labels.now) l.head)) c.link.view_is)
+    (c.last_label-tail.ensures ∙ ap (λ (l : Link). value_at_end (points_at (points_of_each c.args.labels.now) l.tail)) c.link.view_is)
+    (c.last_label-head.ensures ∙ ap (λ (l : Link). value_at_end (points_at (points_of_each c.args.labels.now) l.head)) c.link.view_is)
     (subst (λ (n : ℕ). c.loop-number.number < n) (c.link_count-number-end.ensures ∙ sym c.requires.inflows) c.loop-number-test.true) c.index-inflow.ensures
     (subst (λ (n : ℕ). c.loop-number.number < n) (c.link_count-number-end.ensures ∙ sym c.requires.outflows) c.loop-number-test.true)
     c.index-outflow.ensures
     (subst (λ (n : ℕ). c.loop-number.number < n) (c.link_count-number-end.ensures ∙ sym c.requires.queues) c.loop-number-test.true) c.index-queue.ensures in
-    front_goes (cut_link passes_Q (curves_of c.args.labels.now)) (links_with c.args.net.now.net.links flow.inflows flow.outflows flow.queues) OfCurve
+    front_goes (cut_link passes_Q (points_of_each c.args.labels.now)) (links_with c.args.net.now.net.links flow.inflows flow.outflows flow.queues) OfCurve
     c.loop-number.number (map cut_in c.loop-number.cuts.items)
     c.loop-number.invariant one.0 one.1 (cut_in c.in_ok-cut.cut) (map cut_in c.push.new.self.items)
     (subst (λ (r : Checked lists.CutLink). at_part OfCurve r ≡ Ok (cut_in c.in_ok-cut.cut)) one.2 c.in_ok-cut.ensures)
@@ -95,17 +95,17 @@ loop-number-preserved c =
 
 pub returns : goal.returns
 returns c =
-    let flow = flow_of c.args.flow.now in
+    let flow = seen_flow c.args.flow.now in
     let count : length (links_with c.args.net.now.net.links flow.inflows flow.outflows flow.queues) ≡ length c.args.net.now.net.links =
-    links_with-length c.args.net.now.net.links flow.inflows flow.outflows flow.queues (length-map c.args.flow.now.inflows.items trace_of ∙ c.requires.inflows)
-    (length-map c.args.flow.now.outflows.items trace_of ∙ c.requires.outflows) (length-map c.args.flow.now.queues.items (λ q. q.points) ∙ c.requires.queues) in
-    front_last (cut_link passes_Q (curves_of c.args.labels.now)) (links_with c.args.net.now.net.links flow.inflows flow.outflows flow.queues) OfCurve
+    links_with-length c.args.net.now.net.links flow.inflows flow.outflows flow.queues (length-map c.args.flow.now.inflows.items seen_trace ∙ c.requires.inflows)
+    (length-map c.args.flow.now.outflows.items seen_trace ∙ c.requires.outflows) (length-map c.args.flow.now.queues.items (λ q. q.points) ∙ c.requires.queues) in
+    front_last (cut_link passes_Q (points_of_each c.args.labels.now)) (links_with c.args.net.now.net.links flow.inflows flow.outflows flow.queues) OfCurve
     c.loop-number.number (map cut_in c.loop-number.cuts.items)
     c.loop-number.invariant (omega (arith, count, c.link_count-number-end.ensures, c.loop-number-test.false))
 
 pub loop-number-init : goal.loop-number-init
 loop-number-init c =
     let none = c.in_ok-cuts.ensures {u = tt} in
-    let flow = flow_of c.args.flow.now in
-    front_first (cut_link passes_Q (curves_of c.args.labels.now)) (links_with c.args.net.now.net.links flow.inflows flow.outflows flow.queues) (map cut_in c.in_ok-cuts.cuts.items)
+    let flow = seen_flow c.args.flow.now in
+    front_first (cut_link passes_Q (points_of_each c.args.labels.now)) (links_with c.args.net.now.net.links flow.inflows flow.outflows flow.queues) (map cut_in c.in_ok-cuts.cuts.items)
     (ap (λ (l : List CutLink). map cut_in l) none.items)

@@ -1,12 +1,12 @@
 use Rattle.std.proofs.Common.{map}
 use Rattle.nf_frac_def.specs.Passing.{passes_Q}
-use Rattle.nf_curve.specs.Flows.{flow_of}
+use Rattle.nf_curve.specs.Flows.{seen_flow}
 use Rattle.nf_resume_def.specs.Resuming.{links_with, cut_link}
-use Rattle.nf_resume.specs.Cuts.{curves_of, cut_in}
+use Rattle.nf_resume.specs.Cuts.{points_of_each, cut_in}
 use Rattle.nf_resume.proofs.Looping.{Front}
 use Rattle.nf_resume.proofs.links.cut_links.Given as goal
 
 abbrev pub invariant-loop-number : goal.invariant-loop-number
 invariant-loop-number l =
-    Front (cut_link passes_Q (curves_of l.labels)) (links_with l.net.net.links (flow_of l.flow).inflows (flow_of l.flow).outflows (flow_of l.flow).queues)
+    Front (cut_link passes_Q (points_of_each l.labels)) (links_with l.net.net.links (seen_flow l.flow).inflows (seen_flow l.flow).outflows (seen_flow l.flow).queues)
     l.number (map cut_in l.cuts.items)

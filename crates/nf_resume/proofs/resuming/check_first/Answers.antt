@@ -1,7 +1,7 @@
 use Rattle.std.proofs.Common.{map, sym, subst, ◌∙◌}
 use Rattle.std.proofs.lemmas.List.{length-map}
 use Rattle.nf_frac_def.specs.Passing.{passes_Q}
-use Rattle.nf_curve.specs.Flows.{trace_of}
+use Rattle.nf_curve.specs.Flows.{seen_trace}
 use Rattle.nf_report_read.specs.Files.{seen_report}
 use Rattle.nf_resume.specs.Faults.{IsCauseAtAnyHorizon}
 use Rattle.nf_resume.proofs.Resumed.{check_stops, said_yes, said_equilibrium, said_no}
@@ -12,13 +12,13 @@ check-requires-clause-labels c = sym (length-map c.args.report.now.flow.labels.i
 
 pub check-requires-clause-inflows : goal.check-requires-clause-inflows
 check-requires-clause-inflows c =
-    sym (length-map c.args.report.now.flow.inflows.items trace_of) ∙ sym (length-map (map trace_of c.args.report.now.flow.inflows.items)
+    sym (length-map c.args.report.now.flow.inflows.items seen_trace) ∙ sym (length-map (map seen_trace c.args.report.now.flow.inflows.items)
     (λ trace. trace.points)) ∙ c.requires.shape.inflows.count
 
 pub check-requires-clause-outflows : goal.check-requires-clause-outflows
 check-requires-clause-outflows c =
-    sym (length-map c.args.report.now.flow.outflows.items trace_of) ∙ sym
-    (length-map (map trace_of c.args.report.now.flow.outflows.items) (λ trace. trace.points)) ∙ c.requires.shape.outflows.count
+    sym (length-map c.args.report.now.flow.outflows.items seen_trace) ∙ sym
+    (length-map (map seen_trace c.args.report.now.flow.outflows.items) (λ trace. trace.points)) ∙ c.requires.shape.outflows.count
 
 pub check-requires-clause-queues : goal.check-requires-clause-queues
 check-requires-clause-queues c = sym (length-map c.args.report.now.flow.queues.items (λ curve. curve.points)) ∙ c.requires.shape.queues.count

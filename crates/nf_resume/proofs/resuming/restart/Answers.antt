@@ -9,7 +9,7 @@ use Rattle.nf_frac_def.specs.Passing.{passes_Q}
 use Rattle.nf_model.specs.Pattern.{Pattern}
 use Rattle.nf_model.specs.Equilibrium.{Flow}
 use Rattle.nf_thin_def.specs.PhaseRun.{Standing}
-use Rattle.nf_curve.specs.Flows.{flow_of}
+use Rattle.nf_curve.specs.Flows.{seen_flow}
 use Rattle.nf_curve.proofs.Exits.{was_ok}
 use Rattle.nf_resume_def.specs.Resuming.{cut_flow}
 use Rattle.nf_resume_laws.proofs.CutFlow.{cut_flow-is}
@@ -26,18 +26,18 @@ returns-in_err-flow-clause-list c =
 
 pub restore-requires-clause-equilibrium : goal.restore-requires-clause-equilibrium
 restore-requires-clause-equilibrium c =
-    Equilibrium-cut_flow passes_Q c.args.net.now.net (flow_of c.args.report.now.flow) (flow_of c.in_ok-flow.flow) c.recall.ensures.network c.requires.equilibrium
-    (was_ok OfCurve (cut_flow passes_Q c.args.net.now.net (flow_of c.args.report.now.flow)) (flow_of c.in_ok-flow.flow) c.in_ok-flow.ensures)
+    Equilibrium-cut_flow passes_Q c.args.net.now.net (seen_flow c.args.report.now.flow) (seen_flow c.in_ok-flow.flow) c.recall.ensures.network c.requires.equilibrium
+    (was_ok OfCurve (cut_flow passes_Q c.args.net.now.net (seen_flow c.args.report.now.flow)) (seen_flow c.in_ok-flow.flow) c.in_ok-flow.ensures)
 
 pub restore-requires-clause-ends : goal.restore-requires-clause-ends
 restore-requires-clause-ends c =
-    EndsAtItsLabels-cut_flow passes_Q c.args.net.now.net (flow_of c.args.report.now.flow) (flow_of c.in_ok-flow.flow) c.recall.ensures.network c.requires.equilibrium
-    (was_ok OfCurve (cut_flow passes_Q c.args.net.now.net (flow_of c.args.report.now.flow)) (flow_of c.in_ok-flow.flow) c.in_ok-flow.ensures)
+    EndsAtItsLabels-cut_flow passes_Q c.args.net.now.net (seen_flow c.args.report.now.flow) (seen_flow c.in_ok-flow.flow) c.recall.ensures.network c.requires.equilibrium
+    (was_ok OfCurve (cut_flow passes_Q c.args.net.now.net (seen_flow c.args.report.now.flow)) (seen_flow c.in_ok-flow.flow) c.in_ok-flow.ensures)
 
 pub restore-requires-clause-short : goal.restore-requires-clause-short
 restore-requires-clause-short c =
-    IsShortFlow-cut_flow passes_Q c.args.net.now.net (flow_of c.args.report.now.flow) (flow_of c.in_ok-flow.flow) c.recall.ensures.network c.requires.equilibrium
-    (was_ok OfCurve (cut_flow passes_Q c.args.net.now.net (flow_of c.args.report.now.flow)) (flow_of c.in_ok-flow.flow) c.in_ok-flow.ensures)
+    IsShortFlow-cut_flow passes_Q c.args.net.now.net (seen_flow c.args.report.now.flow) (seen_flow c.in_ok-flow.flow) c.recall.ensures.network c.requires.equilibrium
+    (was_ok OfCurve (cut_flow passes_Q c.args.net.now.net (seen_flow c.args.report.now.flow)) (seen_flow c.in_ok-flow.flow) c.in_ok-flow.ensures)
 
 pub restore-requires-clause-states : goal.restore-requires-clause-states
 restore-requires-clause-states c = ap (λ (l : Pattern). length l) c.in_ok-last.ensures ∙ c.requires.formed.states
@@ -50,18 +50,18 @@ returns-in_err-run-clause-list c =
     let p = err_from_is_err_and c.from_residual-in_err-run.result c.from_residual-in_err-run.ensures.1 in
     rw (p.1, p.2) (subst (λ (r : Result Standing (PassedAt ℚ)). Stops (λ (q : ℚ). q) c.in_err-run.field-0.0 r)
     (restored passes_Q c.args.net.now.net (seen_report c.args.report.now)
-    (flow_of c.in_ok-flow.flow) c.in_ok-last.last c.in_ok-flow.ensures c.in_ok-last.ensures) c.in_err-run.ensures.list)
+    (seen_flow c.in_ok-flow.flow) c.in_ok-last.last c.in_ok-flow.ensures c.in_ok-last.ensures) c.in_err-run.ensures.list)
 
 pub returns-clause-list : goal.returns-clause-list
 returns-clause-list c =
     sym (restored passes_Q c.args.net.now.net (seen_report c.args.report.now)
-    (flow_of c.in_ok-flow.flow) c.in_ok-last.last c.in_ok-flow.ensures c.in_ok-last.ensures) ∙ c.in_ok-run.ensures.list
+    (seen_flow c.in_ok-flow.flow) c.in_ok-last.last c.in_ok-flow.ensures c.in_ok-last.ensures) ∙ c.in_ok-run.ensures.list
 
 pub returns-clause-time : goal.returns-clause-time
 returns-clause-time c =
     ap (λ (f : Flow). f.reached) c.in_ok-run.ensures.flow
-    ∙ (cut_flow-is passes_Q c.args.net.now.net (flow_of c.args.report.now.flow) (flow_of c.in_ok-flow.flow) c.recall.ensures.network c.requires.equilibrium
-    (was_ok OfCurve (cut_flow passes_Q c.args.net.now.net (flow_of c.args.report.now.flow)) (flow_of c.in_ok-flow.flow) c.in_ok-flow.ensures)).reached
+    ∙ (cut_flow-is passes_Q c.args.net.now.net (seen_flow c.args.report.now.flow) (seen_flow c.in_ok-flow.flow) c.recall.ensures.network c.requires.equilibrium
+    (was_ok OfCurve (cut_flow passes_Q c.args.net.now.net (seen_flow c.args.report.now.flow)) (seen_flow c.in_ok-flow.flow) c.in_ok-flow.ensures)).reached
 
 pub returns-clause-reaches : goal.returns-clause-reaches
 returns-clause-reaches c = let run = c.in_ok-run.ensures {u = tt} in run.state.reaches

@@ -4,7 +4,7 @@ use Rattle.nf_rational.specs.Order.{◌≤ℚ◌}
 use Rattle.std.proofs.lemmas.Result.{err_from_is_err_and}
 use Rattle.nf_frac_def.specs.Passing.{passes_Q}
 use Rattle.nf_report_read.specs.Files.{seen_report}
-use Rattle.nf_phase.specs.Solution.{bounds_of, report_in}
+use Rattle.nf_phase.specs.Solution.{bounds_of, solution_report}
 use Rattle.nf_resume.specs.Faults.{of_halt}
 use Rattle.nf_resume.proofs.Resumed.{in_time, restart_stops, is_resumed, went_on}
 use Rattle.nf_resume.proofs.resuming.resume.Goals as goal
@@ -18,13 +18,13 @@ returns-in_err-run-clause-fault c =
 pub returns-clause-resumed : goal.returns-clause-resumed
 returns-clause-resumed c =
     is_resumed c.args.net.now.net (bounds_of c.args.horizon c.args.budgets) (seen_report c.args.report.now) c.in_ok-solution.solution.phases
-    (report_in c.args.horizon c.in_ok-solution.solution)
+    (solution_report c.args.horizon c.in_ok-solution.solution)
     c.in_ok-check_first.ensures.yes c.in_ok-run.run' c.in_ok-run.ensures.list c.in_ok-solution.ensures.finished
 
 pub returns-clause-goes_on : goal.returns-clause-goes_on
 returns-clause-goes_on c =
     went_on c.args.net.now.net (bounds_of c.args.horizon c.args.budgets) (seen_report c.args.report.now) c.in_ok-solution.solution.phases
-    (report_in c.args.horizon c.in_ok-solution.solution)
+    (solution_report c.args.horizon c.in_ok-solution.solution)
     c.in_ok-check_first.ensures.yes c.in_ok-run.run' c.in_ok-run.ensures.list c.in_ok-solution.ensures.finished c.recall.ensures.network c.in_ok-check_first.ensures.equilibrium
 
 pub finish-requires-clause-horizon : goal.finish-requires-clause-horizon

@@ -1,12 +1,12 @@
 use Rattle.std.proofs.Common.{◌≡◌, ℕ, true, List, sym, ap, subst, ◌∙◌}
-use Rattle.nf_routes_links.proofs.Common.{err_from_is_err_and, Load, passes_Q, at_part, stops_on, ℚ, goes_over, next_if, next_entry, IsAmount}
+use Rattle.nf_routes_links.proofs.Common.{err_from_is_err_and, Load, passes_Q, at_part, stops_on, ℚ, goes_over, next_if, next_entry, IsAmountCurve}
 use Rattle.nf_routes_links.proofs.Passed.{next_passes}
 use Rattle.nf_routes_links.proofs.Sound.{last_amount}
 use Rattle.nf_routes_links.proofs.entries.send_on.Goals as goal
 
 pub next_entry-requires-clause-amount : goal.next_entry-requires-clause-amount
 next_entry-requires-clause-amount c =
-    subst (λ (l : List (ℚ × ℚ)). IsAmount l) (sym c.last.ensures)
+    subst (λ (l : List (ℚ × ℚ)). IsAmountCurve l) (sym c.last.ensures)
     (last_amount c.args.sent.now c.requires.sends.amounts
     (c.requires.sends.some (ap (λ (l : List ℕ). goes_over l c.args.link) (sym c.links.ensures) ∙ sym c.goes_over.ensures ∙ c.if-goes_over.true)))
 

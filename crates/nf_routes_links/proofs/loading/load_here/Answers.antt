@@ -2,7 +2,7 @@ use Rattle.std.proofs.Common.{◌≡◌, List, [], ◌∷◌, length, set, sym, 
 use Rattle.std.specs.Vec.{with_items}
 use Rattle.nf_routes_links.proofs.Common.{length-map, with_items_is, err_from_is_err_and, ℚ, 0ℚ, ◌≤ℚ◌, PassedAt, Load, passes_Q, Stops, at_part, Link}
 use Rattle.nf_routes_links.proofs.Common.{IsPositive-link, stops_on, Loaded, checked_loading, loaded_of, all_pairs, NamedRoute, routes_of, LoadedLink, SoFar}
-use Rattle.nf_routes_links.proofs.Common.{end_by, begin_all, sum_from, next_all, load_here, seen_so_far, Along, MayBegin, Sends}
+use Rattle.nf_routes_links.proofs.Common.{end_by, begin_all, sum_from, next_all, load_here, seen_so_far, ForEachRoute, MayBegin, Sends}
 use Rattle.nf_routes_links.proofs.Folds.{Sent, along-count}
 use Rattle.nf_routes_links.proofs.Sound.{have_pieces}
 use Rattle.nf_routes_links.proofs.Here.{end_nn, all_send, inflow_is, exits_are, begin_stops, sum_stops, load_stops, send_stops, comes_to}
@@ -22,7 +22,7 @@ inflow_of-requires c =
     let begun : at_part Load (begin_all passes_Q c.args.horizon c.args.link (routes_of c.args.routes.now) c.args.so_far.now.entries.items) ≡ Ok c.begin_all.new.entries =
     ap (λ (l : List Sent). at_part Load (begin_all passes_Q c.args.horizon c.args.link (routes_of c.args.routes.now) l)) (sym c.deref_mut.ensures.value) ∙ c.in_ok-begin_all.ensures in
     let items = with_items_is c.args.so_far.now.entries c.begin_all.new.entries (c.begin_all.auto.entries ∙ c.deref_mut.ensures.len) in
-    subst (λ (l : List Sent). Along (Sends c.args.link) (routes_of c.args.routes.now) l) (sym (c.deref-2.ensures.value ∙ items))
+    subst (λ (l : List Sent). ForEachRoute (Sends c.args.link) (routes_of c.args.routes.now) l) (sym (c.deref-2.ensures.value ∙ items))
     (all_send passes_Q c.args.horizon (routes_of c.args.routes.now) (seen_so_far c.args.so_far.now) c.args.link c.link-here.result c.args.net.now.net
     c.requires.horizon c.link-here.ensures.named.network c.link-here.ensures.link c.requires.may c.begin_all.new.entries begun)
 
@@ -88,7 +88,7 @@ send_all_on-requires-clause-send c =
     let begun : at_part Load (begin_all passes_Q c.args.horizon c.args.link (routes_of c.args.routes.now) c.args.so_far.now.entries.items) ≡ Ok c.begin_all.new.entries =
     ap (λ (l : List Sent). at_part Load (begin_all passes_Q c.args.horizon c.args.link (routes_of c.args.routes.now) l)) (sym c.deref_mut.ensures.value) ∙ c.in_ok-begin_all.ensures in
     let items = with_items_is c.args.so_far.now.entries c.begin_all.new.entries (c.begin_all.auto.entries ∙ c.deref_mut.ensures.len) in
-    subst (λ (l : List Sent). Along (Sends c.args.link) (routes_of c.args.routes.now) l) (sym (c.deref_mut-2.ensures.value ∙ items))
+    subst (λ (l : List Sent). ForEachRoute (Sends c.args.link) (routes_of c.args.routes.now) l) (sym (c.deref_mut-2.ensures.value ∙ items))
     (all_send passes_Q c.args.horizon (routes_of c.args.routes.now) (seen_so_far c.args.so_far.now) c.args.link c.link-here.result c.args.net.now.net
     c.requires.horizon c.link-here.ensures.named.network c.link-here.ensures.link c.requires.may c.begin_all.new.entries begun)
 

@@ -1,6 +1,6 @@
 use Rattle.std.proofs.Common.{◌≡◌, List, ◌∷◌, map, sym, ap, subst, ◌∙◌, Ok}
 use Rattle.nf_routes_links.proofs.Common.{err_from_is_err_and, ℚ, 0ℚ, Load, passes_Q, Stops, at_part, each, Point, IsCurve, checked_short, both_times, sides_at}
-use Rattle.nf_routes_links.proofs.Common.{sides_of, was_ok, stops_on, next_from, next_entry, IsAmount, AreKnown, right_point}
+use Rattle.nf_routes_links.proofs.Common.{sides_of, was_ok, stops_on, next_from, next_entry, IsAmountCurve, AreKnown, right_point}
 use Rattle.nf_curve.specs.declared.lines.Sides.{Sides}
 use Rattle.nf_routes_laws.specs.Laws.{IsSentOn}
 use Rattle.nf_routes_laws.proofs.Next.{next_entry-is}
@@ -54,7 +54,7 @@ returns-clause-list c =
 
 pub returns-clause-amount : goal.returns-clause-amount
 returns-clause-amount c =
-    gives_ok (λ c'. c'.points) c.short.result (next_entry passes_Q c.args.exit.now.points c.args.entry.now.points) (λ (l : List Point). IsAmount l) (returns-clause-list c)
+    gives_ok (λ c'. c'.points) c.short.result (next_entry passes_Q c.args.exit.now.points c.args.entry.now.points) (λ (l : List Point). IsAmountCurve l) (returns-clause-list c)
     (next_amount passes_Q c.args.exit.now.points c.args.entry.now.points c.requires.exits c.requires.amount)
 
 pub returns-clause-next : goal.returns-clause-next

@@ -10,7 +10,7 @@ use Rattle.nf_thin_narrow.specs.Asking.{StandsWithin}
 use Rattle.nf_thin_rank.specs.declared.standing.Standing.{Standing}
 use Rattle.nf_thin_rank.specs.Posing.{question_in}
 use Rattle.nf_thin.specs.Sifting.{SiftsNext}
-use Rattle.nf_thin_rank.specs.Keeping.{Tells, IsInStep, StaysBehind}
+use Rattle.nf_thin_rank.specs.Keeping.{TellsStanding, IsInStep, StaysBehind}
 use Rattle.nf_thin.proofs.Narrowing.{none_yet, whole_listed, part_count, whole_count, next_later, next_kept, narrow_found, narrow_beyond, narrow_failed, narrow_on}
 use Rattle.nf_thin.proofs.finding.try_narrow.Goals as goal
 
@@ -68,7 +68,7 @@ returns-then-is_beyond c =
     c.in-Some.is c.next.follows.holds-at-none)
     c.args.problem.now.ranking.budget c.loop-part.vain c.loop-part.vain c.loop-part.invariant.vainly
     (subst (λ (x : Pattern). StandsWithin (question_in c.args.problem.now.ranking) x c.args.problem.now.ranking.budget false) c.fill.ensures
-    (subst (λ (s : Standing). Tells (question_in c.args.problem.now.ranking) c.fill.new.pattern c.args.problem.now.ranking.budget s) c.if-is_beyond.ensures
+    (subst (λ (s : Standing). TellsStanding (question_in c.args.problem.now.ranking) c.fill.new.pattern c.args.problem.now.ranking.budget s) c.if-is_beyond.ensures
     c.in_ok-standing.ensures.told))
 
 pub sift_next-requires-clause-listed : goal.sift_next-requires-clause-listed

@@ -6,8 +6,8 @@ use Rattle.nf_model.specs.Walk.{Hop}
 use Rattle.nf_model.specs.Network.{hop_of}
 use Rattle.nf_thin_balance.specs.declared.ranges.Range.{Range}
 use Rattle.nf_thin_narrow.proofs.Entries.{length_set}
-use Rattle.nf_thin_balance.specs.Ranges.{IsWithin}
-use Rattle.nf_thin_balance.specs.Conserving.{AreWithin, needed_at}
+use Rattle.nf_thin_balance.specs.Ranges.{IsInRange}
+use Rattle.nf_thin_balance.specs.Conserving.{AreFlowsWithin, needed_at}
 use Rattle.nf_thin_balance.proofs.Conserving.{link_read, end_test}
 use Rattle.nf_thin_balance.proofs.Closing.{but, needs_link, within_but, within_again}
 use Rattle.nf_thin_balance.proofs.leaves.close.Goals as goal
@@ -31,11 +31,11 @@ returns-clause-keeps c flow within conserved =
     let f = link_read c.args.net.now.net c.hops.result.now c.args.link c.index.result c.index-hops-index.result c.hops.ensures.value c.index.ensures
     c.requires.link c.index-hops-index.is in
     let below : c.args.link < length c.args.ranges.now.items = (let n = c.requires.ranges in let l = c.requires.link in omega arith) in
-    let none : IsWithin c.zero.result 0ℚ = c.zero.ensures in
+    let none : IsInRange c.zero.result 0ℚ = c.zero.ensures in
     let others = c.surplus_range-others.ensures (but c.args.link flow)
-    (subst (λ (l : List Range). AreWithin l (but c.args.link flow)) (sym (c.deref-2.ensures.value ∙ c.put_range.ensures))
+    (subst (λ (l : List Range). AreFlowsWithin l (but c.args.link flow)) (sym (c.deref-2.ensures.value ∙ c.put_range.ensures))
     (within_but c.args.ranges.now.items c.args.link c.zero.result flow below within none)) in
-    let fits : IsWithin c.left_for-flow.result (flow c.args.link) = c.left_for-flow.ensures (flow c.args.link) _ _ others
+    let fits : IsInRange c.left_for-flow.result (flow c.args.link) = c.left_for-flow.ensures (flow c.args.link) _ _ others
     (c.needed.ensures conserved.0 conserved.1)
     (needs_link c.args.net.now.net flow c.args.node c.args.link f.0 f.1 (needed_at c.args.net.now.net conserved.0 c.args.node) (conserved.2 c.args.node c.requires.node)
     c.eq-leaves.result c.eq-enters.result
@@ -44,7 +44,7 @@ returns-clause-keeps c flow within conserved =
     c.if-leaves-enters.false) in (
       c.meets-fits.ensures (flow c.args.link) (within c.args.link c.range_at-own.result
           (subst (λ (l : List Range). slice_get l c.args.link ≡ Some c.range_at-own.result) c.deref.ensures.value c.range_at-own.ensures)) fits,
-      subst (λ (l : List Range). AreWithin l flow) (sym (c.put_range-2.ensures ∙ ap (λ (l : List Range). slice_set l c.args.link c.left_for-flow.result) c.put_range.ensures))
+      subst (λ (l : List Range). AreFlowsWithin l flow) (sym (c.put_range-2.ensures ∙ ap (λ (l : List Range). slice_set l c.args.link c.left_for-flow.result) c.put_range.ensures))
           (within_again c.args.ranges.now.items c.args.link c.zero.result c.left_for-flow.result flow
           (let e = length_set c.args.ranges.now.items c.args.link c.zero.result in omega arith) within fits),
     )

@@ -2,7 +2,7 @@ use Rattle.std.proofs.Common.{List, length, sym, ap, subst, ◌∙◌}
 use Rattle.std.proofs.lemmas.Bool.{true≢false}
 use Rattle.std.proofs.lemmas.Option.{none-some}
 use Rattle.nf_thin_balance.specs.declared.ranges.Range.{Range}
-use Rattle.nf_thin_balance.specs.Conserving.{AreWithin}
+use Rattle.nf_thin_balance.specs.Conserving.{AreFlowsWithin}
 use Rattle.nf_thin_balance.proofs.leaves.comes_out.Goals as goal
 
 pub loop-v-init : goal.loop-v-init
@@ -26,4 +26,4 @@ first_unbalanced-requires c = ap (λ (l : List Range). length l) c.deref-2.ensur
 
 pub returns-in-Some : goal.returns-in-Some
 returns-in-Some c flow within conserves = absurd (none-some c.in-Some.field-0 (sym (c.in_ok-first_unbalanced.ensures flow
-    (subst (λ (l : List Range). AreWithin l flow) (sym c.deref-2.ensures.value) (c.loop-v.invariant.within flow within conserves)) conserves) ∙ c.in-Some.is))
+    (subst (λ (l : List Range). AreFlowsWithin l flow) (sym c.deref-2.ensures.value) (c.loop-v.invariant.within flow within conserves)) conserves) ∙ c.in-Some.is))

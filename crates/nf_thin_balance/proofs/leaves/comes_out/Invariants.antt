@@ -1,11 +1,11 @@
 use Rattle.std.proofs.Common.{◌≡◌, ℕ, length}
 use Rattle.nf_rational.specs.Rational.{ℚ}
-use Rattle.nf_thin_balance.specs.Conserving.{AreWithin, IsConserved}
+use Rattle.nf_thin_balance.specs.Conserving.{AreFlowsWithin, IsConserved}
 use Rattle.nf_thin_balance.proofs.leaves.comes_out.Given as goal
 
 -- Each possible flow is within the ranges so far.
 abbrev pub invariant-loop-v : goal.invariant-loop-v
 invariant-loop-v l = record {
   count : length l.ranges.items ≡ length l.net.net.links;
-  within : (flow : ℕ → ℚ) → AreWithin l.fn.ranges.items flow → IsConserved l.net.net l.supply flow → AreWithin l.ranges.items flow;
+  within : (flow : ℕ → ℚ) → AreFlowsWithin l.fn.ranges.items flow → IsConserved l.net.net l.supply flow → AreFlowsWithin l.ranges.items flow;
 }

@@ -1,8 +1,8 @@
 use Rattle.std.proofs.Common.{sym, subst}
-use Rattle.nf_thin_balance.specs.Ranges.{IsWithin}
+use Rattle.nf_thin_balance.specs.Ranges.{IsInRange}
 use Rattle.nf_thin_balance.specs.Conserving.{surplus_by}
 use Rattle.nf_thin_balance.proofs.node_test.is_balanced.Goals as goal
 
 pub returns : goal.returns
 returns c flow within conserved = c.meets.ensures (surplus_by c.args.net.now.net flow c.args.node) (within c.args.node c.surplus_at.result c.surplus_at.ensures)
-    (subst (IsWithin c.needed.result) (sym (conserved.2 c.args.node c.requires.node)) (c.needed.ensures conserved.0 conserved.1))
+    (subst (IsInRange c.needed.result) (sym (conserved.2 c.args.node c.requires.node)) (c.needed.ensures conserved.0 conserved.1))

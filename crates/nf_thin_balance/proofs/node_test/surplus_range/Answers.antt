@@ -1,5 +1,5 @@
 use Rattle.std.proofs.Common.{◌<◌, ◌≤◌, suc, length, subst, arith}
-use Rattle.nf_thin_balance.specs.Ranges.{IsWithin}
+use Rattle.nf_thin_balance.specs.Ranges.{IsInRange}
 use Rattle.nf_thin_balance.proofs.Conserving.{none_sent, surplus_of_all}
 use Rattle.nf_thin_balance.proofs.LinksAt.{passed}
 use Rattle.nf_thin_balance.proofs.node_test.surplus_range.Goals as goal
@@ -8,7 +8,7 @@ pub loop-link-init : goal.loop-link-init
 loop-link-init c = record {
   within = c.first-link.ensures.within;
   so_far = passed c.args.net.now.net c.args.ranges.now c.args.node 0 c.zero-range.result
-      (λ flow within. subst (IsWithin c.zero-range.result) (none_sent c.args.net.now.net flow c.args.node) c.zero-range.ensures) c.first-link.result c.first-link.ensures;
+      (λ flow within. subst (IsInRange c.zero-range.result) (none_sent c.args.net.now.net flow c.args.node) c.zero-range.ensures) c.first-link.result c.first-link.ensures;
 }
 
 pub loop-link-preserved : goal.loop-link-preserved
@@ -24,6 +24,6 @@ loop-link-smaller c =
     omega arith
 
 pub returns : goal.returns
-returns c flow within = subst (IsWithin c.loop-link.range)
+returns c flow within = subst (IsInRange c.loop-link.range)
     (surplus_of_all c.args.net.now.net flow c.args.node c.loop-link.link (let n = c.link_count.ensures in let t = c.loop-link-test.false in omega arith))
     (c.loop-link.invariant.so_far flow within)

@@ -1,7 +1,7 @@
 use Rattle.std.proofs.Common.{List, length, ap, subst, ◌∙◌, add-one, arith}
 use Rattle.std.proofs.lemmas.List.{length-replicate}
 use Rattle.nf_thin_balance.specs.declared.ranges.Range.{Range}
-use Rattle.nf_thin_balance.specs.Ranges.{IsWithin}
+use Rattle.nf_thin_balance.specs.Ranges.{IsInRange}
 use Rattle.nf_thin_balance.proofs.Conserving.{none_sent}
 use Rattle.nf_thin_balance.proofs.Balances.{each_first, each_last}
 use Rattle.nf_thin_balance.proofs.node_test.surplus_ranges.Goals as goal
@@ -12,7 +12,7 @@ loop-e-init c = record {
       ap (λ (l : List Range). length l) (c.in_ok-nodes.ensures.items_if_clones_equal (λ y e. e))
       ∙ (length-replicate c.node_count.result c.zero-nothing.result ∙ c.node_count.ensures);
   each = each_first c.args.net.now.net c.args.ranges.now c.in_ok-nodes.nodes.items c.node_count.result c.zero-nothing.result (c.in_ok-nodes.ensures.items_if_clones_equal (λ y e. e))
-      (λ flow v. subst (IsWithin c.zero-nothing.result) (none_sent c.args.net.now.net flow v) c.zero-nothing.ensures);
+      (λ flow v. subst (IsInRange c.zero-nothing.result) (none_sent c.args.net.now.net flow v) c.zero-nothing.ensures);
 }
 
 pub loop-e-preserved : goal.loop-e-preserved

@@ -1,7 +1,7 @@
 use Rattle.std.proofs.Common.{ap, subst, sym}
 use Rattle.std.specs.Prelude.{Some}
 use Rattle.nf_model.specs.declared.State.{State}
-use Rattle.nf_thin_balance.specs.Ranges.{IsWithin}
+use Rattle.nf_thin_balance.specs.Ranges.{IsInRange}
 use Rattle.nf_thin_balance.proofs.Within.{tight_up_to, from_none, full_within, zero_flow}
 use Rattle.nf_thin_balance.proofs.ranges.range_in.Goals as goal
 
@@ -15,5 +15,5 @@ returns-in-Full c scale resetting capacity flow tail_slope head_slope m =
     full_within scale (Some c.args.state) resetting c.args.full capacity flow tail_slope head_slope m (ap (λ (s : State). Some s) c.in-Full.is)
 
 pub returns-in-Zero : goal.returns-in-Zero
-returns-in-Zero c scale resetting capacity flow tail_slope head_slope m = subst (IsWithin c.zero.result)
+returns-in-Zero c scale resetting capacity flow tail_slope head_slope m = subst (IsInRange c.zero.result)
     (sym (zero_flow scale (Some c.args.state) resetting c.args.full capacity flow tail_slope head_slope m (ap (λ (s : State). Some s) c.in-Zero.is))) c.zero.ensures

@@ -2,7 +2,7 @@ use Rattle.std.proofs.Common.{List, length, sym, subst, ap, ◌∙◌}
 use Rattle.std.proofs.lemmas.Bool.{true≢false}
 use Rattle.std.proofs.lemmas.Option.{none-some}
 use Rattle.nf_thin_balance.specs.declared.ranges.Range.{Range}
-use Rattle.nf_thin_balance.specs.Conserving.{AreWithin, scaled_flow}
+use Rattle.nf_thin_balance.specs.Conserving.{AreFlowsWithin, scaled_flow}
 use Rattle.nf_thin_balance.proofs.Solutions.{can_flow, conserved}
 use Rattle.nf_thin_balance.proofs.ruling.ruled_out_at.Goals as goal
 
@@ -31,7 +31,7 @@ returns-then-fails_at c rate slopes flows is solves meets = absurd (c.fails_at.e
 
 pub returns-in-Some : goal.returns-in-Some
 returns-in-Some c rate slopes flows is solves meets = absurd (none-some c.in-Some.node (sym (c.in_ok-node.ensures (scaled_flow c.args.scaled.now.scale flows)
-    (subst (λ (l : List Range). AreWithin l (scaled_flow c.args.scaled.now.scale flows)) (sym c.deref-2.ensures.value) (c.in_ok-ranges.ensures.carry c.args.scaled.now.scale rate flows
+    (subst (λ (l : List Range). AreFlowsWithin l (scaled_flow c.args.scaled.now.scale flows)) (sym c.deref-2.ensures.value) (c.in_ok-ranges.ensures.carry c.args.scaled.now.scale rate flows
     (can_flow c.args.net.now.net c.args.sets.now rate c.args.pattern.now c.args.scaled.now c.deref.result.now c.deref.ensures.value slopes flows is solves meets)))
     (conserved c.args.net.now.net c.args.sets.now rate c.args.pattern.now c.args.scaled.now c.deref.result.now c.deref.ensures.value slopes flows is solves
     meets c.recall.ensures.network))

@@ -1,6 +1,6 @@
 use Rattle.std.proofs.Common.{sym, subst, arith}
 use Rattle.nf_model.specs.Entries.{number_at}
-use Rattle.nf_thin_balance.specs.Ranges.{IsWithin, scaled}
+use Rattle.nf_thin_balance.specs.Ranges.{IsInRange, scaled}
 use Rattle.nf_thin_balance.specs.Conserving.{surplus_by, scaled_flow}
 use Rattle.nf_thin_balance.proofs.Conserving.{conserves, scaled_conserves, failing}
 use Rattle.nf_thin_balance.proofs.stated.fails_at.Goals as goal
@@ -8,7 +8,7 @@ use Rattle.nf_thin_balance.proofs.stated.fails_at.Goals as goal
 pub returns : goal.returns
 returns c fails scale rate flows supply can =
     failing c.meets.result fails (c.meets.ensures (surplus_by c.args.stated.now.net.now.net (scaled_flow scale flows) c.args.node) (c.stated_surplus-range.ensures scale rate flows can)
-    (subst (IsWithin c.needed.result)
+    (subst (IsInRange c.needed.result)
     (sym (scaled_conserves c.args.stated.now.net.now.net scale rate (number_at flows)
     (conserves scale c.args.stated.now.net.now.net c.args.stated.now.sets.now rate c.args.stated.now.pattern.now c.args.stated.now.full.now flows can
     c.requires.network) c.args.node (let t = c.if-node-nodes.false in let n = c.node_count-nodes.ensures in omega arith)))

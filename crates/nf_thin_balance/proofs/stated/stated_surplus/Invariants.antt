@@ -1,11 +1,11 @@
 use Rattle.std.proofs.Common.{ℕ, List}
 use Rattle.nf_rational.specs.Rational.{ℚ}
-use Rattle.nf_thin_balance.specs.Ranges.{IsWithin}
+use Rattle.nf_thin_balance.specs.Ranges.{IsInRange}
 use Rattle.nf_thin_balance.specs.Conserving.{surplus_of_first, scaled_flow}
-use Rattle.nf_thin_balance.specs.Stating.{CanCarry}
+use Rattle.nf_thin_balance.specs.Stating.{CanCarryFlows}
 use Rattle.nf_thin_balance.proofs.stated.stated_surplus.Given as goal
 
 -- The surplus on the links so far is in the range.
 abbrev pub invariant-loop-e : goal.invariant-loop-e
-invariant-loop-e l = (scale : ℕ) (rate : ℚ) (flows : List ℚ) → CanCarry scale l.stated rate flows
-    → IsWithin l.range (surplus_of_first l.stated.net.now.net (scaled_flow scale flows) l.node l.e)
+invariant-loop-e l = (scale : ℕ) (rate : ℚ) (flows : List ℚ) → CanCarryFlows scale l.stated rate flows
+    → IsInRange l.range (surplus_of_first l.stated.net.now.net (scaled_flow scale flows) l.node l.e)

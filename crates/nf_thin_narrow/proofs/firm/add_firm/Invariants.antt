@@ -1,6 +1,6 @@
 use Rattle.std.proofs.Common.{◌≡◌, ◌<◌, ◌≤◌, ℕ, min, length}
 use Rattle.nf_thin_laws.specs.Ways.{ways_by}
-use Rattle.nf_thin_narrow.specs.Rows.{most, number_in}
+use Rattle.nf_thin_narrow.specs.Rows.{most, count_at}
 use Rattle.nf_thin_narrow.specs.Firming.{states_of_firm}
 use Rattle.nf_thin_narrow.proofs.firm.add_firm.Given as goal
 
@@ -9,8 +9,8 @@ abbrev pub invariant-loop-k : goal.invariant-loop-k
 invariant-loop-k l = record {
   count : length l.row ≡ length l.fn.row;
   within : l.k ≤ length l.fn.row;
-  done : (j : ℕ) → l.k ≤ j → j < length l.fn.row → number_in l.row j ≡ min (ways_by (states_of_firm l.base l.firm) l.base (number_in l.fn.row) j) most;
-  rest : (j : ℕ) → j < l.k → number_in l.row j ≡ number_in l.fn.row j;
+  done : (j : ℕ) → l.k ≤ j → j < length l.fn.row → count_at l.row j ≡ min (ways_by (states_of_firm l.base l.firm) l.base (count_at l.fn.row) j) most;
+  rest : (j : ℕ) → j < l.k → count_at l.row j ≡ count_at l.fn.row j;
 }
 
 -- proposed from the loop's first test

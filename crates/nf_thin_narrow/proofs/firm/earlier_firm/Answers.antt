@@ -7,7 +7,7 @@ use Rattle.nf_thin_laws.specs.Forcing.{change}
 use Rattle.nf_thin_laws.specs.Firm.{is_in}
 use Rattle.nf_thin_narrow.specs.declared.firm.Firm.{Firm}
 use Rattle.nf_thin_narrow.specs.Firming.{states_of_firm}
-use Rattle.nf_thin_narrow.specs.Rows.{Tells}
+use Rattle.nf_thin_narrow.specs.Rows.{CountsCapped}
 use Rattle.nf_thin_narrow.proofs.Stepping.{changes_behind, changes_step_at, row_more, earlier_more, earlier_at}
 use Rattle.nf_thin_narrow.proofs.FirmStepping.{ways_from, earlier_from, ways_step, earlier_step}
 use Rattle.nf_thin_narrow.proofs.firm.earlier_firm.Goals as goal
@@ -45,8 +45,8 @@ loop-e-preserved c =
     let few = changes_behind c.args.base.now c.args.pattern.now (c.loop-e.e - 1) in
     let count = c.loop-e.invariant.count in
     let less : c.loop-e.made + c.change-made.result < length c.loop-e.row = omega arith in
-    let tells : Tells c.loop-e.row (ways_from c.args.base.now c.args.firm.now (suc (c.loop-e.e - 1))) =
-    subst (λ (n : ℕ). Tells c.loop-e.row (ways_from c.args.base.now c.args.firm.now n)) at c.loop-e.invariant.tells in
+    let tells : CountsCapped c.loop-e.row (ways_from c.args.base.now c.args.firm.now (suc (c.loop-e.e - 1))) =
+    subst (λ (n : ℕ). CountsCapped c.loop-e.row (ways_from c.args.base.now c.args.firm.now n)) at c.loop-e.invariant.tells in
     let firm : Firm = get_or c.args.firm.now (c.loop-e.e - 1) none in
     let behind = changes_step_at c.args.base.now c.args.pattern.now (c.loop-e.e - 1)
     (suc (c.loop-e.e - 1)) c.state-here.result c.state-state.result refl c.state-here.ensures c.state-state.ensures in

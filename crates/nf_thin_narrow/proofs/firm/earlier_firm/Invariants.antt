@@ -1,6 +1,6 @@
 use Rattle.std.proofs.Common.{◌≡◌, ◌≤◌, suc, min, length, drop}
 use Rattle.nf_model.specs.Pattern.{changes}
-use Rattle.nf_thin_narrow.specs.Rows.{most, Tells}
+use Rattle.nf_thin_narrow.specs.Rows.{most, CountsCapped}
 use Rattle.nf_thin_narrow.proofs.FirmStepping.{ways_from, earlier_from}
 use Rattle.nf_thin_narrow.proofs.firm.earlier_firm.Given as goal
 
@@ -10,7 +10,7 @@ invariant-loop-e l = record {
   within : l.e ≤ length l.base;
   count : length l.row ≡ suc (changes l.base l.pattern);
   made_is : l.made ≡ changes (drop l.e l.base) (drop l.e l.pattern);
-  tells : Tells l.row (ways_from l.base l.firm l.e);
+  tells : CountsCapped l.row (ways_from l.base l.firm l.e);
   earlier_is : l.earlier ≡ min (earlier_from l.base l.firm l.pattern l.e l.made) most;
 }
 

@@ -1,6 +1,6 @@
 use Rattle.std.proofs.Common.{◌≡◌, ◌<◌, ◌≤◌, ℕ, min, length}
 use Rattle.nf_thin_laws.specs.Ways.{ways_by, states_of}
-use Rattle.nf_thin_narrow.specs.Rows.{most, number_in}
+use Rattle.nf_thin_narrow.specs.Rows.{most, count_at}
 use Rattle.nf_thin_narrow.proofs.row.add_link.Given as goal
 
 -- entries from this one on are those with the link, and the others are as before
@@ -8,8 +8,8 @@ abbrev pub invariant-loop-k : goal.invariant-loop-k
 invariant-loop-k l = record {
   count : length l.row ≡ length l.fn.row;
   within : l.k ≤ length l.fn.row;
-  done : (j : ℕ) → l.k ≤ j → j < length l.fn.row → number_in l.row j ≡ min (ways_by (states_of l.base l.unbounded l.sole) l.base (number_in l.fn.row) j) most;
-  rest : (j : ℕ) → j < l.k → number_in l.row j ≡ number_in l.fn.row j;
+  done : (j : ℕ) → l.k ≤ j → j < length l.fn.row → count_at l.row j ≡ min (ways_by (states_of l.base l.unbounded l.sole) l.base (count_at l.fn.row) j) most;
+  rest : (j : ℕ) → j < l.k → count_at l.row j ≡ count_at l.fn.row j;
 }
 
 -- proposed from the loop's first test

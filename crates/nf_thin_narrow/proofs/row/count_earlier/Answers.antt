@@ -5,7 +5,7 @@ use Rattle.nf_model.specs.Pattern.{changes}
 use Rattle.nf_thin_laws.specs.Forcing.{change}
 use Rattle.nf_thin_laws.specs.Ways.{states_of}
 use Rattle.nf_pattern.proofs.Counting.{few_changes}
-use Rattle.nf_thin_narrow.specs.Rows.{Tells}
+use Rattle.nf_thin_narrow.specs.Rows.{CountsCapped}
 use Rattle.nf_thin_narrow.proofs.Stepping.{changes_behind, changes_step_at, row_more, earlier_more, earlier_at, ways_from, earlier_from, ways_step, earlier_step}
 use Rattle.nf_thin_narrow.proofs.row.count_earlier.Goals as goal
 
@@ -41,8 +41,8 @@ loop-e-preserved c =
     let few = changes_behind c.args.base.now c.args.pattern.now (c.loop-e.e - 1) in
     let count = c.loop-e.invariant.count in
     let less : c.loop-e.made + c.change-made.result < length c.loop-e.row = omega arith in
-    let tells : Tells c.loop-e.row (ways_from c.args.base.now c.args.unbounded.now c.args.sole.now (suc (c.loop-e.e - 1))) =
-    subst (λ (n : ℕ). Tells c.loop-e.row (ways_from c.args.base.now c.args.unbounded.now c.args.sole.now n)) at c.loop-e.invariant.tells in
+    let tells : CountsCapped c.loop-e.row (ways_from c.args.base.now c.args.unbounded.now c.args.sole.now (suc (c.loop-e.e - 1))) =
+    subst (λ (n : ℕ). CountsCapped c.loop-e.row (ways_from c.args.base.now c.args.unbounded.now c.args.sole.now n)) at c.loop-e.invariant.tells in
     let unbounded : Bool = get_or c.args.unbounded.now (c.loop-e.e - 1) false in
     let sole : Bool = get_or c.args.sole.now (c.loop-e.e - 1) false in
     let behind = changes_step_at c.args.base.now c.args.pattern.now (c.loop-e.e - 1)

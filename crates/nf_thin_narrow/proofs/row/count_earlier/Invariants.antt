@@ -1,6 +1,6 @@
 use Rattle.std.proofs.Common.{◌≡◌, ◌≤◌, suc, min, length, drop}
 use Rattle.nf_model.specs.Pattern.{changes}
-use Rattle.nf_thin_narrow.specs.Rows.{most, Tells}
+use Rattle.nf_thin_narrow.specs.Rows.{most, CountsCapped}
 use Rattle.nf_thin_narrow.proofs.Stepping.{ways_from, earlier_from}
 use Rattle.nf_thin_narrow.proofs.row.count_earlier.Given as goal
 
@@ -10,7 +10,7 @@ invariant-loop-e l = record {
   within : l.e ≤ length l.base;
   count : length l.row ≡ suc (changes l.base l.pattern);
   made_is : l.made ≡ changes (drop l.e l.base) (drop l.e l.pattern);
-  tells : Tells l.row (ways_from l.base l.unbounded l.sole l.e);
+  tells : CountsCapped l.row (ways_from l.base l.unbounded l.sole l.e);
   earlier_is : l.earlier ≡ min (earlier_from l.base l.unbounded l.sole l.pattern l.e l.made) most;
 }
 

@@ -6,7 +6,7 @@ use Rattle.nf_frac_def.specs.declared.Part.TheVariants.{Check}
 use Rattle.nf_curve_def.specs.Composed.{checked_composed}
 use Rattle.nf_curve_def.specs.Short.{checked_short}
 use Rattle.nf_curve.proofs.Exits.{after_err, after_ok, stops_on}
-use Rattle.nf_check_rules.specs.Sent.{known_list, known_by}
+use Rattle.nf_check_rules.specs.Sent.{known_list, known_on_link}
 use Rattle.nf_check_rules.proofs.sent.Sent.by_exits.Goals as goal
 
 pub returns-in_err-all_taken-clause-list : goal.returns-in_err-all_taken-clause-list
@@ -14,7 +14,7 @@ unfolding known_list
 returns-in_err-all_taken-clause-list c =
     let p = err_from_is_err_and c.from_residual.result c.from_residual.ensures.1 in
     let taken = checked_composed passes_Q c.args.link.now.inflow.now.points c.args.link.now.tail_label.now.points c.args.link.now.last in
-    rw (p.1, p.2) (stops_on c.in_err-all_taken.field-0.0 (at_part Check taken) (at_part Check (known_by c.args.link.now c.args.exits.points))
+    rw (p.1, p.2) (stops_on c.in_err-all_taken.field-0.0 (at_part Check taken) (at_part Check (known_on_link c.args.link.now c.args.exits.points))
     (λ q e. after_err Check taken _ q e) c.in_err-all_taken.ensures)
 
 pub returns-in_err-taken-clause-list : goal.returns-in_err-taken-clause-list
@@ -23,7 +23,7 @@ returns-in_err-taken-clause-list c =
     let p = err_from_is_err_and c.from_residual-in_err-taken.result c.from_residual-in_err-taken.ensures.1 in
     let taken = checked_composed passes_Q c.args.link.now.inflow.now.points c.args.link.now.tail_label.now.points c.args.link.now.last in
     rw (p.1, p.2) (stops_on c.in_err-taken.field-0.0 (at_part Check (checked_short passes_Q c.in_ok-all_taken.all_taken.points))
-    (at_part Check (known_by c.args.link.now c.args.exits.points))
+    (at_part Check (known_on_link c.args.link.now c.args.exits.points))
     (λ q e. after_ok Check taken _ c.in_ok-all_taken.all_taken.points c.in_ok-all_taken.ensures
     ∙ after_err Check (checked_short passes_Q c.in_ok-all_taken.all_taken.points) _ q e) c.in_err-taken.ensures.list)
 
@@ -33,7 +33,7 @@ returns-in_err-labels-clause-list c =
     let p = err_from_is_err_and c.from_residual-in_err-labels.result c.from_residual-in_err-labels.ensures.1 in
     let taken = checked_composed passes_Q c.args.link.now.inflow.now.points c.args.link.now.tail_label.now.points c.args.link.now.last in
     rw (p.1, p.2) (stops_on c.in_err-labels.field-0.0 (at_part Check (checked_short passes_Q c.args.link.now.head_label.now.points))
-    (at_part Check (known_by c.args.link.now c.args.exits.points))
+    (at_part Check (known_on_link c.args.link.now c.args.exits.points))
     (λ q e. after_ok Check taken _ c.in_ok-all_taken.all_taken.points c.in_ok-all_taken.ensures
     ∙ after_ok Check (checked_short passes_Q c.in_ok-all_taken.all_taken.points) _ c.in_ok-taken.taken.points c.in_ok-taken.ensures.list
     ∙ after_err Check (checked_short passes_Q c.args.link.now.head_label.now.points) _ q e) c.in_err-labels.ensures.list)

@@ -2,7 +2,7 @@ use Rattle.std.proofs.Common.{ℕ, ◌%◌, ◌*◌, ◌^◌, subst, arith}
 use Rattle.std.specs.Int.{w64}
 use Rattle.std.specs.Int.RustNames.{bit_or}
 use Rattle.std.proofs.lemmas.Nat.Bits.{bit_at_set_same}
-use Rattle.nf_linear.specs.Marks.{IsWithin}
+use Rattle.nf_linear.specs.Marks.{IsSubset}
 use Rattle.nf_linear.proofs.Bits.{within_left}
 use Rattle.nf_linear.proofs.marks.Marks.put.Goals as goal
 
@@ -11,5 +11,5 @@ returns-clause-put c = bit_at_set_same w64 c.self.inside.word (c.args.number % 6
 
 pub returns-clause-kept : goal.returns-clause-kept
 returns-clause-kept c =
-    subst (λ (word : ℕ). IsWithin word (bit_or c.self.inside.word (1 * 2 ^ (c.args.number % 64) % 2 ^ 64))) c.self.view_is
+    subst (λ (word : ℕ). IsSubset word (bit_or c.self.inside.word (1 * 2 ^ (c.args.number % 64) % 2 ^ 64))) c.self.view_is
     (within_left c.self.inside.word (1 * 2 ^ (c.args.number % 64) % 2 ^ 64))

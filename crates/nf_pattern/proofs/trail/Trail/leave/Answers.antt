@@ -1,5 +1,5 @@
 use Rattle.std.proofs.Common.{ℕ, refl, subst, arith}
-use Rattle.nf_pattern.specs.Walking.{Holds}
+use Rattle.nf_pattern.specs.Walking.{IsTightStack}
 use Rattle.nf_pattern.proofs.Following.{left_back}
 use Rattle.nf_pattern.proofs.trail.Trail.leave.Goals as goal
 
@@ -16,4 +16,4 @@ pub returns-clause-kept : goal.returns-clause-kept
 returns-clause-kept c source resetting p follows =
     let some = c.requires.some in
     left_back source c.args.hops.now resetting p follows (omega arith)
-    (c.take_back.ensures.holds p (subst (λ (k : ℕ). Holds c.args.hops.now p k c.args.self.now.tight) (omega arith) follows.tight)) c.take_back.ensures.nodes refl refl refl
+    (c.take_back.ensures.holds p (subst (λ (k : ℕ). IsTightStack c.args.hops.now p k c.args.self.now.tight) (omega arith) follows.tight)) c.take_back.ensures.nodes refl refl refl

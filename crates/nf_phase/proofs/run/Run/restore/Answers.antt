@@ -8,7 +8,7 @@ use Rattle.nf_model.specs.Equilibrium.{HasSlopes}
 use Rattle.nf_thin_def.specs.PhaseRun.{Standing}
 use Rattle.nf_phase_def.specs.Restoring.{value_at_end, growing, restore_list}
 use Rattle.nf_curve.specs.Points.{Grown}
-use Rattle.nf_curve.specs.Flows.{trace_of, flow_of as flow_in}
+use Rattle.nf_curve.specs.Flows.{seen_trace, seen_flow as flow_in}
 use Rattle.nf_curve.specs.declared.flow.Trace as code
 use Rattle.nf_curve.proofs.Exits.{was_ok, stops_on}
 use Rattle.nf_phase_curves.specs.Growing.{all_grown}
@@ -32,11 +32,11 @@ restore_links-requires-clause-queues c =
 
 pub restore_links-requires-clause-inflow_rates : goal.restore_links-requires-clause-inflow_rates
 restore_links-requires-clause-inflow_rates c =
-    subst (λ (l : List code.Trace). HasSlopes (map trace_of l)) (sym c.deref-3.ensures.value) c.requires.equilibrium.inflow_rates
+    subst (λ (l : List code.Trace). HasSlopes (map seen_trace l)) (sym c.deref-3.ensures.value) c.requires.equilibrium.inflow_rates
 
 pub restore_links-requires-clause-outflow_rates : goal.restore_links-requires-clause-outflow_rates
 restore_links-requires-clause-outflow_rates c =
-    subst (λ (l : List code.Trace). HasSlopes (map trace_of l)) (sym c.deref-4.ensures.value) c.requires.equilibrium.outflow_rates
+    subst (λ (l : List code.Trace). HasSlopes (map seen_trace l)) (sym c.deref-4.ensures.value) c.requires.equilibrium.outflow_rates
 
 pub returns-in_err-label_curves-clause-list : goal.returns-in_err-label_curves-clause-list
 returns-in_err-label_curves-clause-list c =
@@ -51,7 +51,7 @@ pub returns-in_err-link_curves-clause-list : goal.returns-in_err-link_curves-cla
 returns-in_err-link_curves-clause-list c =
     let p = err_from_is_err_and c.from_residual-in_err-link_curves.result c.from_residual-in_err-link_curves.ensures.1 in
     rw (p.1, p.2) (stops_on c.in_err-link_curves.field-0.0 (at_part Curve
-    (of_links passes_Q (map trace_of c.deref-3.result.now) (map trace_of c.deref-4.result.now) (map (λ (g : Grown). g.points) c.deref-5.result.now)))
+    (of_links passes_Q (map seen_trace c.deref-3.result.now) (map seen_trace c.deref-4.result.now) (map (λ (g : Grown). g.points) c.deref-5.result.now)))
     (at_part Curve (restore_list passes_Q (flow_in c.args.flow) c.args.last))
     (λ at e. links_pass passes_Q (flow_in c.args.flow) c.args.last (all_grown c.in_ok-label_curves.label_curves.items)
     (ap (λ (l : List Grown). at_part Curve (each (growing passes_Q) (map (λ (g : Grown). g.points) l))) (sym c.deref-2.ensures.value) ∙ c.in_ok-label_curves.ensures) at

@@ -3,7 +3,7 @@ use Rattle.nf_rational.specs.Order.{◌<ℚ◌}
 use Rattle.nf_model.specs.Curve.{Point}
 use Rattle.nf_curve.specs.Points.{last_time}
 use Rattle.nf_thin_def.specs.ReportCurves.{GrowingCurve}
-use Rattle.nf_thin_def.specs.Ends.{end_of}
+use Rattle.nf_thin_def.specs.Ends.{time_of_last}
 use Rattle.nf_phase_curves.specs.Growing.{Roomy}
 use Rattle.nf_phase_curves.proofs.Corners.{still_after}
 use Rattle.nf_phase_curves.proofs.growing.GrowingCurve.extend.Goals as goal
@@ -12,4 +12,4 @@ pub invariant_of-self : goal.invariant_of-self
 invariant_of-self c =
     subst (λ (l : List Point). last_time l <ℚ c.args.time) (sym c.close_unless.ensures)
     (still_after c.keeps_slope-kept.result c.self.inside.corners.points c.self.inside.end c.args.time c.self.invariant
-    (subst (λ (g : Roomy GrowingCurve). end_of g.grown.points <ℚ c.args.time) (sym c.self.view_is) c.requires.later))
+    (subst (λ (g : Roomy GrowingCurve). time_of_last g.grown.points <ℚ c.args.time) (sym c.self.view_is) c.requires.later))

@@ -4,7 +4,7 @@ use Rattle.std.proofs.lemmas.Result.{err_from_is_err_and}
 use Rattle.nf_frac_def.specs.declared.Part.TheVariants.{Curve}
 use Rattle.nf_frac_def.specs.Passing.{passes_Q}
 use Rattle.nf_frac_def.specs.Checked.{at_part}
-use Rattle.nf_curve.specs.Flows.{trace_of}
+use Rattle.nf_curve.specs.Flows.{seen_trace}
 use Rattle.nf_thin_def.specs.ReportCurves.{LinkCurves}
 use Rattle.nf_phase_def.specs.Restoring.{growing}
 use Rattle.nf_curve.proofs.Exits.{after_err, after_ok, stops_on}
@@ -15,7 +15,7 @@ pub returns-in_err-queue : goal.returns-in_err-queue
 returns-in_err-queue c =
     let p = err_from_is_err_and c.from_residual-in_err-queue.result c.from_residual-in_err-queue.ensures.1 in
     rw (p.1, p.2) (stops_on c.in_err-queue.field-0.0 (at_part Curve (growing passes_Q c.args.queue.now.points))
-    (at_part Curve (of_link passes_Q (trace_of c.args.inflow.now) (trace_of c.args.outflow.now) c.args.queue.now.points))
+    (at_part Curve (of_link passes_Q (seen_trace c.args.inflow.now) (seen_trace c.args.outflow.now) c.args.queue.now.points))
     (λ at e. after_err Curve (growing passes_Q c.args.queue.now.points) _ at e) c.in_err-queue.ensures)
 
 pub returns : goal.returns

@@ -1,7 +1,7 @@
 use Rattle.std.proofs.Common.{◌∙◌, sym, ap, subst}
 use Rattle.nf_rational.specs.Order.{◌<ℚ◌}
 use Rattle.nf_model.specs.Equilibrium.{Trace}
-use Rattle.nf_thin_def.specs.Ends.{end_of}
+use Rattle.nf_thin_def.specs.Ends.{time_of_last}
 use Rattle.nf_thin_def.specs.ReportCurves.{trace_with}
 use Rattle.nf_phase_curves.specs.Growing.{Roomy, rates_by}
 use Rattle.nf_phase_curves.proofs.Corners.{trace-with}
@@ -15,4 +15,4 @@ returns c =
     ∙ ap (λ (t : Roomy Trace). trace_with t.grown (c.args.time, c.args.amount) c.args.rate) c.self.view_is
 
 pub extend-requires-clause-later : goal.extend-requires-clause-later
-extend-requires-clause-later c = subst (λ (r : Roomy Trace). end_of r.grown.points <ℚ c.args.time) (sym c.self.view_is) c.requires.later
+extend-requires-clause-later c = subst (λ (r : Roomy Trace). time_of_last r.grown.points <ℚ c.args.time) (sym c.self.view_is) c.requires.later

@@ -1,19 +1,19 @@
 use Rattle.std.proofs.Common.{List, map, ap, ◌∙◌}
 use Rattle.std.proofs.lemmas.List.{map-append}
 use Rattle.nf_curve.specs.declared.flow.Trace.{Trace}
-use Rattle.nf_curve.specs.Flows.{trace_of}
+use Rattle.nf_curve.specs.Flows.{seen_trace}
 use Rattle.nf_curve.specs.Points.{Grown}
-use Rattle.nf_resume.specs.Cuts.{curves_of}
+use Rattle.nf_resume.specs.Cuts.{points_of_each}
 use Rattle.nf_resume.proofs.cutting.OfLinks.push.Goals as goal
 
 pub returns-clause-inflows : goal.returns-clause-inflows
 returns-clause-inflows c =
-    let pushed = c.in_ok-push.ensures {u = tt} in ap (λ (l : List Trace). map trace_of l) pushed.items ∙ map-append trace_of c.args.self.now.inflows.items _
+    let pushed = c.in_ok-push.ensures {u = tt} in ap (λ (l : List Trace). map seen_trace l) pushed.items ∙ map-append seen_trace c.args.self.now.inflows.items _
 
 pub returns-clause-outflows : goal.returns-clause-outflows
 returns-clause-outflows c =
-    let pushed = c.in_ok-push-2.ensures {u = tt} in ap (λ (l : List Trace). map trace_of l) pushed.items ∙ map-append trace_of c.args.self.now.outflows.items _
+    let pushed = c.in_ok-push-2.ensures {u = tt} in ap (λ (l : List Trace). map seen_trace l) pushed.items ∙ map-append seen_trace c.args.self.now.outflows.items _
 
 pub returns-clause-queues : goal.returns-clause-queues
 returns-clause-queues c =
-    let pushed = c.in_ok-push-3.ensures {u = tt} in ap (λ (l : List Grown). curves_of l) pushed.items ∙ map-append (λ (g : Grown). g.points) c.args.self.now.queues.items _
+    let pushed = c.in_ok-push-3.ensures {u = tt} in ap (λ (l : List Grown). points_of_each l) pushed.items ∙ map-append (λ (g : Grown). g.points) c.args.self.now.queues.items _
