@@ -1,25 +1,10 @@
 -- What of an answer is the same in every equilibrium: its flows are equilibria, and those of a network.
-use Rattle.std.proofs.Common.{◌≡◌, ℕ, List, inl, inr, refl, sym, ap, subst, ◌∙◌}
-use Rattle.std.specs.Prelude.{Option, Some, None}
-use Rattle.nf_rational.specs.Rational.{ℚ}
-use Rattle.nf_rational.specs.Operations.{0ℚ}
-use Rattle.nf_rational.specs.Order.{◌≤ℚ◌}
-use Rattle.nf_rational_laws.proofs.Chains.{≤ℚ_refl}
-use Rattle.nf_model.specs.Curve.{Within}
-use Rattle.nf_model.specs.Network.{Network, IsNetwork}
-use Rattle.nf_model.specs.Equilibrium.{label}
-use Rattle.nf_net_def.specs.declared.Cause.{Cause}
-use Rattle.nf_net_def.specs.Named.{Named}
-use Rattle.nf_net_def.specs.Report.{Report}
-use Rattle.nf_quick_def.specs.Departures.{IsDeparture}
+use Rattle.std.proofs.Common.{◌≡◌, ℕ, List, inl, inr, refl, sym, ap, subst, ◌∙◌, Option, Some, None}
+use Rattle.nf_app.proofs.Common.{ℚ, 0ℚ, ◌≤ℚ◌, ≤ℚ_refl, Within, Network, IsNetwork, label, Cause, Named, Report, IsDeparture, Request, Solve, SolveForever}
+use Rattle.nf_app.proofs.Common.{Show, Load, Check, Quick, Gen, Settle, Resume, Routes, Arrival, ProgramAnswer, Quickest, TooManyWalks, Passes, Unbounded}
+use Rattle.nf_app.proofs.Common.{arrival_of, ArrivesIn, IsArrivalOf, IsResultOf, Run}
 use Rattle.nf_unique_laws.specs.UniqueLaws.{SameInAll}
 use Rattle.nf_unique_laws.proofs.Exits.{SameInAll-equilibrium}
-use Rattle.nf_app_words.specs.Requests.{Request, Solve, SolveForever, Show, Load, Check, Quick, Gen, Settle, Resume, Routes}
-use Rattle.nf_app_answers.specs.declared.arrival.Arrival.{Arrival}
-use Rattle.nf_app_answers.specs.Answers.{ProgramAnswer, Quickest, TooManyWalks, Passes, Unbounded}
-use Rattle.nf_app.specs.Arrivals.{arrival_of, ArrivesIn, IsArrivalOf}
-use Rattle.nf_app.specs.Results.{IsResultOf}
-use Rattle.nf_app.specs.Runs.{Run}
 use Rattle.nf_app.specs.Uniqueness.{SameArrival, IsSameArrival, AnswerIsSameInAll}
 use Rattle.nf_app.proofs.AnswerFlows.{of_result}
 

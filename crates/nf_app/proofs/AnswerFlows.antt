@@ -1,23 +1,10 @@
 -- A fact that holds of every equilibrium of a network holds of each flow that an answer describes.
-use Rattle.std.proofs.Common.{◌≡◌, ℕ, List, inl, inr, sym, subst}
-use Rattle.std.specs.Prelude.{Option, Some, None, IfSome, Ok}
-use Rattle.nf_rational.specs.Rational.{ℚ}
-use Rattle.nf_rational.specs.Operations.{0ℚ}
-use Rattle.nf_rational.specs.Order.{◌≤ℚ◌}
-use Rattle.nf_model.specs.Network.{Network, IsNetwork}
-use Rattle.nf_model.specs.Equilibrium.{Flow, Equilibrium}
-use Rattle.nf_net_def.specs.Named.{Named}
-use Rattle.nf_net_def.specs.Report.{Report}
+use Rattle.std.proofs.Common.{◌≡◌, ℕ, List, inl, inr, sym, subst, Option, Some, None, IfSome, Ok}
+use Rattle.nf_app.proofs.Common.{ℚ, 0ℚ, ◌≤ℚ◌, Network, IsNetwork, Flow, Equilibrium, Named, Report, Yes, No, IsExact, report_in, Forever, flow_until}
+use Rattle.nf_app.proofs.Common.{Request, Solve, SolveForever, Show, Load, Check, Quick, Gen, Settle, Resume, Routes, ProgramAnswer, Solved, SolvedForever}
+use Rattle.nf_app.proofs.Common.{Shown, Loaded, Checked, Quickest, TooManyWalks, Generated, Settled, Distributed, MalformedLoads, MalformedFlows}
+use Rattle.nf_app.proofs.Common.{MalformedRoutes, MalformedReport, Passes, Unbounded, NotThin, Earlier, same_value, IsResultOf}
 use Rattle.nf_check_def.specs.declared.Answer.{Answer as Verdict}
-use Rattle.nf_check_def.specs.declared.Answer.TheVariants.{Yes, No}
-use Rattle.nf_check.specs.Answers.{IsExact}
-use Rattle.nf_report_def.specs.ReportFile.{report_in}
-use Rattle.nf_forever_def.specs.ForeverRun.{Forever}
-use Rattle.nf_forever_def.specs.Extended.{flow_until}
-use Rattle.nf_app_words.specs.Requests.{Request, Solve, SolveForever, Show, Load, Check, Quick, Gen, Settle, Resume, Routes}
-use Rattle.nf_app_answers.specs.Answers.{ProgramAnswer, Solved, SolvedForever, Shown, Loaded, Checked, Quickest, TooManyWalks, Generated, Settled, Distributed, MalformedLoads, MalformedFlows, MalformedRoutes, MalformedReport, Passes, Unbounded, NotThin, Earlier}
-use Rattle.nf_frac_def.proofs.Exact.{same_value}
-use Rattle.nf_app.specs.Results.{IsResultOf}
 use Rattle.nf_app.specs.AnswerFlows.{FlowFact, OfForever, OfYes, OfEachFlow}
 
 pub each_some : {A : Type 0} (P Q : A → Type 0) (o : Option A) → ((x : A) → P x → Q x) → IfSome o P → IfSome o Q

@@ -1,30 +1,14 @@
 -- What a call answers, from what was fetched for its request and what the request gives.
-use Rattle.std.proofs.Common.{Vec, Global, ◌≡◌, ℕ, List, [], ◌∷◌, refl, sym, ap, subst, ◌∙◌, inl, inr, append-nil}
-use Rattle.std.specs.Prelude.{Option, None, Some, slice_get, IfSome, Result, Ok, Err, IfOk, IfErr}
+use Rattle.std.proofs.Common.{Vec, Global, ◌≡◌, ℕ, List, [], ◌∷◌, refl, sym, ap, subst, ◌∙◌, inl, inr, append-nil, Option, None, Some, slice_get, IfSome}
+use Rattle.std.proofs.Common.{Result, Ok, Err, IfOk, IfErr}
+use Rattle.nf_app.proofs.Common.{All-nil, with_more, Named, Broken, IsNamed, Computed, Refusal, Status, ProgramAnswer, NoMemory, status_of, out_text}
+use Rattle.nf_app.proofs.Common.{err_text, refused_answer, Wanted, Visit, FitsLimit, FetchedNone, FetchedAll, FetchedTo, IsLastText, NetworkReads, AreRead}
+use Rattle.nf_app.proofs.Common.{Took, TookAll, TookText, IsShown, Request, request_of, files_of, generated_by, OtherIsText, IsResultOf, Call, FetchedUpTo}
+use Rattle.nf_app.proofs.Common.{HasNetwork, IsRefusedCall, MayAnswer, IsGathered, FindsResult, AnswersCall, with_net}
 use Rattle.std.specs.Result.{result_map_both}
-use Rattle.std.proofs.lemmas.List.Elements.{All-nil}
-use Rattle.nf_edge.specs.Taken.{with_more}
-use Rattle.nf_net_def.specs.Named.{Named}
-use Rattle.nf_net_def.specs.NetLines.{Broken}
-use Rattle.nf_net_def.specs.WellNamed.{IsNamed}
-use Rattle.nf_app_answers.specs.declared.outcome.Computed.{Computed}
 use Rattle.nf_app_answers.specs.declared.outcome.Outcome.{Outcome}
-use Rattle.nf_app_answers.specs.declared.refusal.Refusal.{Refusal}
-use Rattle.nf_app_answers.specs.declared.status.Status.{Status}
-use Rattle.nf_app_answers.specs.Answers.{ProgramAnswer, NoMemory, status_of, out_text, err_text}
-use Rattle.nf_app_answers.specs.Refusals.{refused_answer}
-use Rattle.nf_app_files.specs.Files.{Wanted, Visit, FitsLimit, FetchedNone, FetchedAll, FetchedTo}
-use Rattle.nf_app_files.specs.Fetching.{IsLastText, NetworkReads, AreRead}
-use Rattle.nf_app_files.specs.Sinks.{Took, TookAll, TookText}
-use Rattle.nf_app_files.specs.Shown.{IsShown}
 use Rattle.nf_app_files.proofs.Networks.{all_reached}
-use Rattle.nf_app_words.specs.Requests.{Request, request_of}
 use Rattle.nf_report_pages.proofs.Gathering.{nothing_more}
-use Rattle.nf_app.specs.Requests.{files_of, generated_by, OtherIsText}
-use Rattle.nf_app.specs.Results.{IsResultOf}
-use Rattle.nf_app.specs.Runs.{Call, FetchedUpTo, HasNetwork, IsRefusedCall, MayAnswer}
-use Rattle.nf_app.specs.Gathered.{IsGathered}
-use Rattle.nf_app.specs.Outcomes.{FindsResult, AnswersCall, with_net}
 
 -- ---- a request with its files
 module _ (words : List (List ℕ)) (shelf : Visit) (request : Request) (asks : request_of words ≡ Some request) (file : Wanted) (others : List Wanted)

@@ -1,38 +1,15 @@
 -- `check` says yes of what `solve` wrote, and `resume` of one such text writes another.
-use Rattle.std.proofs.Common.{◌≡◌, ◌⊎◌, ℕ, Bool, true, false, List, [], ◌∷◌, ◌++◌, refl, sym, ap, subst, ◌∙◌, inl, inr}
-use Rattle.std.specs.Prelude.{Some, IsOk, is_ok, Result, Ok, codes}
-use Rattle.std.proofs.lemmas.Option.{same_Some}
-use Rattle.std.proofs.lemmas.List.{append_cancel_left}
-use Rattle.nf_rational.specs.Rational.{ℚ}
-use Rattle.nf_frac_def.specs.Passing.{passes_Q}
-use Rattle.nf_frac_def.proofs.Exact.{same_value}
-use Rattle.nf_edge.specs.Taken.{with_more}
+use Rattle.std.proofs.Common.{◌≡◌, ◌⊎◌, ℕ, Bool, true, false, List, [], ◌∷◌, ◌++◌, refl, sym, ap, subst, ◌∙◌, inl, inr, Some, IsOk, is_ok, Result, Ok}
+use Rattle.std.proofs.Common.{codes}
+use Rattle.nf_app.proofs.Common.{same_Some, append_cancel_left, ℚ, passes_Q, same_value, with_more, Equilibrium, Named, Broken, Reads, Report, report_text}
+use Rattle.nf_app.proofs.Common.{reads_at_most_once, Bounds, IsRunReport, Yes, No, IsExact, report_in, Status, ProgramAnswer, Solved, SolvedForever, Shown}
+use Rattle.nf_app.proofs.Common.{Loaded, Checked, Quickest, TooManyWalks, Generated, Settled, Distributed, NoMemory, NoRequest, ShelfFailed, ShelfTooLong}
+use Rattle.nf_app.proofs.Common.{Malformed, MalformedLoads, MalformedFlows, MalformedRoutes, MalformedReport, Passes, Unbounded, NotThin, Earlier}
+use Rattle.nf_app.proofs.Common.{status_of, status_of_stop, out_text, Visit, input_file, NetworkReads, TookAll, IsShown, IsShownWhole, Request, Solve}
+use Rattle.nf_app.proofs.Common.{Check, Resume, request_of, Ok_not_Err, files_of, generated_by, budgets_of, bounds_to, SolveAnswer, IsResultOf, Call, Run}
+use Rattle.nf_app.proofs.Common.{IsRefusedCall, IsComputed, MayAnswer, Ran, NoFault, IsOneOf, ToldRequest, AsksToResumeRun}
 use Rattle.nf_text_def.specs.Words.{line_of_words}
-use Rattle.nf_model.specs.Equilibrium.{Equilibrium}
-use Rattle.nf_net_def.specs.Named.{Named}
-use Rattle.nf_net_def.specs.NetLines.{Broken}
-use Rattle.nf_net_def.specs.NetFile.{Reads}
-use Rattle.nf_net_def.specs.Report.{Report, report_text}
-use Rattle.nf_net_laws.proofs.Once.{reads_at_most_once}
-use Rattle.nf_thin_def.specs.PhaseRun.{Bounds, IsRunReport}
 use Rattle.nf_check_def.specs.declared.Answer.{Answer as Verdict}
-use Rattle.nf_check_def.specs.declared.Answer.TheVariants.{Yes, No}
-use Rattle.nf_check.specs.Answers.{IsExact}
-use Rattle.nf_report_def.specs.ReportFile.{report_in}
-use Rattle.nf_app_answers.specs.declared.status.Status.{Status}
-use Rattle.nf_app_answers.specs.Answers.{ProgramAnswer, Solved, SolvedForever, Shown, Loaded, Checked, Quickest, TooManyWalks, Generated, Settled, Distributed, NoMemory, NoRequest, ShelfFailed, ShelfTooLong, Malformed, MalformedLoads, MalformedFlows, MalformedRoutes, MalformedReport, Passes, Unbounded, NotThin, Earlier, status_of, status_of_stop, out_text}
-use Rattle.nf_app_files.specs.Files.{Visit, input_file}
-use Rattle.nf_app_files.specs.Fetching.{NetworkReads}
-use Rattle.nf_app_files.specs.Sinks.{TookAll}
-use Rattle.nf_app_files.specs.Shown.{IsShown, IsShownWhole}
-use Rattle.nf_app_words.specs.Requests.{Request, Solve, Check, Resume, request_of}
-use Rattle.nf_rational_laws.proofs.Results.{Ok_not_Err}
-use Rattle.nf_app.specs.Requests.{files_of, generated_by, budgets_of, bounds_to}
-use Rattle.nf_app.specs.FullAnswers.{SolveAnswer}
-use Rattle.nf_app.specs.Results.{IsResultOf}
-use Rattle.nf_app.specs.Runs.{Call, Run, IsRefusedCall, IsComputed, MayAnswer, Ran, NoFault, IsOneOf}
-use Rattle.nf_app.specs.Completeness.{ToldRequest}
-use Rattle.nf_app.specs.Resumption.{AsksToResumeRun}
 use Rattle.nf_app.specs.Chained.{WroteReport, ChecksSolved, SaysYes, ResumesSolved, ResumesSolvedText}
 use Rattle.nf_app.proofs.Fetched.{reads_told}
 use Rattle.nf_app.proofs.ToldRequests.{Answers, told_answers}

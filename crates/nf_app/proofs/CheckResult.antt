@@ -1,26 +1,9 @@
 -- What a request to check a report gives, from what was read of its report and what the checker answers.
-use Rattle.std.proofs.Common.{◌≡◌, ◌⊎◌, ℕ, List, refl, inl, inr}
-use Rattle.std.specs.Prelude.{Ok, Err}
-use Rattle.nf_rational.specs.Rational.{ℚ}
-use Rattle.nf_frac_def.specs.declared.Halt.{Halt}
-use Rattle.nf_frac_def.specs.Passing.{passes_Q}
-use Rattle.nf_frac_def.specs.Checked.{Stops}
-use Rattle.nf_net_def.specs.Named.{Named}
-use Rattle.nf_net_def.specs.WellNamed.{IsNamed}
-use Rattle.nf_net_def.specs.Report.{Report}
+use Rattle.std.proofs.Common.{◌≡◌, ◌⊎◌, ℕ, List, refl, inl, inr, Ok, Err}
+use Rattle.nf_app.proofs.Common.{ℚ, Halt, passes_Q, Stops, Named, IsNamed, Report, check_list, IsExact, report_in, FileFault, ReportRule, IfBroken, Refusal}
+use Rattle.nf_app.proofs.Common.{Check, Checked, refused_answer, refusal_of_report, refusal_of_halt, IsResultOf}
 use Rattle.nf_check_def.specs.declared.Answer.{Answer as Verdict}
 use Rattle.nf_check_def.specs.Rules.{Checks}
-use Rattle.nf_check_def.specs.CheckList.{check_list}
-use Rattle.nf_check.specs.Answers.{IsExact}
-use Rattle.nf_report_def.specs.ReportFile.{report_in}
-use Rattle.nf_text.specs.declared.fault.FileFault.{FileFault}
-use Rattle.nf_report_def.specs.declared.ReportRule.{ReportRule}
-use Rattle.nf_report_read.specs.Files.{IfBroken}
-use Rattle.nf_app_answers.specs.declared.refusal.Refusal.{Refusal}
-use Rattle.nf_app_words.specs.Requests.{Check}
-use Rattle.nf_app_answers.specs.Answers.{Checked}
-use Rattle.nf_app_answers.specs.Refusals.{refused_answer, refusal_of_report, refusal_of_halt}
-use Rattle.nf_app.specs.Results.{IsResultOf}
 use Rattle.nf_app.proofs.Reports.{a_report, no_report}
 
 module _ (n : Named) (named : IsNamed n) (file name text : List ℕ) where

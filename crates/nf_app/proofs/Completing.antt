@@ -1,40 +1,12 @@
 -- How a call ends whose files are known, within their limits and well formed: command by command.
-use Rattle.std.proofs.Common.{◌≡◌, ℕ, List, [], ◌∷◌, refl, sym, ◌∙◌, ap, subst, inl, inr}
-use Rattle.std.specs.Prelude.{Option, Some, None, IsSome, Ok, Err}
-use Rattle.nf_rational.specs.Rational.{ℚ}
-use Rattle.nf_rational.specs.Order.{◌≤ℚ◌}
-use Rattle.nf_rational_laws.proofs.Order.{not_both_ℚ}
-use Rattle.nf_rational_laws.proofs.Results.{IsOk-not_Err, Ok_not_Err}
-use Rattle.nf_frac_def.specs.Passing.{passes_Q}
-use Rattle.nf_frac_def.specs.declared.PassedAt.{PassedAt}
-use Rattle.nf_frac_def.proofs.Exact.{same_value}
-use Rattle.nf_model.specs.Network.{IsNetwork}
-use Rattle.nf_model.specs.Equilibrium.{Equilibrium}
-use Rattle.nf_net_def.specs.declared.Cause.{Cause}
-use Rattle.nf_net_def.specs.Named.{Named}
-use Rattle.nf_net_def.specs.Report.{Report}
-use Rattle.nf_thin_laws.proofs.OneRun.{one_report}
+use Rattle.std.proofs.Common.{◌≡◌, ℕ, List, [], ◌∷◌, refl, sym, ◌∙◌, ap, subst, inl, inr, Option, Some, None, IsSome, Ok, Err}
+use Rattle.nf_app.proofs.Common.{ℚ, ◌≤ℚ◌, not_both_ℚ, IsOk-not_Err, Ok_not_Err, passes_Q, PassedAt, same_value, IsNetwork, Equilibrium, Cause, Named}
+use Rattle.nf_app.proofs.Common.{Report, one_report, Yes, No, loads_in, report_in, flows_in, Forever, one_forever, IsResumedReport, RoutesBroken}
+use Rattle.nf_app.proofs.Common.{NamedRoute, ReadsRoutes, routes_in, only_reading, NeverNoPattern, never_report, never_resumed, never_forever, Request}
+use Rattle.nf_app.proofs.Common.{Solve, SolveForever, Show, Load, Check, Quick, Gen, Settle, Resume, Routes, Status, ProgramAnswer, status_of}
+use Rattle.nf_app.proofs.Common.{status_of_stop, status_of_forever, status_of_verdict, IsShownWhole, bounds_to, IsResultOf, Run, Ran, NoFault, IsOneOf}
+use Rattle.nf_app.proofs.Common.{second_bytes, endings, ToldRequest, endings_of, EndsWell, IsComplete}
 use Rattle.nf_check_def.specs.declared.Answer.{Answer as Verdict}
-use Rattle.nf_check_def.specs.declared.Answer.TheVariants.{Yes, No}
-use Rattle.nf_report_def.specs.LoadsFile.{loads_in}
-use Rattle.nf_report_def.specs.ReportFile.{report_in}
-use Rattle.nf_complete_def.specs.FlowsFile.{flows_in}
-use Rattle.nf_forever_def.specs.ForeverRun.{Forever}
-use Rattle.nf_forever_laws.proofs.OneForever.{one_forever}
-use Rattle.nf_resume_def.specs.Meanings.{IsResumedReport}
-use Rattle.nf_routes_def.specs.RoutesFile.{RoutesBroken, NamedRoute, ReadsRoutes, routes_in}
-use Rattle.nf_routes_laws.proofs.FileReading.{only_reading}
-use Rattle.nf_phase_run_laws.specs.Stops.{NeverNoPattern}
-use Rattle.nf_phase_run_laws.proofs.Stops.{never_report, never_resumed, never_forever}
-use Rattle.nf_app_words.specs.Requests.{Request, Solve, SolveForever, Show, Load, Check, Quick, Gen, Settle, Resume, Routes}
-use Rattle.nf_app_answers.specs.declared.status.Status.{Status}
-use Rattle.nf_app_answers.specs.Answers.{ProgramAnswer, status_of, status_of_stop, status_of_forever, status_of_verdict}
-use Rattle.nf_app_files.specs.Shown.{IsShownWhole}
-use Rattle.nf_app.specs.Requests.{bounds_to}
-use Rattle.nf_app.specs.Results.{IsResultOf}
-use Rattle.nf_app.specs.Runs.{Run, Ran, NoFault, IsOneOf}
-use Rattle.nf_app.specs.Told.{second_bytes}
-use Rattle.nf_app.specs.Completeness.{endings, ToldRequest, endings_of, EndsWell, IsComplete}
 use Rattle.nf_app.proofs.Only.{whole}
 use Rattle.nf_app.proofs.ToldRequests.{Answers, told_answers}
 

@@ -1,5 +1,5 @@
 -- The promises follow from an answer that the call may give, and what is shown of it.
-use Rattle.nf_app.specs.Runs.{Run, Ran}
+use Rattle.nf_app.proofs.Common.{Run, Ran}
 use Rattle.nf_app.specs.Promises.{Promises}
 use Rattle.nf_app.proofs.Solving.{solves_told}
 use Rattle.nf_app.proofs.Only.{shows_only}

@@ -1,11 +1,6 @@
 -- Bytes that a shelf tells of a file are those that were fetched of it.
-use Rattle.std.proofs.Common.{◌≡◌, ℕ, List, [], ◌∷◌, subst}
-use Rattle.std.specs.Prelude.{Option, Some, None, IfSome, Result}
-use Rattle.nf_net_def.specs.Named.{Named}
-use Rattle.nf_net_def.specs.NetLines.{Broken}
-use Rattle.nf_net_def.specs.NetFile.{Reads}
-use Rattle.nf_app_files.specs.Files.{Wanted, Visit}
-use Rattle.nf_app_files.specs.Fetching.{IsTold, OfLastBytes, NetworkReads}
+use Rattle.std.proofs.Common.{◌≡◌, ℕ, List, [], ◌∷◌, subst, Option, Some, None, IfSome, Result}
+use Rattle.nf_app.proofs.Common.{Named, Broken, Reads, Wanted, Visit, IsTold, OfLastBytes, NetworkReads}
 
 module _ (shelf : Visit) (file : Wanted) (text : List ℕ) (told : shelf.told file.name ≡ Some text) where
   pub bytes_are : (bytes : List ℕ) → IsTold shelf file bytes → bytes ≡ text

@@ -1,15 +1,7 @@
 -- What `Run::finish` returns never stops because no pattern is left, whatever state the run had reached.
-use Rattle.std.proofs.Common.{sym, ap, subst}
-use Rattle.std.specs.Prelude.{Result, Ok, Err, IfOk}
-use Rattle.nf_frac_def.specs.Passing.{passes_Q}
-use Rattle.nf_model.specs.Network.{Network, IsNetwork}
-use Rattle.nf_net_def.specs.Report.{Report}
-use Rattle.nf_thin_def.specs.PhaseRun.{Standing, Bounds}
-use Rattle.nf_phase_run_laws.specs.Stops.{NeverNoPattern}
-use Rattle.nf_phase_run_laws.proofs.Stops.{never_on}
+use Rattle.std.proofs.Common.{sym, ap, subst, Result, Ok, Err, IfOk}
+use Rattle.nf_app.proofs.Common.{passes_Q, Network, IsNetwork, Report, Standing, Bounds, NeverNoPattern, never_on, IsFinished, solution_report, Reaches}
 use Rattle.nf_phase.specs.declared.solution.Solution.{Solution}
-use Rattle.nf_phase.specs.Solution.{IsFinished, solution_report}
-use Rattle.nf_phase.specs.Stepping.{Reaches}
 use Rattle.nf_phase.proofs.Reached.{Stands-reached}
 
 pub never_finished : (net : Network) (bounds : Bounds) → IsNetwork net → (first : Standing) → Reaches passes_Q net first → {E : Type 0} (result : Result Solution E)

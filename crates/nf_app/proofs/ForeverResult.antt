@@ -1,17 +1,11 @@
 -- What a run without a horizon gives: its tail, as the definitions see it, and how its flow ends.
-use Rattle.std.proofs.Common.{◌≡◌, ℕ, refl, sym, ap, subst, ◌∙◌}
-use Rattle.std.specs.Prelude.{◌↔◌, Option, Some, None, IsSome, IfSome, option_map}
-use Rattle.nf_frac_def.specs.Passing.{Passing}
-use Rattle.nf_model.specs.Network.{Network, IsNetwork}
-use Rattle.nf_thin_def.specs.PhaseRun.{Standing, IsShortFlow, flow_of}
-use Rattle.nf_phase.specs.Stepping.{Reaches, starts, goes_on}
-use Rattle.nf_phase_def.specs.Restoring.{EndsAtItsLabels}
+use Rattle.std.proofs.Common.{◌≡◌, ℕ, refl, sym, ap, subst, ◌∙◌, ◌↔◌, Option, Some, None, IsSome, IfSome, option_map}
+use Rattle.nf_app.proofs.Common.{Passing, Network, IsNetwork, Standing, IsShortFlow, flow_of, Reaches, starts, goes_on, EndsAtItsLabels, Tail, End}
+use Rattle.nf_app.proofs.Common.{NeverEnds, RunsForever, at_phases, fails, never_ends, goes, Forever, forever_of, IsForever, tail_in}
 use Rattle.nf_phase.proofs.ShortReached.{short_reached}
 use Rattle.nf_phase.proofs.Told.{ends_told}
-use Rattle.nf_phase_def.specs.ToEnd.{Tail}
-use Rattle.nf_forever_def.specs.ForeverRun.{End, Stops, NeverEnds, RunsForever, at_phases, fails, never_ends, goes, Forever, forever_of, IsForever}
+use Rattle.nf_forever_def.specs.ForeverRun.{Stops}
 use Rattle.nf_forever.specs.declared.forever.Tail.{Tail as CodeTail}
-use Rattle.nf_forever.specs.Seen.{tail_in}
 
 pub stop_seen : (tail : Option CodeTail) (Stopped : Type 0) → (IsSome tail ↔ Stopped) → (IsSome (option_map tail_in tail) ↔ Stopped)
 stop_seen None Stopped h = h

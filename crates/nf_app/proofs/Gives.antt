@@ -1,37 +1,15 @@
 -- The answer of a request as a function of its texts, where lists and runs determine it.
-use Rattle.std.specs.Prelude.{◌≡◌, ◌⊎◌, ℕ, List, Option, Some, None, Result, Ok, Err}
-use Rattle.nf_rational.specs.Rational.{ℚ}
-use Rattle.nf_rational.specs.Order.{◌≤ℚ◌, ◌<ℚ◌}
-use Rattle.nf_frac_def.specs.Passing.{passes_Q}
-use Rattle.nf_frac_def.specs.declared.PassedAt.{PassedAt}
-use Rattle.nf_model.specs.Network.{Piece, Network}
-use Rattle.nf_model.specs.Pattern.{Pattern}
-use Rattle.nf_model.specs.Phases.{AreStartLabels}
-use Rattle.nf_model.specs.Equilibrium.{label}
-use Rattle.nf_net_def.specs.Named.{Named}
-use Rattle.nf_net_def.specs.Report.{Report}
-use Rattle.nf_thin_def.specs.PhaseRun.{Bounds, IsRunReport}
-use Rattle.nf_check_def.specs.CheckList.{check_list}
-use Rattle.nf_report_def.specs.LoadsFile.{LoadsBroken, loads_in}
-use Rattle.nf_report_def.specs.ReportFile.{ReportBroken, report_in}
+use Rattle.std.proofs.Common.{◌≡◌, ◌⊎◌, ℕ, List, Option, Some, None, Result, Ok, Err}
+use Rattle.nf_app.proofs.Common.{ℚ, ◌≤ℚ◌, ◌<ℚ◌, passes_Q, PassedAt, Piece, Network, Pattern, AreStartLabels, label, Named, Report, Bounds, IsRunReport}
+use Rattle.nf_app.proofs.Common.{check_list, LoadsBroken, loads_in, ReportBroken, report_in, HasNoWay, bounds_of, FlowsBroken, GivenFlows, flows_in}
+use Rattle.nf_app.proofs.Common.{Forever, IsForever, RoutesBroken, NamedRoute, routes_in, Refused, Stands, resume_list, IsResumedReport, Request, Solve}
+use Rattle.nf_app.proofs.Common.{SolveForever, Show, Load, Check, Quick, Gen, Settle, Resume, Routes, Arrival, ProgramAnswer, Solved, SolvedForever, Shown}
+use Rattle.nf_app.proofs.Common.{Loaded, Checked, Quickest, TooManyWalks, Generated, Settled, Distributed, MalformedLoads, MalformedFlows, MalformedRoutes}
+use Rattle.nf_app.proofs.Common.{MalformedReport, Passes, Unbounded, NotThin, Earlier, bounds_to, usual_budgets, loading_list, flow_list, departs_list}
+use Rattle.nf_app.proofs.Common.{by_route_list, arrival_of, IsUnbounded, AreSettled, AreNotThin, PassesFirst}
 use Rattle.nf_quick_def.specs.Quick.{Quick as QuickFlow, FoundQuick, Budget}
 use Rattle.nf_quick_def.specs.Quick as quick
-use Rattle.nf_quick.specs.Answered.{HasNoWay}
-use Rattle.nf_phase.specs.Solution.{bounds_of}
-use Rattle.nf_complete_def.specs.FlowsFile.{FlowsBroken, GivenFlows, flows_in}
-use Rattle.nf_forever_def.specs.ForeverRun.{Forever, IsForever}
-use Rattle.nf_routes_def.specs.RoutesFile.{RoutesBroken, NamedRoute, routes_in}
-use Rattle.nf_resume_def.specs.Resuming.{Refused, Stands, resume_list}
 use Rattle.nf_resume_def.specs.Resuming as resuming
-use Rattle.nf_resume_def.specs.Meanings.{IsResumedReport}
-use Rattle.nf_app_words.specs.Requests.{Request, Solve, SolveForever, Show, Load, Check, Quick, Gen, Settle, Resume, Routes}
-use Rattle.nf_app_answers.specs.declared.arrival.Arrival.{Arrival}
-use Rattle.nf_app_answers.specs.Answers.{ProgramAnswer, Solved, SolvedForever, Shown, Loaded, Checked, Quickest, TooManyWalks, Generated, Settled, Distributed, MalformedLoads, MalformedFlows, MalformedRoutes, MalformedReport, Passes, Unbounded, NotThin, Earlier}
-use Rattle.nf_app.specs.Requests.{bounds_to, usual_budgets}
-use Rattle.nf_app.specs.Lists.{loading_list, flow_list, departs_list, by_route_list}
-use Rattle.nf_app.specs.Arrivals.{arrival_of}
-use Rattle.nf_app.specs.Refused.{IsUnbounded}
-use Rattle.nf_app.specs.Settling.{AreSettled, AreNotThin, PassesFirst}
 
 -- ---- what a request gives with its network, and with the text of the other file that it wants
 -- what a list computes, or the operation of it that passes

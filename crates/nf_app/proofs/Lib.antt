@@ -1,3 +1,4 @@
+mod Common
 pub mod OneValue
 pub mod Calls
 pub mod Fetched

@@ -1,9 +1,6 @@
 -- The links of a network with their pieces, one after the other.
-use Rattle.std.proofs.Common.{◌≡◌, ℕ, zero, suc, ◌+◌, List, [], ◌∷◌, length, drop, refl, ap, add-one, arith}
-use Rattle.std.specs.Prelude.{Some, slice_get, zip}
-use Rattle.nf_model.specs.Network.{Link, Piece}
-use Rattle.nf_report_def.specs.LoadsFile.{pieces_at}
-use Rattle.nf_rational_laws.proofs.Results.{Some_not_None}
+use Rattle.std.proofs.Common.{◌≡◌, ℕ, zero, suc, ◌+◌, List, [], ◌∷◌, length, drop, refl, ap, add-one, arith, Some, slice_get, zip}
+use Rattle.nf_app.proofs.Common.{Link, Piece, pieces_at, Some_not_None}
 use Rattle.nf_app.proofs.OneValue.{same_some}
 
 zip_suc : (links : List Link) (pieces : List (List Piece)) (e : ℕ) (link : Link) → length pieces ≡ length links → slice_get links e ≡ Some link

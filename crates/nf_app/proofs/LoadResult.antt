@@ -1,29 +1,12 @@
 -- What a request to load links gives, from what was read of its loads file and what its list computes.
-use Rattle.std.proofs.Common.{◌≡◌, ◌⊎◌, ℕ, List, [], length, refl, ap, subst, inl, inr}
-use Rattle.std.specs.Prelude.{Some, Ok, Err, slice_get, unwrap_or}
-use Rattle.nf_rational.specs.Rational.{ℚ}
-use Rattle.nf_rational.specs.Operations.{0ℚ}
-use Rattle.nf_rational.specs.Order.{◌≤ℚ◌}
-use Rattle.nf_frac_def.specs.declared.Halt.{Halt}
+use Rattle.std.proofs.Common.{◌≡◌, ◌⊎◌, ℕ, List, [], length, refl, ap, subst, inl, inr, Some, Ok, Err, slice_get, unwrap_or}
+use Rattle.nf_app.proofs.Common.{ℚ, 0ℚ, ◌≤ℚ◌, Halt, passes_Q, Stops, Piece, ArePieces, IsNetwork, Named, load_list, was_ok, loads_in, pieces_at, FileFault}
+use Rattle.nf_app.proofs.Common.{Refusal, Load, Loaded, refused_answer, refusal_of_loads, refusal_of_halt, loading_list, IsResultOf}
 use Rattle.nf_frac_def.specs.declared.Part.TheVariants.{Load as LoadPart}
-use Rattle.nf_frac_def.specs.Passing.{passes_Q}
-use Rattle.nf_frac_def.specs.Checked.{Stops}
-use Rattle.nf_model.specs.Network.{Piece, ArePieces, IsNetwork}
-use Rattle.nf_net_def.specs.Named.{Named}
 use Rattle.nf_load_def.specs.Loading.{Loaded as Loading}
-use Rattle.nf_load_def.specs.Loads.{load_list}
 use Rattle.nf_load_laws.proofs.Loads.{links_loaded}
-use Rattle.nf_curve.proofs.Exits.{was_ok}
-use Rattle.nf_report_def.specs.LoadsFile.{loads_in, pieces_at}
-use Rattle.nf_text.specs.declared.fault.FileFault.{FileFault}
 use Rattle.nf_side.specs.Faults.{IfBroken}
 use Rattle.nf_report_def.specs.declared.LoadRule.{LoadRule}
-use Rattle.nf_app_answers.specs.declared.refusal.Refusal.{Refusal}
-use Rattle.nf_app_words.specs.Requests.{Load}
-use Rattle.nf_app_answers.specs.Answers.{Loaded}
-use Rattle.nf_app_answers.specs.Refusals.{refused_answer, refusal_of_loads, refusal_of_halt}
-use Rattle.nf_app.specs.Lists.{loading_list}
-use Rattle.nf_app.specs.Results.{IsResultOf}
 
 module _ (n : Named) (file name : List ℕ) (horizon : ℚ) (text : List ℕ) where
   abbrev Answers : Refusal → Type 0

@@ -1,19 +1,10 @@
 -- What an answer's network determines of all its equilibria, and what follows for the answer: by the laws of settling and growth.
-use Rattle.std.proofs.Common.{◌≡◌, ◌⊎◌, ℕ, ◌<◌, List, inl, inr, refl, sym, ap, subst, ◌∙◌}
-use Rattle.std.specs.Prelude.{Option, Some, None, IfSome}
-use Rattle.nf_rational.specs.Rational.{ℚ}
-use Rattle.nf_rational.specs.Operations.{1ℚ}
-use Rattle.nf_rational.specs.Order.{◌≤ℚ◌}
-use Rattle.nf_rational_laws.proofs.Order.{not_both_ℚ}
-use Rattle.nf_frac_def.specs.Passing.{passes_Q}
+use Rattle.std.proofs.Common.{◌≡◌, ◌⊎◌, ℕ, ◌<◌, List, inl, inr, refl, sym, ap, subst, ◌∙◌, Option, Some, None, IfSome}
+use Rattle.nf_app.proofs.Common.{ℚ, 1ℚ, ◌≤ℚ◌, not_both_ℚ, passes_Q, Network, IsNetwork, Named, Report, Standing, Bounds, IsRunReport, Tail, Forever, End}
+use Rattle.nf_app.proofs.Common.{NeverEnds, IsForeverRun, IsForever, forever_of, TailGrows, Request, Solve, SolveForever, Show, Load, Check, Quick, Gen}
+use Rattle.nf_app.proofs.Common.{Settle, Resume, Routes, ProgramAnswer, bounds_to, IsResultOf, Run}
 use Rattle.nf_model.specs.Entries.{number_at}
-use Rattle.nf_model.specs.Network.{Network, IsNetwork}
-use Rattle.nf_net_def.specs.Named.{Named}
-use Rattle.nf_net_def.specs.Report.{Report}
-use Rattle.nf_thin_def.specs.PhaseRun.{Standing, Bounds, IsRunReport}
-use Rattle.nf_phase_def.specs.ToEnd.{Tail}
-use Rattle.nf_forever_def.specs.ForeverRun.{Forever, End, Stops, NeverEnds, IsForeverRun, IsForever, forever_of}
-use Rattle.nf_forever_laws.specs.TailGrowth.{TailGrows}
+use Rattle.nf_forever_def.specs.ForeverRun.{Stops}
 use Rattle.nf_settling_laws.specs.Settling.{Settles}
 use Rattle.nf_settling_laws.proofs.Settles.{equilibria-settle}
 use Rattle.nf_settling_laws.proofs.Runs.{settled-runs_end}
@@ -21,11 +12,6 @@ use Rattle.nf_settling_laws.proofs.Falls.{excess-falls}
 use Rattle.nf_settling_growth_laws.specs.Growth.{SwaysAtMost}
 use Rattle.nf_settling_growth_laws.proofs.Growth.{bottleneck-decides, growth-is_by_cuts, tail-has_growth}
 use Rattle.nf_settling_growth_laws.proofs.Sways.{bottleneck-steadies}
-use Rattle.nf_app_words.specs.Requests.{Request, Solve, SolveForever, Show, Load, Check, Quick, Gen, Settle, Resume, Routes}
-use Rattle.nf_app_answers.specs.Answers.{ProgramAnswer}
-use Rattle.nf_app.specs.Requests.{bounds_to}
-use Rattle.nf_app.specs.Results.{IsResultOf}
-use Rattle.nf_app.specs.Runs.{Run}
 use Rattle.nf_app.specs.LongRun.{NetworkLongRun, ExcessNeverRises, ReachesOnceSteady, TailInLongRun, ForeverInLongRun, RunInLongRun, LongRun}
 use Rattle.nf_app.proofs.AnswerFlows.{of_result}
 

@@ -1,21 +1,13 @@
 -- A call shows the one answer that its words have with the known bytes of their files; or an allocation failed, or the shelf did.
-use Rattle.std.proofs.Common.{◌≡◌, ◌⊎◌, ℕ, ◌<◌, List, [], ◌∷◌, length, refl, sym, subst, inl, inr, arith}
-use Rattle.std.specs.Prelude.{Option, Some, None, IfSome, IsSome, IsSomeAnd, Result, Ok, Err, slice_get}
-use Rattle.std.specs.List.{All}
-use Rattle.std.proofs.lemmas.List.Elements.{All-head, All-tail}
-use Rattle.nf_edge.specs.Faults.{Rose}
+use Rattle.std.proofs.Common.{◌≡◌, ◌⊎◌, ℕ, ◌<◌, List, [], ◌∷◌, length, refl, sym, subst, inl, inr, arith, Option, Some, None, IfSome, IsSome, IsSomeAnd}
+use Rattle.std.proofs.Common.{Result, Ok, Err, slice_get}
+use Rattle.nf_app.proofs.Common.{All, All-head, All-tail, Rose, Named, Broken, Status, ProgramAnswer, Solved, SolvedForever, Shown, Loaded, Checked}
+use Rattle.nf_app.proofs.Common.{Quickest, TooManyWalks, Generated, Settled, Distributed, NoMemory, NoRequest, ShelfFailed, ShelfTooLong, Malformed}
+use Rattle.nf_app.proofs.Common.{MalformedLoads, MalformedFlows, MalformedRoutes, MalformedReport, Passes, Unbounded, NotThin, Earlier, Wanted, Visit}
+use Rattle.nf_app.proofs.Common.{FitsLimit, FetchedAll, FetchedTo, HasTooMany, Took, IsShown, IsShownWhole, Request, request_of, files_of, network_file}
+use Rattle.nf_app.proofs.Common.{other_of, generated_by, Call, Run, IsRefusedCall, IsComputed, MayAnswer, Ran, Texts, second_bytes, IsToldText, AreTold}
+use Rattle.nf_app.proofs.Common.{TextFits, TellsAll, BothFit, TextsGive, too_long, malformed, answered, IsToldAnswer, no_request, by_texts}
 use Rattle.nf_edge.proofs.Rising.{rose}
-use Rattle.nf_net_def.specs.Named.{Named}
-use Rattle.nf_net_def.specs.NetLines.{Broken}
-use Rattle.nf_app_answers.specs.declared.status.Status.{Status}
-use Rattle.nf_app_answers.specs.Answers.{ProgramAnswer, Solved, SolvedForever, Shown, Loaded, Checked, Quickest, TooManyWalks, Generated, Settled, Distributed, NoMemory, NoRequest, ShelfFailed, ShelfTooLong, Malformed, MalformedLoads, MalformedFlows, MalformedRoutes, MalformedReport, Passes, Unbounded, NotThin, Earlier}
-use Rattle.nf_app_files.specs.Files.{Wanted, Visit, FitsLimit, FetchedAll, FetchedTo, HasTooMany}
-use Rattle.nf_app_files.specs.Sinks.{Took}
-use Rattle.nf_app_files.specs.Shown.{IsShown, IsShownWhole}
-use Rattle.nf_app_words.specs.Requests.{Request, request_of}
-use Rattle.nf_app.specs.Requests.{files_of, network_file, other_of, generated_by}
-use Rattle.nf_app.specs.Runs.{Call, Run, IsRefusedCall, IsComputed, MayAnswer, Ran}
-use Rattle.nf_app.specs.Told.{Texts, second_bytes, IsToldText, AreTold, TextFits, TellsAll, BothFit, TextsGive, too_long, malformed, answered, IsToldAnswer, no_request, by_texts}
 use Rattle.nf_app.specs.Only.{Shows, the_answer, no_memory, shelf_failed, ShowsOnlyThat}
 use Rattle.nf_app.proofs.Texts.{Holds, all_held, network_so, same_second, result_there, in_the_middle}
 use Rattle.nf_app.proofs.ToldOnce.{one_told}

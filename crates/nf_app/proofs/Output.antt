@@ -1,14 +1,10 @@
 -- A fault of the output gives its own status, which no answer has.
-use Rattle.std.proofs.Common.{◌≡◌, ℕ, refl, sym, ◌∙◌, ap, inl, inr}
-use Rattle.std.specs.Prelude.{Option, Some, None}
-use Rattle.nf_rational.specs.Rational.{ℚ}
-use Rattle.nf_net_def.specs.declared.Cause.{Cause}
+use Rattle.std.proofs.Common.{◌≡◌, ℕ, refl, sym, ◌∙◌, ap, inl, inr, Option, Some, None}
+use Rattle.nf_app.proofs.Common.{ℚ, Cause, Yes, No, Status, ProgramAnswer, Solved, SolvedForever, Shown, Loaded, Checked, Quickest, TooManyWalks, Generated}
+use Rattle.nf_app.proofs.Common.{Settled, Distributed, NoMemory, NoRequest, ShelfFailed, ShelfTooLong, Malformed, MalformedLoads, MalformedFlows}
+use Rattle.nf_app.proofs.Common.{MalformedRoutes, MalformedReport, Passes, Unbounded, NotThin, Earlier, status_of, status_of_stop, status_of_forever}
+use Rattle.nf_app.proofs.Common.{status_of_verdict, IsShown, Run, Ran}
 use Rattle.nf_check_def.specs.declared.Answer.{Answer as Verdict}
-use Rattle.nf_check_def.specs.declared.Answer.TheVariants.{Yes, No}
-use Rattle.nf_app_answers.specs.declared.status.Status.{Status}
-use Rattle.nf_app_answers.specs.Answers.{ProgramAnswer, Solved, SolvedForever, Shown, Loaded, Checked, Quickest, TooManyWalks, Generated, Settled, Distributed, NoMemory, NoRequest, ShelfFailed, ShelfTooLong, Malformed, MalformedLoads, MalformedFlows, MalformedRoutes, MalformedReport, Passes, Unbounded, NotThin, Earlier, status_of, status_of_stop, status_of_forever, status_of_verdict}
-use Rattle.nf_app_files.specs.Shown.{IsShown}
-use Rattle.nf_app.specs.Runs.{Run, Ran}
 use Rattle.nf_app.specs.Output.{faults_after, OutputFails}
 
 -- ---- with the status of an answer no fault is counted

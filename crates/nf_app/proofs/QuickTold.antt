@@ -1,46 +1,22 @@
 -- What a request for a quickest flow gives, from what its calls answer; and the arrival in a run.
-use Rattle.std.proofs.Common.{Vec, Global, ◌≡◌, ℕ, zero, suc, ◌-◌, ◌<◌, arith, List, [], ◌∷◌, ◌++◌, length, refl, sym, ap, subst, ◌∙◌, inl, inr}
-use Rattle.std.specs.Prelude.{Option, Some, None, IfSome, Ok, Err, slice_get, map}
-use Rattle.std.specs.List.{last_or}
-use Rattle.std.proofs.lemmas.List.{length-map}
-use Rattle.std.specs.Option.{option_map_or}
-use Rattle.nf_rational.specs.Rational.{ℚ}
-use Rattle.nf_rational.specs.Operations.{0ℚ}
-use Rattle.nf_rational.specs.Order.{◌≤ℚ◌}
-use Rattle.nf_rational_laws.proofs.Chains.{≤ℚ_refl}
+use Rattle.std.proofs.Common.{Vec, Global, ◌≡◌, ℕ, zero, suc, ◌-◌, ◌<◌, arith, List, [], ◌∷◌, ◌++◌, length, refl, sym, ap, subst, ◌∙◌, inl, inr, Option}
+use Rattle.std.proofs.Common.{Some, None, IfSome, Ok, Err, slice_get, map}
+use Rattle.nf_app.proofs.Common.{last_or, length-map, option_map_or, ℚ, 0ℚ, ◌≤ℚ◌, ≤ℚ_refl, passes_Q, PassedAt, Point, Within, value, IsCurve, Network}
+use Rattle.nf_app.proofs.Common.{IsNetwork, inflow, label, points_at, Cause, Named, Report, GrowingCurve, Bounds, Standing, report_of, bounds_of}
+use Rattle.nf_app.proofs.Common.{IsRunSolution, Arrival, IsDeparture, HasNoWay, IsAnswered, QuickFault, Quick, usual_budgets, Quickest, TooManyWalks}
+use Rattle.nf_app.proofs.Common.{Passes, Unbounded, IsResultOf, flow_list, departs_list, arrival_of, ArrivesIn, IsArrivalOf}
 use Rattle.nf_rational_laws.proofs.Entries.{last-append}
-use Rattle.nf_frac_def.specs.Passing.{passes_Q}
-use Rattle.nf_frac_def.specs.declared.PassedAt.{PassedAt}
-use Rattle.nf_model.specs.Curve.{Point, Within, value, IsCurve}
-use Rattle.nf_model.specs.Network.{Network, IsNetwork}
-use Rattle.nf_model.specs.Equilibrium.{inflow, label, points_at}
 use Rattle.nf_model.specs.Earliest.{IsEarliest}
 use Rattle.nf_model_laws.proofs.Curves.{EndsAt-value}
-use Rattle.nf_net_def.specs.declared.Cause.{Cause}
-use Rattle.nf_net_def.specs.Named.{Named}
-use Rattle.nf_net_def.specs.Report.{Report}
 use Rattle.nf_thin_def.specs.Ends.{time_of_last}
-use Rattle.nf_thin_def.specs.ReportCurves.{GrowingCurve}
-use Rattle.nf_thin_def.specs.PhaseRun.{Bounds, Standing, report_of}
 use Rattle.nf_thin_laws.proofs.Ending.{run_ends}
-use Rattle.nf_phase.specs.Solution.{bounds_of, IsRunSolution}
-use Rattle.nf_app_answers.specs.declared.arrival.Arrival.{Arrival}
 use Rattle.nf_quick_def.specs.Quick.{Quick as QuickFlow}
 use Rattle.nf_quick_def.specs.Answers.{IsQuickFlow}
 use Rattle.nf_quick_def.specs.InOrder.{ComesOfPushes, EndsAtBudget}
-use Rattle.nf_quick_def.specs.Departures.{IsDeparture}
 use Rattle.nf_quick_def.specs.Quick as lists
-use Rattle.nf_quick.specs.Answered.{HasNoWay, IsAnswered}
-use Rattle.nf_quick.specs.declared.fault.QuickFault.{QuickFault}
 use Rattle.nf_curve.specs.Flows.{seen_flow as shown_flow}
 use Rattle.nf_curve.specs.declared.flow.Flow.{Flow as CodeFlow}
-use Rattle.nf_app_words.specs.Requests.{Quick}
 use Rattle.nf_unique_laws.proofs.Feasible.{quickest-le}
-use Rattle.nf_app.specs.Requests.{usual_budgets}
-use Rattle.nf_app_answers.specs.Answers.{Quickest, TooManyWalks, Passes, Unbounded}
-use Rattle.nf_app.specs.Results.{IsResultOf}
-use Rattle.nf_app.specs.Lists.{flow_list, departs_list}
-use Rattle.nf_app.specs.Arrivals.{arrival_of, ArrivesIn, IsArrivalOf}
 
 -- ---- the last point of a curve
 last_split : {A : Type 0} (points : List A) (p : A) → slice_get points (length points - 1) ≡ Some p → (front : List A) × (points ≡ front ++ p ∷ [])

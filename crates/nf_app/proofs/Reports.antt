@@ -1,16 +1,10 @@
 -- What a text is as a report, from what was read of it.
-use Rattle.std.proofs.Common.{◌≡◌, ◌≢◌, ℕ, List, ap, ◌∙◌}
-use Rattle.std.specs.Prelude.{Ok, Err}
-use Rattle.nf_net_def.specs.Named.{Named}
-use Rattle.nf_net_def.specs.WellNamed.{IsNamed}
-use Rattle.nf_net_def.specs.Report.{Report, IsWellFormed, report_text}
-use Rattle.nf_report_def.specs.ReportFile.{ReportBroken, report_in}
+use Rattle.std.proofs.Common.{◌≡◌, ◌≢◌, ℕ, List, ap, ◌∙◌, Ok, Err}
+use Rattle.nf_app.proofs.Common.{Named, IsNamed, Report, IsWellFormed, report_text, ReportBroken, report_in, report_kept, Ok_not_Err, IsReportText}
+use Rattle.nf_app.proofs.Common.{IsNoReportText}
 use Rattle.nf_report_laws.specs.Readable.{IsReadable}
 use Rattle.nf_report_laws.proofs.ReportBack.{report_back}
 use Rattle.nf_report_laws.proofs.ReportFit.{fit}
-use Rattle.nf_report_laws.proofs.ReportKept.{report_kept}
-use Rattle.nf_rational_laws.proofs.Results.{Ok_not_Err}
-use Rattle.nf_app.specs.Reports.{IsReportText, IsNoReportText}
 
 module _ (n : Named) (named : IsNamed n) (text : List ℕ) where
   pub a_report : (report : Report) → report_in n text ≡ Ok report → IsReportText n text report

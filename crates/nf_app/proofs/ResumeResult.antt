@@ -1,32 +1,10 @@
 -- What a request to resume a report gives, from what was read of its report and what resuming answers.
-use Rattle.std.proofs.Common.{◌≡◌, ◌⊎◌, ℕ, List, refl, inl, inr}
-use Rattle.std.specs.Prelude.{Err}
-use Rattle.nf_rational.specs.Rational.{ℚ}
-use Rattle.nf_rational.specs.Order.{◌≤ℚ◌, ◌<ℚ◌}
-use Rattle.nf_frac_def.specs.Passing.{passes_Q}
-use Rattle.nf_frac_def.specs.declared.PassedAt.{PassedAt}
-use Rattle.nf_model.specs.Equilibrium.{Equilibrium}
-use Rattle.nf_net_def.specs.Named.{Named}
-use Rattle.nf_net_def.specs.WellNamed.{IsNamed}
-use Rattle.nf_net_def.specs.Report.{Report, IsWellFormed}
+use Rattle.std.proofs.Common.{◌≡◌, ◌⊎◌, ℕ, List, refl, inl, inr, Err}
+use Rattle.nf_app.proofs.Common.{ℚ, ◌≤ℚ◌, ◌<ℚ◌, passes_Q, PassedAt, Equilibrium, Named, IsNamed, Report, IsWellFormed, report_in, FileFault, ReportRule}
+use Rattle.nf_app.proofs.Common.{IfBroken, IsShortFlow, EndsAtItsLabels, resume_list, IsResumedReport, GoesOnFrom, IsRefusedReport, Refusal, Resume}
+use Rattle.nf_app.proofs.Common.{bounds_to, Solved, Checked, Passes, Earlier, refused_answer, refusal_of_report, IsReportText, IsResultOf}
 use Rattle.nf_check_def.specs.declared.Answer.{Answer as Verdict}
-use Rattle.nf_report_def.specs.ReportFile.{report_in}
-use Rattle.nf_text.specs.declared.fault.FileFault.{FileFault}
-use Rattle.nf_report_def.specs.declared.ReportRule.{ReportRule}
-use Rattle.nf_report_read.specs.Files.{IfBroken}
-use Rattle.nf_thin_def.specs.PhaseRun.{IsShortFlow}
 use Rattle.nf_phase_run_laws.specs.ReadableLaws.{ReadsBack}
-use Rattle.nf_phase_def.specs.Restoring.{EndsAtItsLabels}
-use Rattle.nf_resume_def.specs.Resuming.{resume_list}
-use Rattle.nf_resume_def.specs.Meanings.{IsResumedReport, GoesOnFrom}
-use Rattle.nf_resume.specs.Faults.{IsRefusedReport}
-use Rattle.nf_app_answers.specs.declared.refusal.Refusal.{Refusal}
-use Rattle.nf_app_words.specs.Requests.{Resume}
-use Rattle.nf_app.specs.Requests.{bounds_to}
-use Rattle.nf_app_answers.specs.Answers.{Solved, Checked, Passes, Earlier}
-use Rattle.nf_app_answers.specs.Refusals.{refused_answer, refusal_of_report}
-use Rattle.nf_app.specs.Reports.{IsReportText}
-use Rattle.nf_app.specs.Results.{IsResultOf}
 use Rattle.nf_app.proofs.Reports.{no_report}
 
 module _ (n : Named) (file name text : List ℕ) (horizon : ℚ) (phases patterns : ℕ) where

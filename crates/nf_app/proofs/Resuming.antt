@@ -1,29 +1,11 @@
 -- What `resume` writes of the report of a run: the report of one run from the start.
-use Rattle.std.proofs.Common.{◌≡◌, ℕ, List, refl, sym, ap, subst, ◌∙◌, inl, inr}
-use Rattle.std.specs.Prelude.{None}
-use Rattle.nf_rational.specs.Rational.{ℚ}
-use Rattle.nf_frac_def.specs.Passing.{passes_Q}
-use Rattle.nf_frac_def.proofs.Exact.{same_value}
-use Rattle.nf_model.specs.Network.{IsNetwork}
-use Rattle.nf_model.specs.Equilibrium.{Equilibrium}
-use Rattle.nf_net_def.specs.Named.{Named}
-use Rattle.nf_net_def.specs.Report.{Report, report_text}
+use Rattle.std.proofs.Common.{◌≡◌, ℕ, List, refl, sym, ap, subst, ◌∙◌, inl, inr, None}
+use Rattle.nf_app.proofs.Common.{ℚ, passes_Q, same_value, IsNetwork, Equilibrium, Named, Report, report_text, report_in, IsResumedReport, bounds_of}
+use Rattle.nf_app.proofs.Common.{Request, Solve, SolveForever, Show, Load, Check, Quick, Gen, Settle, Resume, Routes, Status, ProgramAnswer, Solved}
+use Rattle.nf_app.proofs.Common.{Checked, Passes, Earlier, MalformedReport, status_of, out_text, TookAll, IsShown, bounds_to, IsResultOf, ResumeAnswer, Run}
+use Rattle.nf_app.proofs.Common.{Ran, second_bytes, AsksToResumeRun, WritesReportOfOneRun, ReportIsOfOneRun, AnswerIsOfOneRun, ComputesReportOfOneRun}
 use Rattle.nf_phase_laws.proofs.Run.{report_equilibrium}
-use Rattle.nf_report_def.specs.ReportFile.{report_in}
-use Rattle.nf_resume_def.specs.Meanings.{IsResumedReport}
 use Rattle.nf_phase_run_laws.proofs.Ends.{resumed-solved}
-use Rattle.nf_phase.specs.Solution.{bounds_of}
-use Rattle.nf_app_words.specs.Requests.{Request, Solve, SolveForever, Show, Load, Check, Quick, Gen, Settle, Resume, Routes}
-use Rattle.nf_app_answers.specs.declared.status.Status.{Status}
-use Rattle.nf_app_answers.specs.Answers.{ProgramAnswer, Solved, Checked, Passes, Earlier, MalformedReport, status_of, out_text}
-use Rattle.nf_app_files.specs.Sinks.{TookAll}
-use Rattle.nf_app_files.specs.Shown.{IsShown}
-use Rattle.nf_app.specs.Requests.{bounds_to}
-use Rattle.nf_app.specs.Results.{IsResultOf}
-use Rattle.nf_app.specs.FullAnswers.{ResumeAnswer}
-use Rattle.nf_app.specs.Runs.{Run, Ran}
-use Rattle.nf_app.specs.Told.{second_bytes}
-use Rattle.nf_app.specs.Resumption.{AsksToResumeRun, WritesReportOfOneRun, ReportIsOfOneRun, AnswerIsOfOneRun, ComputesReportOfOneRun}
 use Rattle.nf_app.proofs.ToldRequests.{Answers, told_answers}
 use Rattle.nf_app.proofs.Solving.{no_stop}
 

@@ -1,27 +1,12 @@
 -- What a request to load a network by route gives, from what was read of its routes file and what its list computes.
-use Rattle.std.proofs.Common.{◌≡◌, ◌⊎◌, ℕ, List, length, refl, sym, ◌∙◌, inl, inr}
-use Rattle.std.specs.Prelude.{Ok, Err}
-use Rattle.std.proofs.lemmas.List.{length-map}
-use Rattle.nf_rational.specs.Rational.{ℚ}
-use Rattle.nf_frac_def.specs.declared.Halt.{Halt}
-use Rattle.nf_frac_def.specs.Checked.{Stops}
-use Rattle.nf_model.specs.Network.{Network}
-use Rattle.nf_net_def.specs.Named.{Named}
-use Rattle.nf_load.specs.Loadings.{loaded_of}
-use Rattle.nf_routes_def.specs.RoutesFile.{NamedRoute, routes_of, ReadsRoutes}
+use Rattle.std.proofs.Common.{◌≡◌, ◌⊎◌, ℕ, List, length, refl, sym, ◌∙◌, inl, inr, Ok, Err}
+use Rattle.nf_app.proofs.Common.{length-map, ℚ, Halt, Stops, Network, Named, loaded_of, NamedRoute, routes_of, ReadsRoutes, carried_of, FileFault, Refusal}
+use Rattle.nf_app.proofs.Common.{Routes, Distributed, refused_answer, refusal_of_routes, refusal_of_halt, by_route_list, IsResultOf}
 use Rattle.nf_routes_def.specs.RoutesList.{Routed}
 use Rattle.nf_routes_def.specs.Meanings.{IsRouted, RoutesArrive}
 use Rattle.nf_routes.specs.declared.carried.Carried.{Carried}
-use Rattle.nf_routes.specs.Carried.{carried_of}
-use Rattle.nf_text.specs.declared.fault.FileFault.{FileFault}
 use Rattle.nf_side.specs.Faults.{IfBroken}
 use Rattle.nf_routes_def.specs.declared.RoutesRule.{RoutesRule}
-use Rattle.nf_app_answers.specs.declared.refusal.Refusal.{Refusal}
-use Rattle.nf_app_words.specs.Requests.{Routes}
-use Rattle.nf_app_answers.specs.Answers.{Distributed}
-use Rattle.nf_app_answers.specs.Refusals.{refused_answer, refusal_of_routes, refusal_of_halt}
-use Rattle.nf_app.specs.Lists.{by_route_list}
-use Rattle.nf_app.specs.Results.{IsResultOf}
 
 module _ (n : Named) (file name : List ℕ) (horizon : ℚ) (text : List ℕ) where
   abbrev Answers : Refusal → Type 0

@@ -1,36 +1,16 @@
 -- What settling at departure 0 answers, from what its calls answer.
-use Rattle.std.proofs.Common.{◌≡◌, List, refl, sym, ap, subst, ◌∙◌}
-use Rattle.std.specs.Prelude.{Some, None, Result, Ok, Err, IsOk, is_ok}
-use Rattle.nf_rational.specs.Rational.{ℚ}
-use Rattle.nf_rational.specs.Operations.{0ℚ}
-use Rattle.nf_rational.specs.Order.{◌≤ℚ◌}
-use Rattle.nf_frac_def.specs.Passing.{passes_Q}
-use Rattle.nf_frac_def.specs.Checked.{at_part, placed, Stops}
+use Rattle.std.proofs.Common.{◌≡◌, List, refl, sym, ap, subst, ◌∙◌, Some, None, Result, Ok, Err, IsOk, is_ok}
+use Rattle.nf_app.proofs.Common.{ℚ, 0ℚ, ◌≤ℚ◌, passes_Q, at_part, placed, Stops, Slack, Verdict, Passed, PassedAt, Halt, Network, IsNetwork, hops, rate_at}
+use Rattle.nf_app.proofs.Common.{Sets, sets_of, sets_at, IsThinFlow, IsListedIn, IsSolution, AreStartLabels, slack_list, was_ok, NoneEntersSource, Settles}
+use Rattle.nf_app.proofs.Common.{thin_list, GivenFlows, AreGoodSets, one_Err, Ok_not_Err, SlacksFit, TestFits, AreThin, PassesFirst, at_slack, at_test}
+use Rattle.nf_app.proofs.Common.{at_settling, AreStartSets, SettlesAtStart}
 use Rattle.nf_frac_def.specs.declared.Part.{Part}
-use Rattle.nf_frac_def.specs.declared.Part.TheVariants.{Slack, Verdict}
-use Rattle.nf_frac_def.specs.declared.Passed.{Passed}
-use Rattle.nf_frac_def.specs.declared.PassedAt.{PassedAt}
-use Rattle.nf_frac_def.specs.declared.Halt.{Halt}
 use Rattle.nf_model.specs.Walk.{Hop}
-use Rattle.nf_model.specs.Network.{Network, IsNetwork, hops, rate_at}
-use Rattle.nf_model.specs.ThinFlow.{Sets, sets_of, sets_at, IsThinFlow}
-use Rattle.nf_model.specs.Pattern.{IsListedIn, IsSolution}
-use Rattle.nf_model.specs.Phases.{AreStartLabels}
-use Rattle.nf_thin_def.specs.Slack.{slack_list}
 use Rattle.nf_thin_laws.proofs.Exact.{slacks_exact}
-use Rattle.nf_curve.proofs.Exits.{was_ok}
-use Rattle.nf_thin_laws.specs.ActiveLinks.{NoneEntersSource}
-use Rattle.nf_complete_def.specs.Cancelling.{Settles}
 use Rattle.nf_complete_def.specs.SettledPattern.{IsSettledPattern}
-use Rattle.nf_complete_def.specs.ThinList.{thin_list}
-use Rattle.nf_complete_def.specs.FlowsFile.{GivenFlows}
-use Rattle.nf_complete_laws.specs.SettleLaws.{AreGoodSets}
 use Rattle.nf_complete.specs.FitSets.{AreFitSets}
 use Rattle.nf_complete.specs.declared.settled.Settled.{Settled}
 use Rattle.nf_complete.specs.Settling.{SettlesTo}
-use Rattle.nf_rational_laws.proofs.Results.{one_Err, Ok_not_Err}
-use Rattle.nf_app.specs.Settling.{SlacksFit, TestFits, AreThin, PassesFirst, at_slack, at_test, at_settling}
-use Rattle.nf_app.specs.SettlingSteps.{AreStartSets, SettlesAtStart}
 use Rattle.nf_app.proofs.Starting.{start_sets_good, start_source, start_rate}
 
 -- ---- what a test says

@@ -1,21 +1,10 @@
 -- What a request to settle a thin flow gives, from what was read of its flows file and what settling answers.
-use Rattle.std.proofs.Common.{◌≡◌, ◌⊎◌, ℕ, List, length, refl, ◌∙◌, inl, inr}
-use Rattle.std.specs.Prelude.{Some, None, Ok, Err}
-use Rattle.nf_rational.specs.Rational.{ℚ}
-use Rattle.nf_frac_def.specs.declared.Halt.{Halt}
-use Rattle.nf_net_def.specs.Named.{Named}
-use Rattle.nf_thin_laws.proofs.ActiveLinks.{AreSets-sets_at}
-use Rattle.nf_complete_def.specs.FlowsFile.{GivenFlows, flows_in}
+use Rattle.std.proofs.Common.{◌≡◌, ◌⊎◌, ℕ, List, length, refl, ◌∙◌, inl, inr, Some, None, Ok, Err}
+use Rattle.nf_app.proofs.Common.{ℚ, Halt, Named, AreSets-sets_at, GivenFlows, flows_in, FileFault, Refusal, Settle, Settled, NotThin, refused_answer}
+use Rattle.nf_app.proofs.Common.{refusal_of_flows, refusal_of_halt, SettlesAtStart, IsResultOf}
 use Rattle.nf_complete.specs.declared.settled.Settled.{Settled as CodeSettled}
-use Rattle.nf_text.specs.declared.fault.FileFault.{FileFault}
 use Rattle.nf_side.specs.Faults.{IfBroken}
 use Rattle.nf_complete_def.specs.declared.FlowsRule.{FlowsRule}
-use Rattle.nf_app_answers.specs.declared.refusal.Refusal.{Refusal}
-use Rattle.nf_app_words.specs.Requests.{Settle}
-use Rattle.nf_app_answers.specs.Answers.{Settled, NotThin}
-use Rattle.nf_app_answers.specs.Refusals.{refused_answer, refusal_of_flows, refusal_of_halt}
-use Rattle.nf_app.specs.SettlingSteps.{SettlesAtStart}
-use Rattle.nf_app.specs.Results.{IsResultOf}
 
 module _ (n : Named) (file name : List ℕ) (text : List ℕ) where
   abbrev Answers : Refusal → Type 0

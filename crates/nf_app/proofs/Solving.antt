@@ -1,20 +1,7 @@
 -- What a call of `solve` with a known network file writes.
-use Rattle.std.proofs.Common.{◌≡◌, ℕ, List, refl, sym, ◌∙◌, ap, subst, inl, inr}
-use Rattle.std.specs.Prelude.{Option, Some, None}
-use Rattle.nf_rational.specs.Rational.{ℚ}
-use Rattle.nf_net_def.specs.declared.Cause.{Cause}
-use Rattle.nf_net_def.specs.Named.{Named}
-use Rattle.nf_net_def.specs.Report.{Report}
-use Rattle.nf_thin_def.specs.PhaseRun.{Bounds}
-use Rattle.nf_app_words.specs.Requests.{Solve}
-use Rattle.nf_app_answers.specs.declared.status.Status.{Status}
-use Rattle.nf_app_answers.specs.Answers.{ProgramAnswer, status_of, status_of_stop, out_text}
-use Rattle.nf_app_files.specs.Sinks.{TookAll}
-use Rattle.nf_app_files.specs.Shown.{IsShown, IsShownWhole}
-use Rattle.nf_app.specs.Requests.{bounds_to}
-use Rattle.nf_app.specs.FullAnswers.{SolveAnswer}
-use Rattle.nf_app.specs.Runs.{Call, Run, Ran}
-use Rattle.nf_app.specs.Completeness.{ToldRequest}
+use Rattle.std.proofs.Common.{◌≡◌, ℕ, List, refl, sym, ◌∙◌, ap, subst, inl, inr, Option, Some, None}
+use Rattle.nf_app.proofs.Common.{ℚ, Cause, Named, Report, Bounds, Solve, Status, ProgramAnswer, status_of, status_of_stop, out_text, TookAll, IsShown}
+use Rattle.nf_app.proofs.Common.{IsShownWhole, bounds_to, SolveAnswer, Call, Run, Ran, ToldRequest}
 use Rattle.nf_app.specs.Solves.{AsksToSolve, HasAnswered, IsSolvedRun, SolvesTold}
 use Rattle.nf_app.proofs.ToldRequests.{Answers, told_answers}
 

@@ -1,27 +1,17 @@
 -- The labels at departure 0, and the sets of their slacks.
 use Rattle.std.proofs.Common.{◌≡◌, ℕ, List, length, map, replicate, None, refl, sym, subst}
-use Rattle.nf_rational.specs.Rational.{ℚ}
-use Rattle.nf_rational.specs.Operations.{0ℚ}
-use Rattle.nf_rational.specs.Order.{◌≤ℚ◌}
-use Rattle.nf_rational_laws.proofs.Chains.{≤ℚ_refl}
-use Rattle.nf_model.specs.Curve.{Within}
-use Rattle.nf_model.specs.Network.{Link, Network, IsNetwork, IsLink, rate_at}
-use Rattle.nf_model.specs.ThinFlow.{sets_at}
-use Rattle.nf_model.specs.Phases.{AreStartLabels}
+use Rattle.nf_app.proofs.Common.{ℚ, 0ℚ, ◌≤ℚ◌, ≤ℚ_refl, Within, Link, Network, IsNetwork, IsLink, rate_at, sets_at, AreStartLabels, first_label_curve}
+use Rattle.nf_app.proofs.Common.{first_curves, Standing, flow_of, EachIsEntered, NoneEntersSource, HoldNoCycle-sets_at, NoneEntersSource-acyclic}
+use Rattle.nf_app.proofs.Common.{AreGoodSets}
 use Rattle.nf_model_laws.proofs.Slacks.{active_of_slack}
 use Rattle.nf_model_laws.proofs.Supply.{rate_from-not_negative}
-use Rattle.nf_thin_def.specs.ReportCurves.{first_label_curve, first_curves}
-use Rattle.nf_thin_def.specs.PhaseRun.{Standing, flow_of}
 use Rattle.nf_phase_laws.specs.Invariant.{link_slack}
 use Rattle.nf_phase_laws.specs.CurveSteps.{at}
 use Rattle.nf_phase_laws.specs.CurveRun.{Curves, curves_of}
 use Rattle.nf_phase_laws.proofs.CurveRun.{Grown}
 use Rattle.nf_phase_laws.proofs.Thin.{slack-is}
-use Rattle.nf_thin_laws.specs.ActiveLinks.{EachIsEntered, NoneEntersSource}
-use Rattle.nf_thin_laws.proofs.ActiveLinks.{HoldNoCycle-sets_at, NoneEntersSource-acyclic}
 use Rattle.nf_phase_laws.proofs.WellRun.{WellRun, WellRun-start}
 use Rattle.nf_phase_laws.proofs.Standing.{grown_at}
-use Rattle.nf_complete_laws.specs.SettleLaws.{AreGoodSets}
 use Rattle.nf_complete_laws.proofs.Stopped.{AreGoodSets-well}
 
 module _ (net : Network) (good : IsNetwork net) (labels : List ℚ) (are : AreStartLabels net labels) where

@@ -1,17 +1,8 @@
 -- What the texts of a request's files give, by those files that are wanted alone; and the known texts of a call.
-use Rattle.std.proofs.Common.{◌≡◌, ℕ, ◌≤◌, List, [], ◌∷◌, ◌++◌, length, subst}
-use Rattle.std.specs.Prelude.{Option, Some, None, IfSome, Result, slice_get, unwrap_or}
-use Rattle.std.specs.List.{All}
-use Rattle.std.proofs.lemmas.List.Elements.{All-cons, All-nil, All-head, All-tail}
-use Rattle.nf_net_def.specs.Named.{Named}
-use Rattle.nf_net_def.specs.NetLines.{Broken}
-use Rattle.nf_app_files.specs.Files.{Wanted, Visit, input_file, report_file}
-use Rattle.nf_app_files.specs.Fetching.{IsLastText, NetworkReads}
-use Rattle.nf_app_words.specs.Requests.{Request, Solve, SolveForever, Show, Load, Check, Quick, Gen, Settle, Resume, Routes}
-use Rattle.nf_app_answers.specs.Answers.{ProgramAnswer}
-use Rattle.nf_app.specs.Requests.{files_of, other_of}
-use Rattle.nf_app.specs.Results.{IsResultOf}
-use Rattle.nf_app.specs.Told.{Texts, IsToldText, AreTold, TextFits, BothFit, NetworkIs}
+use Rattle.std.proofs.Common.{◌≡◌, ℕ, ◌≤◌, List, [], ◌∷◌, ◌++◌, length, subst, Option, Some, None, IfSome, Result, slice_get, unwrap_or}
+use Rattle.nf_app.proofs.Common.{All, All-cons, All-nil, All-head, All-tail, Named, Broken, Wanted, Visit, input_file, report_file, IsLastText}
+use Rattle.nf_app.proofs.Common.{NetworkReads, Request, Solve, SolveForever, Show, Load, Check, Quick, Gen, Settle, Resume, Routes, ProgramAnswer, files_of}
+use Rattle.nf_app.proofs.Common.{other_of, IsResultOf, Texts, IsToldText, AreTold, TextFits, BothFit, NetworkIs}
 use Rattle.nf_app.proofs.Fetched.{bytes_are, reads_told}
 
 -- ---- the same text of a file that is wanted

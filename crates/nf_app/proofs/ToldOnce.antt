@@ -1,59 +1,21 @@
 -- Words have at most one answer with the known bytes of their files.
-use Rattle.std.proofs.Common.{◌≡◌, ℕ, List, length, replicate, refl, sym, ap, subst, ◌∙◌, inl, inr}
-use Rattle.std.specs.Prelude.{Option, Some, None, Result, Ok, Err, map}
-use Rattle.std.proofs.lemmas.Option.{none-some}
-use Rattle.nf_rational.specs.Rational.{ℚ}
-use Rattle.nf_rational.specs.Operations.{0ℚ}
-use Rattle.nf_rational.specs.Order.{◌<ℚ◌}
-use Rattle.nf_rational_laws.proofs.Order.{<ℚ_irrefl, not_both_ℚ}
-use Rattle.nf_rational_laws.proofs.Results.{IsOk-not_Err, one_Err, Ok_not_Err}
-use Rattle.nf_frac_def.specs.Passing.{passes_Q}
-use Rattle.nf_frac_def.specs.Checked.{placed}
-use Rattle.nf_frac_def.specs.declared.Part.TheVariants.{Slack, Verdict}
-use Rattle.nf_frac_def.specs.declared.Passed.{Passed}
-use Rattle.nf_frac_def.specs.declared.PassedAt.{PassedAt}
-use Rattle.nf_frac_def.proofs.Exact.{same_value}
-use Rattle.nf_model.specs.Network.{Network, IsNetwork, hops, rate_at}
-use Rattle.nf_model.specs.Equilibrium.{label}
-use Rattle.nf_model.specs.ThinFlow.{sets_at}
-use Rattle.nf_model.specs.Pattern.{Pattern}
-use Rattle.nf_model.specs.Phases.{AreStartLabels}
-use Rattle.nf_net_def.specs.Named.{Named}
-use Rattle.nf_net_def.specs.NetLines.{Broken}
-use Rattle.nf_net_def.specs.Report.{Report}
-use Rattle.nf_net_def.specs.WellNamed.{IsNamed}
-use Rattle.nf_net_laws.proofs.Once.{reads_at_most_once}
+use Rattle.std.proofs.Common.{◌≡◌, ℕ, List, length, replicate, refl, sym, ap, subst, ◌∙◌, inl, inr, Option, Some, None, Result, Ok, Err, map}
+use Rattle.nf_app.proofs.Common.{none-some, ℚ, 0ℚ, ◌<ℚ◌, <ℚ_irrefl, not_both_ℚ, IsOk-not_Err, one_Err, Ok_not_Err, passes_Q, placed, Slack, Verdict, Passed}
+use Rattle.nf_app.proofs.Common.{PassedAt, same_value, Network, IsNetwork, hops, rate_at, label, sets_at, Pattern, AreStartLabels, Named, Broken, Report}
+use Rattle.nf_app.proofs.Common.{IsNamed, reads_at_most_once, slack_list, first_label_curve, first_curves, Standing, Bounds, one_start, one_run, one_report}
+use Rattle.nf_app.proofs.Common.{ReportBroken, report_in, report_kept, HasNoWay, bounds_of, Settles, thin_list, FlowsBroken, GivenFlows, flows_in}
+use Rattle.nf_app.proofs.Common.{one_forever, Refused, Stands, resume_list, Wanted, Request, Solve, SolveForever, Show, Load, Check, Quick, Gen, Settle}
+use Rattle.nf_app.proofs.Common.{Resume, Routes, request_of, Arrival, ProgramAnswer, Solved, SolvedForever, Quickest, Generated, Settled, Passes, Malformed}
+use Rattle.nf_app.proofs.Common.{network_file, other_of, generated_by, bounds_to, usual_budgets, flow_list, departs_list, arrival_of, IsUnbounded}
+use Rattle.nf_app.proofs.Common.{AreSettled, AreNotThin, PassesFirst, at_slack, at_test, at_settling, IsResultOf, Telling, Texts, second_bytes, IsToldText}
+use Rattle.nf_app.proofs.Common.{AreTold, NetworkIs, TextsGive, too_long, malformed, answered, IsToldAnswer, no_request, by_texts}
 use Rattle.nf_net_laws.proofs.AcceptedNamed.{accepted_named}
-use Rattle.nf_thin_def.specs.Slack.{slack_list}
-use Rattle.nf_thin_def.specs.ReportCurves.{first_label_curve, first_curves}
-use Rattle.nf_thin_def.specs.PhaseRun.{Standing, Bounds}
-use Rattle.nf_thin_laws.proofs.OneRun.{one_start, one_run, one_report}
-use Rattle.nf_report_def.specs.ReportFile.{ReportBroken, report_in}
-use Rattle.nf_report_laws.proofs.ReportKept.{report_kept}
 use Rattle.nf_quick_def.specs.Quick.{Quick as QuickFlow, FoundQuick, Budget}
 use Rattle.nf_quick_def.specs.Quick as quick
-use Rattle.nf_quick.specs.Answered.{HasNoWay}
-use Rattle.nf_phase.specs.Solution.{bounds_of}
-use Rattle.nf_complete_def.specs.Cancelling.{Settles}
-use Rattle.nf_complete_def.specs.ThinList.{thin_list}
-use Rattle.nf_complete_def.specs.FlowsFile.{FlowsBroken, GivenFlows, flows_in}
 use Rattle.nf_complete_laws.proofs.OneSettling.{one_settling}
 use Rattle.nf_complete_laws.proofs.OnePattern.{one_pattern}
-use Rattle.nf_forever_laws.proofs.OneForever.{one_forever}
-use Rattle.nf_resume_def.specs.Resuming.{Refused, Stands, resume_list}
 use Rattle.nf_resume_def.specs.Resuming as resuming
 use Rattle.nf_phase_run_laws.proofs.OneResumed.{one_resumed}
-use Rattle.nf_app_files.specs.Files.{Wanted}
-use Rattle.nf_app_words.specs.Requests.{Request, Solve, SolveForever, Show, Load, Check, Quick, Gen, Settle, Resume, Routes, request_of}
-use Rattle.nf_app_answers.specs.declared.arrival.Arrival.{Arrival}
-use Rattle.nf_app_answers.specs.Answers.{ProgramAnswer, Solved, SolvedForever, Quickest, Generated, Settled, Passes, Malformed}
-use Rattle.nf_app.specs.Requests.{network_file, other_of, generated_by, bounds_to, usual_budgets}
-use Rattle.nf_app.specs.Lists.{flow_list, departs_list}
-use Rattle.nf_app.specs.Arrivals.{arrival_of}
-use Rattle.nf_app.specs.Refused.{IsUnbounded}
-use Rattle.nf_app.specs.Settling.{AreSettled, AreNotThin, PassesFirst, at_slack, at_test, at_settling}
-use Rattle.nf_app.specs.Results.{IsResultOf}
-use Rattle.nf_app.specs.Told.{Telling, Texts, second_bytes, IsToldText, AreTold, NetworkIs, TextsGive, too_long, malformed, answered, IsToldAnswer, no_request, by_texts}
 use Rattle.nf_app.proofs.Gives.{Arrives, DepartsGive, FlowGives, QuickGives, StartGives, SettleGives, RestGives, ResumeGives, Gives}
 use Rattle.nf_app.proofs.ToldResult.{result_so}
 use Rattle.nf_app.proofs.Starting.{start_sets_good}

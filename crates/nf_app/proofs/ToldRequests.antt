@@ -1,25 +1,12 @@
 -- What a call answers whose files are known, within their limits and well formed: that of its command; or an allocation failed, or the
 -- shelf.
-use Rattle.std.proofs.Common.{◌≡◌, ◌⊎◌, ℕ, ◌<◌, List, length, refl, sym, subst, ◌∙◌, inl, inr, arith}
-use Rattle.std.specs.Prelude.{Option, Some, IfSome, Result, Ok, Err}
-use Rattle.std.specs.List.{All}
-use Rattle.std.proofs.lemmas.Option.{same_Some}
-use Rattle.nf_edge.specs.Faults.{Rose}
-use Rattle.nf_net_def.specs.Named.{Named}
-use Rattle.nf_net_def.specs.NetLines.{Broken}
-use Rattle.nf_net_def.specs.WellNamed.{IsNamed}
-use Rattle.nf_app_answers.specs.declared.status.Status.{Status}
-use Rattle.nf_app_answers.specs.Answers.{ProgramAnswer, Solved, SolvedForever, Shown, Loaded, Checked, Quickest, TooManyWalks, Generated, Settled, Distributed, NoMemory, NoRequest, ShelfFailed, ShelfTooLong, Malformed, MalformedLoads, MalformedFlows, MalformedRoutes, MalformedReport, Passes, Unbounded, NotThin, Earlier, status_of}
-use Rattle.nf_app_files.specs.Files.{Wanted, FetchedTo, HasTooMany}
-use Rattle.nf_app_files.specs.Fetching.{NetworkReads}
-use Rattle.nf_app_words.specs.Requests.{Request, request_of}
-use Rattle.nf_rational_laws.proofs.Results.{Ok_not_Err, Some_not_None}
-use Rattle.nf_frac_def.proofs.Exact.{same_value}
-use Rattle.nf_app.specs.Requests.{files_of, other_of, generated_by, OtherIsText}
-use Rattle.nf_app.specs.Results.{IsResultOf}
-use Rattle.nf_app.specs.Runs.{Call, Asks, FetchedUpTo, HasNetwork, IsRefusedCall, IsComputed, MayAnswer}
-use Rattle.nf_app.specs.Told.{second_bytes}
-use Rattle.nf_app.specs.Completeness.{ToldRequest}
+use Rattle.std.proofs.Common.{◌≡◌, ◌⊎◌, ℕ, ◌<◌, List, length, refl, sym, subst, ◌∙◌, inl, inr, arith, Option, Some, IfSome, Result, Ok, Err}
+use Rattle.nf_app.proofs.Common.{All, same_Some, Rose, Named, Broken, IsNamed, Status, ProgramAnswer, Solved, SolvedForever, Shown, Loaded, Checked}
+use Rattle.nf_app.proofs.Common.{Quickest, TooManyWalks, Generated, Settled, Distributed, NoMemory, NoRequest, ShelfFailed, ShelfTooLong, Malformed}
+use Rattle.nf_app.proofs.Common.{MalformedLoads, MalformedFlows, MalformedRoutes, MalformedReport, Passes, Unbounded, NotThin, Earlier, status_of, Wanted}
+use Rattle.nf_app.proofs.Common.{FetchedTo, HasTooMany, NetworkReads, Request, request_of, Ok_not_Err, Some_not_None, same_value, files_of, other_of}
+use Rattle.nf_app.proofs.Common.{generated_by, OtherIsText, IsResultOf, Call, Asks, FetchedUpTo, HasNetwork, IsRefusedCall, IsComputed, MayAnswer}
+use Rattle.nf_app.proofs.Common.{second_bytes, ToldRequest}
 use Rattle.nf_app.proofs.Texts.{Holds, all_held, network_so, same_second, result_there, in_the_middle}
 use Rattle.nf_app.proofs.ToldOnce.{one_network}
 

@@ -1,27 +1,13 @@
 -- An answer that a request gives is the one that its texts determine.
-use Rattle.std.proofs.Common.{◌≡◌, ◌⊎◌, ℕ, List, sym, ap, subst, ◌∙◌, inl, inr}
-use Rattle.std.specs.Prelude.{Option, Some, None, Result, Ok, Err}
-use Rattle.nf_rational.specs.Rational.{ℚ}
-use Rattle.nf_frac_def.specs.Passing.{passes_Q}
-use Rattle.nf_frac_def.specs.declared.PassedAt.{PassedAt}
-use Rattle.nf_model.specs.Network.{Network}
-use Rattle.nf_net_def.specs.Named.{Named}
-use Rattle.nf_net_def.specs.Report.{Report}
-use Rattle.nf_report_def.specs.ReportFile.{ReportBroken, report_in}
+use Rattle.std.proofs.Common.{◌≡◌, ◌⊎◌, ℕ, List, sym, ap, subst, ◌∙◌, inl, inr, Option, Some, None, Result, Ok, Err}
+use Rattle.nf_app.proofs.Common.{ℚ, passes_Q, PassedAt, Network, Named, Report, ReportBroken, report_in, FlowsBroken, GivenFlows, flows_in, routes_in}
+use Rattle.nf_app.proofs.Common.{only_reading, Request, Solve, SolveForever, Show, Load, Check, Quick, Gen, Settle, Resume, Routes, Arrival, ProgramAnswer}
+use Rattle.nf_app.proofs.Common.{Loaded, Checked, Generated, Distributed, bounds_to, flow_list, departs_list, IsArrivalOf, IsResultOf}
 use Rattle.nf_quick_def.specs.Quick.{Quick as QuickFlow}
 use Rattle.nf_quick_def.specs.Quick as quick
-use Rattle.nf_complete_def.specs.FlowsFile.{FlowsBroken, GivenFlows, flows_in}
-use Rattle.nf_routes_def.specs.RoutesFile.{routes_in}
-use Rattle.nf_routes_laws.proofs.FileReading.{only_reading}
 use Rattle.nf_resume_def.specs.Resuming as resuming
-use Rattle.nf_app_words.specs.Requests.{Request, Solve, SolveForever, Show, Load, Check, Quick, Gen, Settle, Resume, Routes}
-use Rattle.nf_app_answers.specs.declared.arrival.Arrival.{Arrival}
-use Rattle.nf_app_answers.specs.Answers.{ProgramAnswer, Loaded, Checked, Generated, Distributed}
-use Rattle.nf_app.specs.Requests.{bounds_to}
-use Rattle.nf_app.specs.Lists.{flow_list, departs_list}
-use Rattle.nf_app.specs.Arrivals.{IsArrivalOf}
-use Rattle.nf_app.specs.Results.{IsResultOf}
-use Rattle.nf_app.proofs.Gives.{Arrives, DepartsGive, FlowGives, SettleGives, RestGives, ResumeGives, or_passes, load_answer, check_answer, routes_answer, Gives}
+use Rattle.nf_app.proofs.Gives.{Arrives, DepartsGive, FlowGives, SettleGives, RestGives, ResumeGives, or_passes, load_answer, check_answer, routes_answer}
+use Rattle.nf_app.proofs.Gives.{Gives}
 
 arrives_so : (net : Network) (departs : Option ℚ) (arrival : Arrival) → IsArrivalOf net departs arrival → Arrives net departs arrival
 arrives_so net None arrival is = is

@@ -1,26 +1,12 @@
 -- No run that an answer tells of stopped since no pattern was left; so that is the status of no answer.
-use Rattle.std.proofs.Common.{◌≡◌, ℕ, List, inl, inr, sym, ap, subst, refl, ◌∙◌}
-use Rattle.std.specs.Prelude.{Option, Some, None}
-use Rattle.std.proofs.lemmas.Option.{none-some}
-use Rattle.nf_rational.specs.Rational.{ℚ}
-use Rattle.nf_frac_def.specs.Passing.{passes_Q}
-use Rattle.nf_model.specs.Network.{Network, IsNetwork}
-use Rattle.nf_net_def.specs.declared.Cause.{Cause}
-use Rattle.nf_net_def.specs.Named.{Named}
+use Rattle.std.proofs.Common.{◌≡◌, ℕ, List, inl, inr, sym, ap, subst, refl, ◌∙◌, Option, Some, None}
+use Rattle.nf_app.proofs.Common.{none-some, ℚ, passes_Q, Network, IsNetwork, Cause, Named, Yes, No, bounds_of, NeverNoPattern, never_report, never_resumed}
+use Rattle.nf_app.proofs.Common.{never_forever, Arrival, Status, ProgramAnswer, Solved, SolvedForever, Shown, Loaded, Checked, Quickest, TooManyWalks}
+use Rattle.nf_app.proofs.Common.{Generated, Settled, Distributed, NoMemory, NoRequest, ShelfFailed, ShelfTooLong, Malformed, MalformedLoads, MalformedFlows}
+use Rattle.nf_app.proofs.Common.{MalformedRoutes, MalformedReport, Passes, Unbounded, NotThin, Earlier, status_of, status_of_stop, status_of_forever}
+use Rattle.nf_app.proofs.Common.{status_of_verdict, IsShown, Request, Solve, SolveForever, Show, Load, Check, Quick, Gen, Settle, Resume, Routes}
+use Rattle.nf_app.proofs.Common.{usual_budgets, bounds_to, arrival_of, IsArrivalOf, IsResultOf, Call, Run, IsRefusedCall, MayAnswer, Ran}
 use Rattle.nf_check_def.specs.declared.Answer.{Answer as Verdict}
-use Rattle.nf_check_def.specs.declared.Answer.TheVariants.{Yes, No}
-use Rattle.nf_phase.specs.Solution.{bounds_of}
-use Rattle.nf_phase_run_laws.specs.Stops.{NeverNoPattern}
-use Rattle.nf_phase_run_laws.proofs.Stops.{never_report, never_resumed, never_forever}
-use Rattle.nf_app_answers.specs.declared.arrival.Arrival.{Arrival}
-use Rattle.nf_app_answers.specs.declared.status.Status.{Status}
-use Rattle.nf_app_answers.specs.Answers.{ProgramAnswer, Solved, SolvedForever, Shown, Loaded, Checked, Quickest, TooManyWalks, Generated, Settled, Distributed, NoMemory, NoRequest, ShelfFailed, ShelfTooLong, Malformed, MalformedLoads, MalformedFlows, MalformedRoutes, MalformedReport, Passes, Unbounded, NotThin, Earlier, status_of, status_of_stop, status_of_forever, status_of_verdict}
-use Rattle.nf_app_files.specs.Shown.{IsShown}
-use Rattle.nf_app_words.specs.Requests.{Request, Solve, SolveForever, Show, Load, Check, Quick, Gen, Settle, Resume, Routes}
-use Rattle.nf_app.specs.Requests.{usual_budgets, bounds_to}
-use Rattle.nf_app.specs.Arrivals.{arrival_of, IsArrivalOf}
-use Rattle.nf_app.specs.Results.{IsResultOf}
-use Rattle.nf_app.specs.Runs.{Call, Run, IsRefusedCall, MayAnswer, Ran}
 use Rattle.nf_app.specs.Stops.{stop_of_arrival, stop_in, AlwaysHasPattern}
 
 -- ---- an answer without a run

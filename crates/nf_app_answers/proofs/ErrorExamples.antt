@@ -1,7 +1,8 @@
 -- Lines on standard error, by computation.
-use Rattle.std.proofs.Common.{◌≡◌, ℕ, List, [], ◌∷◌, ◌++◌, refl}
-use Rattle.std.specs.Prelude.{flat_map, codes, pos, Some, None}
-use Rattle.nf_rational.specs.Rational.{ℚ, ratio}
+use Rattle.std.proofs.Common.{◌≡◌, ℕ, List, [], ◌∷◌, ◌++◌, refl, flat_map, codes, pos, Some, None}
+use Rattle.nf_app_answers.proofs.Common.{ℚ, memory_line, shelf_failed_line, shelf_too_long_line, network_line, flows_line, stopped_line, passed_line}
+use Rattle.nf_app_answers.proofs.Common.{output_line, no_equilibrium_line, augments_line, unbounded_line, no_thin_flow_line, earlier_line}
+use Rattle.nf_rational.specs.Rational.{ratio}
 use Rattle.nf_rational.specs.Gcd.{gcd}
 use Rattle.nf_rational.specs.Operations.{whole}
 use Rattle.nf_frac_def.specs.declared.Part.TheVariants as Part
@@ -11,7 +12,6 @@ use Rattle.nf_frac_words.specs.Printed.{printed, printed_parts}
 use Rattle.nf_net_def.specs.declared.NetRule.TheVariants.{N8}
 use Rattle.nf_complete_def.specs.declared.FlowsRule.TheVariants.{S11}
 use Rattle.nf_net_def.specs.declared.Cause.TheVariants as Cause
-use Rattle.nf_app_answers.specs.ErrorLines.{memory_line, shelf_failed_line, shelf_too_long_line, network_line, flows_line, stopped_line, passed_line, output_line, no_equilibrium_line, augments_line, unbounded_line, no_thin_flow_line, earlier_line}
 
 -- lines with LF
 abbrev text : List (List ℕ) → List ℕ

@@ -1,9 +1,6 @@
 -- Lines on standard error, in pieces.
-use Rattle.std.proofs.Common.{◌≡◌, ℕ, List, [], ◌∷◌, ◌++◌, refl, sym, subst, ap, ◌∙◌, append_assoc, append-nil}
-use Rattle.std.specs.Prelude.{flat_map, codes, Option, Result}
-use Rattle.nf_edge.specs.Writing.{SinkState, Wrote}
-use Rattle.nf_text_def.specs.Words.{line_of_words}
-use Rattle.nf_app_answers.specs.ErrorLines.{said}
+use Rattle.std.proofs.Common.{◌≡◌, ℕ, List, [], ◌∷◌, ◌++◌, refl, sym, subst, ap, ◌∙◌, append_assoc, append-nil, flat_map, codes, Option, Result}
+use Rattle.nf_app_answers.proofs.Common.{SinkState, Wrote, line_of_words, said}
 
 pub rule_pieces : (file digits rule : List ℕ) → codes "nfot: " ++ (file ++ (codes " line " ++ (digits ++ (codes ": " ++ (rule ++ (codes "\n" ++ []))))))
     ≡ said (file ∷ codes "line" ∷ (digits ++ codes ":") ∷ rule ∷ [])

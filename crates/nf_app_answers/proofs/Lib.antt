@@ -1,3 +1,4 @@
+mod Common
 pub mod ErrorTexts
 pub mod LoadLines
 pub mod QuickLines

@@ -1,8 +1,6 @@
 -- The loadings of links in the order of their numbers.
-use Rattle.std.proofs.Common.{◌≡◌, ℕ, zero, suc, ◌+◌, List, [], ◌∷◌, length, ap, ◌∙◌, zero-add, arith}
-use Rattle.std.specs.Prelude.{Some, slice_get, map}
-use Rattle.std.specs.List.{enumerate_from}
-use Rattle.std.proofs.lemmas.List.FromFn.{length-enumerate_from}
+use Rattle.std.proofs.Common.{◌≡◌, ℕ, zero, suc, ◌+◌, List, [], ◌∷◌, length, ap, ◌∙◌, zero-add, arith, Some, slice_get, map}
+use Rattle.nf_app_answers.proofs.Common.{enumerate_from, length-enumerate_from}
 
 -- an element of a list, with its number, as a loop over the numbers has it
 pub numbered_there : {X Y : Type 0} (f : X → Y) (xs : List X) (i : ℕ) (x : X) → slice_get xs i ≡ Some x → slice_get (enumerate_from 0 (map f xs)) i ≡ Some (i, f x)

@@ -1,13 +1,8 @@
 -- Lines of a text built in memory.
-use Rattle.std.proofs.Common.{◌≡◌, ℕ, suc, ◌+◌, ◌≤◌, List, [], ◌∷◌, ◌++◌, length, take, drop, map, refl, sym, ap, ◌∙◌, append_assoc, append-nil, zero-add, add-one}
-use Rattle.std.specs.Prelude.{Some, slice_get, flat_map, codes}
-use Rattle.std.specs.List.{enumerate_from}
-use Rattle.std.proofs.lemmas.List.{drop_all}
-use Rattle.std.proofs.lemmas.List.FromFn.{length-enumerate_from}
-use Rattle.nf_text_def.specs.Words.{line_of_words}
+use Rattle.std.proofs.Common.{◌≡◌, ℕ, suc, ◌+◌, ◌≤◌, List, [], ◌∷◌, ◌++◌, length, take, drop, map, refl, sym, ap, ◌∙◌, append_assoc, append-nil, zero-add}
+use Rattle.std.proofs.Common.{add-one, Some, slice_get, flat_map, codes}
+use Rattle.nf_app_answers.proofs.Common.{enumerate_from, drop_all, length-enumerate_from, line_of_words, after_words, line_joined, next_part, all_parts}
 use Rattle.nf_thin_laws.proofs.Ending.{enumerated}
-use Rattle.nf_report_pages.specs.Written.{after_words}
-use Rattle.nf_report_pages.proofs.Parts.{line_joined, next_part, all_parts}
 use Rattle.nf_rational_laws.proofs.Entries.{drop_entry}
 
 -- a line, in pieces

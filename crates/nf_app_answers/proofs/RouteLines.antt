@@ -1,16 +1,9 @@
 -- The curves of links in order of number, in two forms.
-use Rattle.std.proofs.Common.{◌≡◌, ℕ, suc, ◌+◌, List, [], ◌∷◌, ◌++◌, length, refl, sym, ap, ◌∙◌, zero-add, arith}
-use Rattle.std.specs.Prelude.{Option, Some, flat_map, slice_get, unwrap_or, map}
-use Rattle.std.specs.List.{enumerate_from, range_with_len}
-use Rattle.nf_net_def.specs.Report.{for_each}
-use Rattle.nf_net_def.specs.Named.{Named}
+use Rattle.std.proofs.Common.{◌≡◌, ℕ, suc, ◌+◌, List, [], ◌∷◌, ◌++◌, length, refl, sym, ap, ◌∙◌, zero-add, arith, Option, Some, flat_map, slice_get}
+use Rattle.std.proofs.Common.{unwrap_or, map}
+use Rattle.nf_app_answers.proofs.Common.{enumerate_from, range_with_len, for_each, Named, loaded_of, loaded_lines, Routed, link_loaded, link_curve_lines}
 use Rattle.nf_load_def.specs.Loading.{Loaded}
 use Rattle.nf_load.specs.declared.loading.Loaded.{Loaded as CodeLoaded}
-use Rattle.nf_load.specs.Loadings.{loaded_of}
-use Rattle.nf_report_def.specs.Texts.{loaded_lines}
-use Rattle.nf_routes_def.specs.RoutesList.{Routed}
-use Rattle.nf_routes_def.specs.Meanings.{link_loaded}
-use Rattle.nf_routes_def.specs.RoutesText.{link_curve_lines}
 
 -- a map over numbered elements is a map over the numbers, if the numbers determine the elements
 by_number : {X A : Type 0} (f : ℕ × X → List A) (g : ℕ → X) (xs : List X) (k : ℕ) → ((i : ℕ) (x : X) → slice_get xs i ≡ Some x → g (k + i) ≡ x)

@@ -1,21 +1,19 @@
 -- Requests are within their limits.
-use Rattle.std.proofs.Common.{◌≡◌, ℕ, ◌≤◌, Bool, true, false, cond, List, refl, ap, subst, ◌∙◌, lit≤}
-use Rattle.std.specs.Prelude.{Option, Some, None, IfSome, option_map, option_and_then, Result, Ok, Err, codes}
-use Rattle.std.specs.Option.{option_map_or}
-use Rattle.clap.specs.Walk.{Row, Text}
+use Rattle.std.proofs.Common.{◌≡◌, ℕ, ◌≤◌, Bool, true, false, cond, List, refl, ap, subst, ◌∙◌, lit≤, Option, Some, None, IfSome, option_map}
+use Rattle.std.proofs.Common.{option_and_then, Result, Ok, Err, codes}
+use Rattle.nf_app_words.proofs.Common.{option_map_or, Row, Text, Task, word_in, matches_on, file_in, to_not_negative, not_negative_of, not_negative_in}
+use Rattle.nf_app_words.proofs.Common.{count_between, usual_or_count_in, most_phases, most_patterns, most_augments, most_rungs, most_number, commands}
+use Rattle.nf_app_words.proofs.Common.{first_task, Request, Show, IsCountWithin, CanBeAsked, solve_request, forever_request, load_request, check_request}
+use Rattle.nf_app_words.proofs.Common.{quick_request, gen_request, settle_request, resume_request, routes_request, asked, request_in}
 use Rattle.nf_rational.specs.Rational.{ℚ}
 use Rattle.nf_rational.specs.Operations.{0ℚ}
 use Rattle.nf_rational.specs.Order.{◌≤ℚ◌, le_ℚ}
 use Rattle.nf_rational_laws.proofs.Tests.{le_of_test}
 use Rattle.nf_frac_def.specs.Passing.{bound_of}
 use Rattle.nf_frac_words.specs.Numbers.{number_of}
-use Rattle.nf_app_words.specs.declared.commands.Task.{Task}
 use Rattle.nf_app_words.specs.declared.commands.Task.TheVariants as task
 use Rattle.nf_app_words.specs.declared.request.Request as code
-use Rattle.nf_app_words.specs.CommandLine.{word_in, matches_on, file_in}
-use Rattle.nf_app_words.specs.Numbers.{to_not_negative, not_negative_of, not_negative_in, count_between, usual_or_count_in, most_phases, most_patterns, most_augments, most_rungs, most_number}
-use Rattle.nf_app_words.specs.Commands.{commands, first_task}
-use Rattle.nf_app_words.specs.Requests.{Request, Show, IsCountWithin, CanBeAsked, solve_request, forever_request, load_request, check_request, quick_request, gen_request, settle_request, resume_request, routes_request, horizon_in, phases_in, patterns_in, amount_in, augments_in, number_asked, rungs_in, asked, request_in, request_of}
+use Rattle.nf_app_words.specs.Requests.{horizon_in, phases_in, patterns_in, amount_in, augments_in, number_asked, rungs_in, request_of}
 use Rattle.nf_app_words.specs.RequestViews.{requested}
 use Rattle.nf_app_words.proofs.Counts.{count_within}
 

@@ -1,12 +1,13 @@
 -- A count is the number that `parse` reads from a word of digits.
 use Rattle.std.proofs.Common.{◌≡◌, ℕ, ◌+◌, ◌-◌, ◌*◌, ◌^◌, ◌<◌, ◌≤◌, Bool, true, false, ◌&&◌, cond, List, length, refl, sym, ap, ◌∙◌, subst, inl, inr, arith}
-use Rattle.std.specs.Prelude.{Some, None, IfSome, Ok, Err}
+use Rattle.std.proofs.Common.{Some, None, IfSome, Ok, Err}
+use Rattle.nf_app_words.proofs.Common.{and_parts, and_from, and_left, and_right, le-leb, leb-true, lt-leb, cond-true, cond-false, not-true, eqb-false}
+use Rattle.nf_app_words.proofs.Common.{cases_lt, is_whole, is_between}
 use Rattle.std.specs.Str.Parse.{ParsesUnsigned}
-use Rattle.std.proofs.lemmas.Bool.{and_parts, and_from, and_left, and_right, le-leb, leb-true, lt-leb, cond-true, cond-false, not-true, eqb-false, cases_lt}
 use Rattle.std.proofs.lemmas.Str.Parse.{IsDigitsTest, FoldsDigits, IsNumeralModel, numerals_by_fold, parse_digits}
 use Rattle.nf_frac_words.specs.Digits.{are_digits, value_after, value_of}
 use Rattle.nf_frac_words.proofs.Digits.{digit_range}
-use Rattle.nf_app_words.specs.Numbers.{is_whole, is_between, count_between}
+use Rattle.nf_app_words.specs.Numbers.{count_between}
 
 -- ---- digits, and their value
 tells : IsDigitsTest (λ ds. are_digits ds ≡ true)

@@ -1,19 +1,22 @@
 -- If no step of a simple command fails, each step succeeds.
-use Rattle.std.proofs.Common.{◌≡◌, ◌∙◌, ◌≤◌, ◌&&◌, ◌||◌, ℕ, zero, suc, Bool, cond, true, false, not, refl, sym, List, [], ◌∷◌, length, drop, Option, Some, None, is_some, arith}
-use Rattle.std.specs.Prelude.{◌==◌, nat_lt, slice_get, codes, encode_utf8}
+use Rattle.std.proofs.Common.{◌≡◌, ◌∙◌, ◌≤◌, ◌&&◌, ◌||◌, ℕ, zero, suc, Bool, cond, true, false, not, refl, sym, List, [], ◌∷◌, length, drop, Option, Some}
+use Rattle.std.proofs.Common.{None, is_some, arith, ◌==◌, nat_lt, slice_get, codes, encode_utf8}
+use Rattle.nf_app_words.proofs.Common.{option_map_or, bytes_eq, chars, and_from, le-leb, eqb-true, ltb-false, or_right, long_of, short_of, refused_kind}
+use Rattle.nf_app_words.proofs.Common.{Held, Names, Row, Rule, Step, next, trailing, subcommand, value, Text, Waiting, Walk, action_of, arg_by_id}
+use Rattle.nf_app_words.proofs.Common.{arg_by_index, arg_by_long, arg_by_short, attached_value, finished, has_row, is_pending, most_values, nothing_held}
+use Rattle.nf_app_words.proofs.Common.{reacted, settled, subcommand_met, takes_several, takes_values, values_or_missing, walk, walk_from, walked, word_met}
+use Rattle.nf_app_words.proofs.Common.{App, Shape, argument_words, built, is_simple, action_passes, bundle_step_passes, count_passes, default_passes}
+use Rattle.nf_app_words.proofs.Common.{flag_word_passes, is_given, level_passes, long_passes, option_passes, other_passes, positional_passes, react_passes}
+use Rattle.nf_app_words.proofs.Common.{set_passes, settle_passes, short_passes, step_passes, takes, turn_passes, use_passes, values_pass, word_passes}
+use Rattle.nf_app_words.proofs.Common.{action_fault, bundle_step_fault, check_fault, count_fault, defaults_fault, fault_of, flag_word_fault, level_fault}
+use Rattle.nf_app_words.proofs.Common.{long_fault, option_fault, other_fault, positional_fault, react_fault, repeat_fault, set_fault, settle_fault}
+use Rattle.nf_app_words.proofs.Common.{short_fault, step_fault, stray_fault, turn_fault, use_fault, values_fault, word_fault}
 use Rattle.std.specs.List.{list_all, list_any}
-use Rattle.std.specs.Option.{option_map_or}
-use Rattle.std.specs.Str.{bytes_eq, chars}
-use Rattle.std.proofs.lemmas.Bool.{and_from, le-leb, eqb-true, ltb-false, or_right}
-use Rattle.clap.specs.Lexer.{long_of, short_of}
 use Rattle.clap.specs.Facts.{parser_of_value, unwrap_or_range}
 use Rattle.clap.specs.ValueTests.{accepts}
-use Rattle.clap.specs.Values.{refused_kind}
 use Rattle.clap.specs.Kinds.{Kinds, check_kinds, or_else, range_kinds, value_kinds, values_kinds}
-use Rattle.clap.specs.Walk.{Held, Names, Row, Rule, Step, next, trailing, subcommand, value, Text, Waiting, Walk, action_of, arg_by_id, arg_by_index, arg_by_long, arg_by_short, attached_value, finished, has_row, is_pending, most_values, nothing_held, reacted, settled, subcommand_met, takes_several, takes_values, values_or_missing, walk, walk_from, walked, word_met}
-use Rattle.clap.specs.Simple.{App, Shape, argument_words, built, is_simple}
-use Rattle.clap.specs.Takes.{action_passes, bundle_step_passes, count_passes, default_passes, flag_word_passes, flags_pass, is_given, level_passes, long_passes, option_passes, other_passes, positional_passes, react_passes, set_passes, settle_passes, short_passes, step_passes, takes, turn_passes, use_passes, values_pass, walk_passes, word_passes}
-use Rattle.clap.specs.Faults.{action_fault, bundle_step_fault, check_fault, count_fault, defaults_fault, fault_of, flag_word_fault, flags_fault, level_fault, long_fault, option_fault, other_fault, positional_fault, react_fault, repeat_fault, set_fault, settle_fault, short_fault, step_fault, stray_fault, turn_fault, use_fault, values_fault, walk_fault, word_fault}
+use Rattle.clap.specs.Takes.{flags_pass, walk_passes}
+use Rattle.clap.specs.Faults.{flags_fault, walk_fault}
 use Rattle.clap.specs.declared.builder.action.ArgAction.{ArgAction}
 use Rattle.clap.specs.declared.builder.action.ArgAction.TheVariants as action
 use Rattle.clap.specs.declared.error.kind.ErrorKind.{ErrorKind}

@@ -1,15 +1,8 @@
 -- The files among the matches.
-use Rattle.std.proofs.Common.{◌≡◌, ◌∙◌, ℕ, List, [], map, length, sym, ap, codes}
-use Rattle.std.specs.Prelude.{Option, Some, None, option_map, unwrap_or, slice_get}
-use Rattle.std.specs.Borrow.{Bor}
-use Rattle.std.proofs.lemmas.List.{length-map}
-use Rattle.std.proofs.lemmas.Option.{slice_get-map}
-use Rattle.clap.specs.Walk.{Text}
-use Rattle.clap.specs.Matches.{found_of, matched_of, raw_values}
-use Rattle.clap.specs.declared.parser.matches.ArgMatches.{ArgMatches}
-use Rattle.clap.proofs.WalkLemmas.{raw_values-rows}
+use Rattle.std.proofs.Common.{◌≡◌, ◌∙◌, ℕ, List, [], map, length, sym, ap, codes, Option, Some, None, option_map, unwrap_or, slice_get}
+use Rattle.nf_app_words.proofs.Common.{Bor, length-map, slice_get-map, Text, found_of, matched_of, raw_values, ArgMatches, raw_values-rows, text_in}
 use Rattle.nf_app_words.specs.CommandLine.{files_in, file_in}
-use Rattle.nf_app_words.specs.MatchViews.{rows_in, text_in}
+use Rattle.nf_app_words.specs.MatchViews.{rows_in}
 
 -- the texts behind references
 abbrev behind : List (Bor Text) → List Text

@@ -1,3 +1,4 @@
+mod Common
 pub mod Faultless
 pub mod Taken
 pub mod Table

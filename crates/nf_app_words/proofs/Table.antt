@@ -1,13 +1,8 @@
 -- Traversal of tables, entry by entry: commands, and the options of one command.
-use Rattle.std.proofs.Common.{Bool, List, map}
-use Rattle.std.specs.Borrow.{Bor}
-use Rattle.std.specs.Prelude.{Option}
-use Rattle.clap.specs.Walk.{Text, Row}
+use Rattle.std.proofs.Common.{Bool, List, map, Option}
+use Rattle.nf_app_words.proofs.Common.{Bor, Text, Row, Task, are_met, first_task, need_of, line_of, wanted_of}
 use Rattle.nf_app_words.specs.declared.commands.Line.{Line}
 use Rattle.nf_app_words.specs.declared.commands.Need.{Need}
-use Rattle.nf_app_words.specs.declared.commands.Task.{Task}
-use Rattle.nf_app_words.specs.Commands.{are_met, first_task, need_of}
-use Rattle.nf_app_words.specs.MatchViews.{line_of, wanted_of}
 
 module _ (rows : List Row) where
   -- the values of a table's rows

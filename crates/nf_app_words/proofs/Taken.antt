@@ -1,15 +1,9 @@
 -- The result of parsing the command `nfot`. There are matches exactly if the command accepts the words, unless an allocation fails.
 use Rattle.std.proofs.Common.{◌≡◌, ◌∙◌, List, [], refl, sym, ap, ap₂, true, Some, None}
-use Rattle.std.proofs.lemmas.Bool.{cond-true, cond-false, false_from_ne_true}
-use Rattle.clap.specs.Walk.{Text, rows_of}
-use Rattle.clap.specs.Matches.{found_of}
-use Rattle.clap.specs.Values.{kind_of}
-use Rattle.clap.specs.Simple.{App, HasMatchesOf, built, is_simple, matches_of}
-use Rattle.clap.specs.Takes.{takes}
-use Rattle.clap.specs.Faults.{fault_of, is_simple_and_free}
+use Rattle.nf_app_words.proofs.Common.{cond-true, cond-false, false_from_ne_true, Text, rows_of, found_of, kind_of, App, HasMatchesOf, built, is_simple}
+use Rattle.nf_app_words.proofs.Common.{matches_of, takes, fault_of, is_simple_and_free, ArgMatches}
 use Rattle.clap.specs.declared.error.Error.{Error}
 use Rattle.clap.specs.declared.error.kind.ErrorKind.TheVariants.{OutOfMemory}
-use Rattle.clap.specs.declared.parser.matches.ArgMatches.{ArgMatches}
 use Rattle.nf_app_words.specs.CommandLine.{nfot, matches_on}
 use Rattle.nf_app_words.specs.MatchViews.{rows_in}
 use Rattle.nf_app_words.proofs.Faultless.{IsPlainShape, takes_where_none_fails}

@@ -1,36 +1,22 @@
 -- The answer of a check is the answer of the rules.
-use Rattle.std.proofs.Common.{◌≡◌, ℕ, ◌<◌, List, length, map, refl, sym, ap, subst, ◌∙◌}
-use Rattle.std.proofs.lemmas.List.{length-map}
-use Rattle.std.specs.Prelude.{Result, Ok, Err, IfOk}
-use Rattle.nf_rational.specs.Rational.{ℚ}
-use Rattle.nf_rational.specs.Operations.{0ℚ}
-use Rattle.nf_rational.specs.Order.{◌≤ℚ◌}
-use Rattle.nf_frac_def.specs.Passing.{Passing}
+use Rattle.std.proofs.Common.{◌≡◌, ℕ, ◌<◌, List, length, map, refl, sym, ap, subst, ◌∙◌, Result, Ok, Err, IfOk}
+use Rattle.nf_check.proofs.Common.{length-map, ℚ, 0ℚ, ◌≤ℚ◌, Passing, Gives, IsCurve, Flow, AreCurves, points_at, points_of, Checks, Trial, Passes, Breaks}
+use Rattle.nf_check.proofs.Common.{answer_of, trial, Grown, seen_trace, seen_flow, IsGivenFlow, points_of_each, done}
 use Rattle.nf_frac_def.specs.declared.Halt.{Halt}
 use Rattle.nf_frac_def.specs.declared.PassedAt.{PassedAt}
-use Rattle.nf_frac_def.specs.Checked.{Gives}
-use Rattle.nf_model.specs.Curve.{IsCurve}
 use Rattle.nf_model.specs.Network.{Network, IsNetwork}
-use Rattle.nf_model.specs.Equilibrium.{Flow, AreCurves, points_at, points_of}
 use Rattle.nf_model.specs.Equilibrium as model
 use Rattle.nf_net_def.specs.Report.{HaveRates}
 use Rattle.nf_check_def.specs.declared.Answer.{Answer}
 use Rattle.nf_check_def.specs.declared.Answer.TheVariants.{Yes, No}
-use Rattle.nf_check_def.specs.Rules.{Checks}
-use Rattle.nf_check_def.specs.Trial.{Trial, Passes, Breaks, answer_of}
-use Rattle.nf_check_def.specs.CheckList.{trial, check_list}
+use Rattle.nf_check_def.specs.CheckList.{check_list}
 use Rattle.nf_check_laws.specs.Laws.{CanBeChecked}
 use Rattle.nf_check_laws.proofs.Holding.{Equilibrium-holding, AllHold-equilibrium}
 use Rattle.nf_check_laws.proofs.Broken.{not-broken}
 use Rattle.nf_check_laws.proofs.Checking.{check_list-checks}
-use Rattle.nf_curve.specs.Points.{Grown}
-use Rattle.nf_curve.specs.Flows.{seen_trace, seen_flow}
 use Rattle.nf_curve.specs.declared.flow.Flow as code
 use Rattle.nf_curve.specs.declared.flow.Trace as code_trace
 use Rattle.nf_check.specs.Answers.{IsExact}
-use Rattle.nf_check.specs.Given.{IsGivenFlow}
-use Rattle.nf_check_rules.specs.Kept.{points_of_each}
-use Rattle.nf_check_rules.specs.Trials.{done}
 
 answer_done : {A : Type 0} (r : Trial A) → answer_of (done r) ≡ answer_of r
 answer_done (Ok x) = refl

@@ -1,18 +1,8 @@
 -- The least exit over the links into a node, with one link more.
-use Rattle.std.proofs.Common.{◌≡◌, ℕ, List, Bool, true, false, not, refl, sym, ap, ◌∙◌}
-use Rattle.std.specs.Prelude.{◌==◌, if◌then◌else◌, Option, Ok}
-use Rattle.nf_rational.specs.Rational.{ℚ}
-use Rattle.nf_frac_def.specs.Passing.{Passing}
-use Rattle.nf_frac_def.specs.declared.Halt.{Halt}
-use Rattle.nf_frac_def.specs.declared.Part.TheVariants.{Check}
-use Rattle.nf_frac_def.specs.Checked.{Checked, Stops, at_part, ◌>>=◌}
-use Rattle.nf_model.specs.Curve.{Point}
-use Rattle.nf_model.specs.Network.{Link}
-use Rattle.nf_model.specs.Equilibrium.{points_at}
+use Rattle.std.proofs.Common.{◌≡◌, ℕ, List, Bool, true, false, not, refl, sym, ap, ◌∙◌, ◌==◌, if◌then◌else◌, Option, Ok}
+use Rattle.nf_check_rules.proofs.Common.{ℚ, Passing, Halt, Check, Checked, Stops, at_part, ◌>>=◌, Point, Link, points_at, checked_composed, loaded_at}
+use Rattle.nf_check_rules.proofs.Common.{least_so_far, with_exit, after_err, after_ok, stops_on}
 use Rattle.nf_load_def.specs.Loading.{Loaded}
-use Rattle.nf_curve_def.specs.Composed.{checked_composed}
-use Rattle.nf_check_def.specs.Curves.{loaded_at, least_so_far, with_exit}
-use Rattle.nf_curve.proofs.Exits.{after_err, after_ok, stops_on}
 
 same_not : (a b : Bool) → not a ≡ not b → a ≡ b
 same_not true true e = refl

@@ -1,21 +1,12 @@
 -- Curves by their numbers.
-use Rattle.std.proofs.Common.{◌≡◌, ◌≢◌, ℕ, ◌+◌, ◌<◌, List, [], ◌∷◌, ◌++◌, take, length, map, get_or, Some, Option, slice_get, unwrap_or, ⊎_elim, true, false, eqb, refl, sym, ap, subst, ◌∙◌, arith}
+use Rattle.std.proofs.Common.{◌≡◌, ◌≢◌, ℕ, ◌+◌, ◌<◌, List, [], ◌∷◌, ◌++◌, take, length, map, get_or, Some, Option, slice_get, unwrap_or, ⊎_elim, true}
+use Rattle.std.proofs.Common.{false, eqb, refl, sym, ap, subst, ◌∙◌, arith}
+use Rattle.nf_check_rules.proofs.Common.{take_more, slice_get_read, slice_get_within, get_or_from_slice_get, Point, IsCurve, points_at, points_of}
+use Rattle.nf_check_rules.proofs.Common.{loaded_at, Grown, seen_trace, Trace, loaded_of, Loaded, slice_get-image, points_of_each, loadings_of}
 use Rattle.std.proofs.lemmas.Bool.Decides.{eqb_tells}
-use Rattle.std.proofs.lemmas.List.{take_more}
-use Rattle.std.proofs.lemmas.Option.{slice_get_read, slice_get_within, get_or_from_slice_get}
-use Rattle.nf_model.specs.Curve.{Point, IsCurve}
 use Rattle.nf_model.specs.Equilibrium as model
-use Rattle.nf_model.specs.Equilibrium.{points_at, points_of}
 use Rattle.nf_load_def.specs.Loading as lists
-use Rattle.nf_check_def.specs.Curves.{loaded_at}
 use Rattle.nf_check_def.specs.CheckList as lists_of_check
-use Rattle.nf_curve.specs.Points.{Grown}
-use Rattle.nf_curve.specs.Flows.{seen_trace}
-use Rattle.nf_curve.specs.declared.flow.Trace.{Trace}
-use Rattle.nf_load.specs.Loadings.{loaded_of}
-use Rattle.nf_load.specs.declared.loading.Loaded.{Loaded}
-use Rattle.nf_rational_laws.proofs.Entries.{slice_get-image}
-use Rattle.nf_check_rules.specs.Kept.{points_of_each, loadings_of}
 
 module _ (curves : List Grown) (k : ℕ) (curve : Grown) (is : slice_get curves k ≡ Some curve) where
   pub curve_there : curve.points ≡ points_at (points_of_each curves) k

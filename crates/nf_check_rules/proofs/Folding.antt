@@ -1,13 +1,6 @@
 -- A curve that each link makes anew from the one before.
-use Rattle.std.proofs.Common.{◌≡◌, ℕ, ◌+◌, ◌≤◌, List, ◌∷◌, length, drop, Some, slice_get, sym, ap, ◌∙◌}
-use Rattle.std.specs.Prelude.{Ok}
-use Rattle.std.specs.List.{enumerate_from}
-use Rattle.nf_rational.specs.Rational.{ℚ}
-use Rattle.nf_frac_def.specs.declared.Halt.{Halt}
-use Rattle.nf_frac_def.specs.declared.Part.TheVariants.{Check}
-use Rattle.nf_frac_def.specs.Checked.{Checked, Stops, at_part, fold_checked}
-use Rattle.nf_frac_def.proofs.Each.{fold_ok}
-use Rattle.nf_curve.proofs.Exits.{after_err, was_ok, stops_on}
+use Rattle.std.proofs.Common.{◌≡◌, ℕ, ◌+◌, ◌≤◌, List, ◌∷◌, length, drop, Some, slice_get, sym, ap, ◌∙◌, Ok}
+use Rattle.nf_check_rules.proofs.Common.{enumerate_from, ℚ, Halt, Check, Checked, Stops, at_part, fold_checked, fold_ok, after_err, was_ok, stops_on}
 use Rattle.nf_check_rules.proofs.Looping.{links_next, links_last}
 
 -- what is left to be done gives what all of it gives

@@ -1,35 +1,15 @@
 -- Exits that are kept in short form.
-use Rattle.std.proofs.Common.{◌≡◌, ℕ, zero, suc, List, length, set, replicate, ◌⊎◌, inl, inr, Option, Some, None, slice_get, sym, ap, subst, ◌∙◌}
-use Rattle.std.specs.Prelude.{Ok, IfSome}
-use Rattle.std.proofs.lemmas.List.{length-set, length-replicate}
-use Rattle.nf_rational.specs.Rational.{ℚ}
-use Rattle.nf_frac_def.specs.Passing.{Passing, passes_Q}
-use Rattle.nf_frac_def.specs.declared.Halt.{Halt}
-use Rattle.nf_frac_def.specs.Checked.{Checked, Stops, at_part, ◌>>=◌}
-use Rattle.nf_frac_def.specs.declared.Part.TheVariants.{Check}
+use Rattle.std.proofs.Common.{◌≡◌, ℕ, zero, suc, List, length, set, replicate, ◌⊎◌, inl, inr, Option, Some, None, slice_get, sym, ap, subst, ◌∙◌, Ok}
+use Rattle.std.proofs.Common.{IfSome}
+use Rattle.nf_check_rules.proofs.Common.{length-set, length-replicate, ℚ, Passing, passes_Q, Halt, Checked, Stops, at_part, ◌>>=◌, Check, Point, Link}
+use Rattle.nf_check_rules.proofs.Common.{Network, IsLink, Flow, points_at, points_of, Sides, checked_composed, checked_short, loaded_at, detour_list, route}
+use Rattle.nf_check_rules.proofs.Common.{C8, in_part, unless, Grown, was_ok, set_cases, Exits, AreStored, KeepsExits, exits_by_departure, short_exits}
+use Rattle.nf_check_rules.proofs.Common.{network_in, labels_in, loaded_in, of_halt, EndsAs}
 use Rattle.nf_frac_def.proofs.Binding.{bind_ok}
-use Rattle.nf_model.specs.Curve.{Point}
-use Rattle.nf_model.specs.Network.{Link, Network, IsLink}
-use Rattle.nf_model.specs.Equilibrium.{Flow, points_at, points_of}
 use Rattle.nf_load_def.specs.Loading.{Loaded}
-use Rattle.nf_curve_def.specs.Lines.{Sides}
-use Rattle.nf_curve_def.specs.Composed.{checked_composed}
-use Rattle.nf_curve_def.specs.Short.{checked_short}
-use Rattle.nf_check_def.specs.Curves.{loaded_at}
-use Rattle.nf_check_def.specs.Routes.{detour_list}
-use Rattle.nf_check_def.specs.CheckList.{route}
-use Rattle.nf_check_def.specs.declared.CheckRule.TheVariants.{C8}
 use Rattle.nf_check_def.specs.declared.Subject.TheVariants.{Link as OfLink}
-use Rattle.nf_check_def.specs.Trial.{in_part, unless}
-use Rattle.nf_curve.specs.Points.{Grown}
-use Rattle.nf_curve.proofs.Exits.{was_ok}
-use Rattle.nf_rational_laws.proofs.Entries.{set_cases}
-use Rattle.nf_check_rules.specs.declared.exits.Exits.{Exits}
 use Rattle.nf_check_rules.specs.declared.worked.Worked.{Worked}
-use Rattle.nf_check_rules.specs.Exits.{AreStored, KeepsExits, exits_by_departure}
-use Rattle.nf_check_rules.specs.Sent.{short_exits, sent_list, known_list}
-use Rattle.nf_check_rules.specs.Views.{network_in, labels_in, loaded_in}
-use Rattle.nf_check_rules.specs.Trials.{of_halt, EndsAs}
+use Rattle.nf_check_rules.specs.Sent.{sent_list, known_list}
 use Rattle.nf_check_rules.proofs.Trying.{ends, part_ends, part_goes}
 
 -- ---- entries of a list of which one was set

@@ -1,38 +1,18 @@
 -- What is known of the labels and inflows once the first rules hold.
-use Rattle.std.proofs.Common.{◌≡◌, ℕ, zero, suc, ◌+◌, ◌-◌, ◌<◌, true, List, [], ◌∷◌, length, map, Option, Some, None, slice_get, unwrap_or, refl, sym, ap, subst, ◌∙◌, arith}
-use Rattle.std.proofs.lemmas.List.{length-map}
-use Rattle.std.specs.Prelude.{Ok, Err}
-use Rattle.std.specs.List.{AllByRecursion, enumerate_from, range_with_len}
-use Rattle.nf_rational.specs.Rational.{ℚ}
-use Rattle.nf_rational.specs.Operations.{0ℚ}
-use Rattle.nf_rational.specs.Order.{◌≤ℚ◌}
-use Rattle.nf_frac_def.specs.Passing.{Passing}
-use Rattle.nf_frac_def.specs.Checked.{Checked, each, ◌>>=◌}
-use Rattle.nf_frac_def.specs.declared.Part.TheVariants.{Check}
-use Rattle.nf_model.specs.Curve.{Point, value, IsCurve}
-use Rattle.nf_model.specs.Network.{Network}
-use Rattle.nf_model.specs.Equilibrium.{Flow, Trace, points_at, points_of}
-use Rattle.nf_curve_def.specs.Lines.{Sides}
-use Rattle.nf_curve_def.specs.Values.{checked_cut}
+use Rattle.std.proofs.Common.{◌≡◌, ℕ, zero, suc, ◌+◌, ◌-◌, ◌<◌, true, List, [], ◌∷◌, length, map, Option, Some, None, slice_get, unwrap_or, refl, sym, ap}
+use Rattle.std.proofs.Common.{subst, ◌∙◌, arith, Ok, Err}
+use Rattle.nf_check_rules.proofs.Common.{length-map, AllByRecursion, enumerate_from, range_with_len, ℚ, 0ℚ, ◌≤ℚ◌, Passing, Checked, each, ◌>>=◌, Check}
+use Rattle.nf_check_rules.proofs.Common.{Point, value, IsCurve, Network, Flow, points_at, points_of, Sides, checked_cut, C1, Subject, Inflow, Holds}
+use Rattle.nf_check_rules.proofs.Common.{numbers_of_nodes, numbers_of_links, Trial, in_part, unless, negative_point, inflow_fault, label_cut, inflow_rule}
+use Rattle.nf_check_rules.proofs.Common.{loading, IsLabel, cut_of, label-cut, negative-none, decides-inflow, value_from_all, Grown, seen_flow, seen_trace}
+use Rattle.nf_check_rules.proofs.Common.{loaded_of, Loaded, IsFromZero, IsWorked, points_of_each, loadings_of, done}
+use Rattle.nf_model.specs.Equilibrium.{Trace}
 use Rattle.nf_curve_laws.proofs.Values.{checked_cut-exact}
 use Rattle.nf_check_def.specs.declared.CheckRule.{CheckRule}
-use Rattle.nf_check_def.specs.declared.CheckRule.TheVariants.{C1}
-use Rattle.nf_check_def.specs.declared.Subject.{Subject}
 use Rattle.nf_check_def.specs.declared.Subject.TheVariants.{Node, Link as OfLink}
-use Rattle.nf_check_def.specs.Rules.{Inflow, Holds, numbers_of_nodes, numbers_of_links}
-use Rattle.nf_check_def.specs.Trial.{Trial, in_part, unless}
-use Rattle.nf_check_def.specs.PointRules.{negative_point, inflow_fault}
-use Rattle.nf_check_def.specs.CheckList.{label_cut, inflow_rule, loading}
 use Rattle.nf_check_laws.specs.Laws.{CanBeChecked}
-use Rattle.nf_check_laws.proofs.Points.{IsLabel, cut_of, label-cut, negative-none, decides-inflow, value_from_all}
-use Rattle.nf_curve.specs.Points.{Grown}
-use Rattle.nf_curve.specs.Flows.{seen_flow, seen_trace}
 use Rattle.nf_curve.specs.declared.flow.Flow as code
-use Rattle.nf_load.specs.Loadings.{loaded_of}
-use Rattle.nf_load.specs.declared.loading.Loaded.{Loaded}
 use Rattle.nf_rational_laws.proofs.Results.{same_Ok}
-use Rattle.nf_check_rules.specs.Kept.{IsFromZero, IsWorked, points_of_each, loadings_of}
-use Rattle.nf_check_rules.specs.Trials.{done}
 use Rattle.nf_check_rules.proofs.PointByPoint.{all_from_0}
 use Rattle.nf_check_rules.proofs.Trying.{Came, done_came, goes_on}
 

@@ -1,3 +1,4 @@
+mod Common
 pub mod Trying
 pub mod Looping
 pub mod Folding

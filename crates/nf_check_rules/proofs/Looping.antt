@@ -1,15 +1,9 @@
 -- Trials for each of some numbers or links in order: what is left to be tried says what all of them say.
-use Rattle.std.proofs.Common.{◌≡◌, ◌≢◌, ℕ, zero, suc, ◌+◌, ◌-◌, ◌<◌, ◌≤◌, List, [], ◌∷◌, ◌++◌, length, drop, filter, Bool, true, false, not, eqb, cond, Some, slice_get, refl, sym, ap, ◌∙◌, append-nil, arith}
-use Rattle.std.specs.Prelude.{Ok, Err}
-use Rattle.std.specs.List.{enumerate_from, range_with_len}
+use Rattle.std.proofs.Common.{◌≡◌, ◌≢◌, ℕ, zero, suc, ◌+◌, ◌-◌, ◌<◌, ◌≤◌, List, [], ◌∷◌, ◌++◌, length, drop, filter, Bool, true, false, not, eqb, cond}
+use Rattle.std.proofs.Common.{Some, slice_get, refl, sym, ap, ◌∙◌, append-nil, arith, Ok, Err}
+use Rattle.nf_check_rules.proofs.Common.{enumerate_from, range_with_len, drop_more, drop_all, slice_get_within, get_or_from_slice_get, each, ◌>>=◌}
+use Rattle.nf_check_rules.proofs.Common.{with_front, each_ok, no_front, Trial, Ended, EndsAs, done}
 use Rattle.std.proofs.lemmas.Bool.{eqb-true, eqb-false}
-use Rattle.std.proofs.lemmas.List.{drop_more, drop_all}
-use Rattle.std.proofs.lemmas.Option.{slice_get_within, get_or_from_slice_get}
-use Rattle.nf_frac_def.specs.Checked.{each, ◌>>=◌}
-use Rattle.nf_frac_def.proofs.Each.{with_front, each_ok, no_front}
-use Rattle.nf_check_def.specs.Trial.{Trial}
-use Rattle.nf_check_rules.specs.declared.ended.Ended.{Ended}
-use Rattle.nf_check_rules.specs.Trials.{EndsAs, done}
 use Rattle.nf_check_rules.proofs.Trying.{ends, ends_as, done_ends}
 
 -- ---- one step of trials whose values don't matter

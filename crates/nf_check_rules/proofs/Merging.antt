@@ -1,24 +1,15 @@
 -- The next of the times of three curves.
-use Rattle.std.proofs.Common.{◌≡◌, ℕ, ◌<◌, ◌≤◌, List, [], ◌∷◌, length, ◌⊎◌, inl, inr, ⊎_elim, Bool, true, false, Some, None, slice_get, refl, sym, ap, subst, ◌∙◌, arith}
-use Rattle.std.specs.Prelude.{Option, IfSome, option_map, not, ◌||◌}
-use Rattle.std.proofs.lemmas.Option.{same_Some}
-use Rattle.nf_rational.specs.Rational.{ℚ}
-use Rattle.nf_rational.specs.Operations.{0ℚ}
-use Rattle.nf_rational.specs.Order.{◌≤ℚ◌, ◌<ℚ◌, lt_ℚ, min_ℚ}
-use Rattle.nf_rational_laws.proofs.Order.{≤ℚ_of_lt, ≤ℚ_of_same, ≤ℚ_antisymm, not_both_ℚ}
+use Rattle.std.proofs.Common.{◌≡◌, ℕ, ◌<◌, ◌≤◌, List, [], ◌∷◌, length, ◌⊎◌, inl, inr, ⊎_elim, Bool, true, false, Some, None, slice_get, refl, sym, ap}
+use Rattle.std.proofs.Common.{subst, ◌∙◌, arith, Option, IfSome, option_map, not, ◌||◌}
+use Rattle.nf_check_rules.proofs.Common.{same_Some, ℚ, 0ℚ, ◌≤ℚ◌, ◌<ℚ◌, lt_ℚ, min_ℚ, ≤ℚ_of_lt, ≤ℚ_of_same, ≤ℚ_antisymm, not_both_ℚ, ≤ℚ_trans, Point}
+use Rattle.nf_check_rules.proofs.Common.{TimesRise, IsCurve, curve-rises, place-rises, three_times, AreSentCurves, ArePlaces, first_time, three_after, Sent}
+use Rattle.nf_check_rules.proofs.Common.{Places}
 use Rattle.nf_rational_laws.proofs.Tests.{lt_ℚ_cases}
-use Rattle.nf_rational_laws.proofs.Chains.{≤ℚ_trans}
 use Rattle.nf_rational_laws.proofs.Extremes.{min_is_left, min_is_right}
-use Rattle.nf_model.specs.Curve.{Point, TimesRise, IsCurve}
 use Rattle.nf_curve_def.specs.Times.{merged, merged_from, times_of}
 use Rattle.nf_curve_laws.proofs.Times.{merged_from-cases}
 use Rattle.nf_curve.specs.Places.{count_until, points_after, earlier_of}
-use Rattle.nf_curve.proofs.Placing.{curve-rises, place-rises}
 use Rattle.nf_curve.proofs.Walking.{head_of, place-head, points_after-steps, points_after-none, points_after-first, earlier-left, earlier-right, time-first}
-use Rattle.nf_check_def.specs.Routes.{three_times}
-use Rattle.nf_check_rules.specs.Sent.{AreSentCurves, ArePlaces, first_time, three_after}
-use Rattle.nf_check_rules.specs.declared.sent.Sent.{Sent}
-use Rattle.nf_check_rules.specs.declared.sent.Places.{Places}
 
 -- ---- a time leaves a list if it is the first there, and comes before all of it otherwise
 pub data Leaves (time : ℚ) : Bool → List ℚ → List ℚ → Type 0 where

@@ -1,28 +1,10 @@
 -- Rules that go from point to point, from each point on.
-use Rattle.std.proofs.Common.{◌≡◌, ℕ, zero, suc, ◌+◌, ◌-◌, ◌<◌, ◌≤◌, List, [], ◌∷◌, length, drop, Bool, true, false, Some, None, slice_get, ⊎_elim, refl, sym, ap, subst, ◌∙◌, arith}
-use Rattle.std.specs.Prelude.{Ok, Err, if◌then◌else◌}
-use Rattle.std.specs.List.{AllByRecursion}
-use Rattle.nf_rational.specs.Rational.{ℚ}
-use Rattle.nf_rational.specs.Operations.{0ℚ}
-use Rattle.nf_rational.specs.Order.{◌≤ℚ◌, lt_ℚ, max_ℚ}
-use Rattle.nf_frac_def.specs.Passing.{Passing}
-use Rattle.nf_frac_def.specs.Checked.{at_part, ◌>>=◌}
-use Rattle.nf_frac_def.specs.declared.Part.TheVariants.{Check}
-use Rattle.nf_frac_def.specs.declared.PassedAt.{PassedAt}
-use Rattle.nf_model.specs.Curve.{Point}
-use Rattle.nf_curve_def.specs.Lines.{checked_slope}
-use Rattle.nf_check_def.specs.declared.CheckRule.TheVariants.{C2}
-use Rattle.nf_check_def.specs.declared.Subject.{Subject}
-use Rattle.nf_check_def.specs.Trial.{Passes, in_part, unless}
-use Rattle.nf_check_def.specs.PointRules.{negative_point, falling_from, if_other, rates_from, rates_list}
-use Rattle.nf_check_def.specs.Curves.{greatest_value, last_value}
-use Rattle.nf_model.specs.Network.{Network}
-use Rattle.nf_model.specs.Equilibrium.{Flow}
+use Rattle.std.proofs.Common.{◌≡◌, ℕ, zero, suc, ◌+◌, ◌-◌, ◌<◌, ◌≤◌, List, [], ◌∷◌, length, drop, Bool, true, false, Some, None, slice_get, ⊎_elim, refl}
+use Rattle.std.proofs.Common.{sym, ap, subst, ◌∙◌, arith, Ok, Err, if◌then◌else◌}
+use Rattle.nf_check_rules.proofs.Common.{AllByRecursion, ℚ, 0ℚ, ◌≤ℚ◌, lt_ℚ, max_ℚ, Passing, at_part, ◌>>=◌, Check, PassedAt, Point, checked_slope, C2}
+use Rattle.nf_check_rules.proofs.Common.{Subject, Passes, in_part, unless, negative_point, falling_from, if_other, rates_from, rates_list, greatest_value}
+use Rattle.nf_check_rules.proofs.Common.{last_value, Network, Flow, drop_next, Ended, first_fall, first_value, EndsAs}
 use Rattle.nf_check_def.specs.CheckList as lists_of_check
-use Rattle.nf_rational_laws.proofs.Entries.{drop_next}
-use Rattle.nf_check_rules.specs.declared.ended.Ended.{Ended}
-use Rattle.nf_check_rules.specs.Points.{first_fall, first_value}
-use Rattle.nf_check_rules.specs.Trials.{EndsAs}
 use Rattle.nf_check_rules.proofs.Trying.{ends, ends_as, goes_on, part_ok, part_passes}
 
 pub drop_none : {A : Type 0} (xs : List A) (i : ℕ) → length xs ≤ i → drop i xs ≡ []

@@ -1,35 +1,19 @@
 -- Stretches of departures, one after the other.
-use Rattle.std.proofs.Common.{◌≡◌, List, [], ◌∷◌, ⊎_elim, Bool, true, false, Option, Some, None, slice_get, refl, sym, ap, subst, ◌∙◌, arith}
-use Rattle.std.specs.Prelude.{Result, Ok, Err, pos, OnOk, if◌then◌else◌}
-use Rattle.std.proofs.lemmas.Option.{same_Some}
-use Rattle.nf_rational.specs.Rational.{ℚ}
-use Rattle.nf_rational.specs.Operations.{0ℚ, 1ℚ, whole, ◌+ℚ◌, ◌*ℚ◌, ◌/ℚ◌}
-use Rattle.nf_rational.specs.Order.{◌≤ℚ◌, lt_ℚ}
+use Rattle.std.proofs.Common.{◌≡◌, List, [], ◌∷◌, ⊎_elim, Bool, true, false, Option, Some, None, slice_get, refl, sym, ap, subst, ◌∙◌, arith, Result, Ok}
+use Rattle.std.proofs.Common.{Err, pos, OnOk, if◌then◌else◌}
+use Rattle.nf_check_rules.proofs.Common.{same_Some, ℚ, 0ℚ, 1ℚ, whole, ◌+ℚ◌, ◌*ℚ◌, ◌/ℚ◌, ◌≤ℚ◌, lt_ℚ, Passing, passes_Q, Checked, checked, at_part, ◌>>=◌}
+use Rattle.nf_check_rules.proofs.Common.{Check, PassedAt, Point, IsCurve, Sides, checked_line, value_from, sides_at, checked_short, checked_composed}
+use Rattle.nf_check_rules.proofs.Common.{after_err, after_ok, was_ok, three_times, on_rising, on_stretch, or_later, stretches_from, all_stretches}
+use Rattle.nf_check_rules.proofs.Common.{difference_of, Difference, ArePlaces, ArePlacesWithin, place_within, Places, IsSentDeparture, Sent}
 use Rattle.nf_rational_laws.proofs.Polynomial.{reading_of}
 use Rattle.nf_rational_laws.proofs.Linear.{le, eq, linear_le, linear_eq, linear_false}
 use Rattle.nf_rational_laws.proofs.Quotient.{/ℚ-times}
 use Rattle.nf_curve_laws.proofs.Operations.{checked-is, then_ok, is_same_cases}
-use Rattle.nf_frac_def.specs.Passing.{Passing, passes_Q}
-use Rattle.nf_frac_def.specs.Checked.{Checked, checked, at_part, ◌>>=◌}
 use Rattle.nf_frac_def.specs.declared.Op.TheVariants.{Sum, Quotient}
-use Rattle.nf_frac_def.specs.declared.Part.TheVariants.{Check}
-use Rattle.nf_frac_def.specs.declared.PassedAt.{PassedAt}
 use Rattle.nf_rational.specs.Signs.{is_same}
-use Rattle.nf_model.specs.Curve.{Point, IsCurve}
-use Rattle.nf_curve_def.specs.Lines.{Sides, checked_line}
-use Rattle.nf_curve_def.specs.Values.{value_from, checked_value}
-use Rattle.nf_curve_def.specs.Sums.{sides_at}
-use Rattle.nf_curve_def.specs.Short.{checked_short}
-use Rattle.nf_curve_def.specs.Composed.{checked_composed}
-use Rattle.nf_curve.proofs.Exits.{after_err, after_ok, was_ok}
-use Rattle.nf_check_def.specs.Routes.{three_times, checked_middle, on_rising, on_stretch, or_later, stretches_from, all_stretches, detour_list}
-use Rattle.nf_curve.specs.Differences.{difference_of}
-use Rattle.nf_curve.specs.declared.curve.Difference.{Difference}
-use Rattle.nf_check_rules.specs.Sent.{ArePlaces, ArePlacesWithin, sent_list}
-use Rattle.nf_curve.proofs.Placing.{place_within}
-use Rattle.nf_check_rules.specs.declared.sent.Places.{Places}
-use Rattle.nf_check_rules.specs.Departures.{IsSentDeparture}
-use Rattle.nf_check_rules.specs.declared.sent.Sent.{Sent}
+use Rattle.nf_curve_def.specs.Values.{checked_value}
+use Rattle.nf_check_def.specs.Routes.{checked_middle, detour_list}
+use Rattle.nf_check_rules.specs.Sent.{sent_list}
 use Rattle.nf_check_rules.specs.declared.stretches.Departure.{Departure}
 
 pub no_stretch : (passes : Passing) (taken exits labels : List Point) (first : ℚ) (times : List ℚ) (all : Checked (Option Sides)) → times ≡ []

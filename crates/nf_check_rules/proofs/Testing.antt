@@ -1,30 +1,14 @@
 -- The list of a check is that of its parts, one after the other.
-use Rattle.std.proofs.Common.{◌≡◌, ℕ, List, refl, sym, ap, ◌∙◌}
-use Rattle.std.specs.Prelude.{Ok, Err}
-use Rattle.std.specs.List.{enumerate_from}
-use Rattle.nf_frac_def.specs.Passing.{Passing}
-use Rattle.nf_frac_def.specs.Checked.{each, ◌>>=◌}
-use Rattle.nf_frac_def.specs.declared.Part.TheVariants.{Load, Check}
-use Rattle.nf_rational.specs.Rational.{ℚ}
-use Rattle.nf_model.specs.Curve.{Point}
-use Rattle.nf_curve_def.specs.Sums.{checked_sum}
-use Rattle.nf_curve_def.specs.Composed.{checked_composed}
+use Rattle.std.proofs.Common.{◌≡◌, ℕ, List, refl, sym, ap, ◌∙◌, Ok, Err}
+use Rattle.nf_check_rules.proofs.Common.{enumerate_from, Passing, each, ◌>>=◌, Load, Check, ℚ, Point, checked_sum, checked_composed, Network, Flow}
+use Rattle.nf_check_rules.proofs.Common.{points_at, points_of, checked_cumulative, C3, C7, Node, numbers_of_nodes, numbers_of_links, nodes_but, Trial}
+use Rattle.nf_check_rules.proofs.Common.{in_part, departures, total_in, total_out, compared, label_cut, inflow_rule, link_rates, loading, arrivals}
+use Rattle.nf_check_rules.proofs.Common.{outflow_rule, queue_rule, balance, sink_rules, route, Ended, EndsAs, done, first_value, compared_by}
 use Rattle.nf_load_def.specs.Loading.{Loaded}
-use Rattle.nf_model.specs.Network.{Network}
-use Rattle.nf_model.specs.Equilibrium.{Flow, points_at, points_of}
-use Rattle.nf_load_def.specs.Cumulative.{checked_cumulative}
-use Rattle.nf_check_def.specs.declared.CheckRule.TheVariants.{C3, C7}
-use Rattle.nf_check_def.specs.declared.Subject.TheVariants.{Node}
-use Rattle.nf_check_def.specs.Rules.{numbers_of_nodes, numbers_of_links, nodes_but}
-use Rattle.nf_check_def.specs.Trial.{Trial, in_part}
-use Rattle.nf_check_def.specs.Curves.{departures, total_in, total_out}
-use Rattle.nf_check_def.specs.CheckList.{compared, label_cut, inflow_rule, link_rates, loading, arrivals, outflow_rule, queue_rule, balance, sink_rules, route, trial}
-use Rattle.nf_check_rules.specs.declared.ended.Ended.{Ended}
-use Rattle.nf_check_rules.specs.Trials.{EndsAs, done}
+use Rattle.nf_check_def.specs.CheckList.{trial}
 use Rattle.nf_check_rules.proofs.Trying.{ends, ends_as}
 use Rattle.nf_check_rules.proofs.PointByPoint.{first_same}
-use Rattle.nf_check_rules.specs.Points.{first_value}
-use Rattle.nf_check_rules.specs.Steps.{compared_by, worked_list, arrivals_list, told_list, balances_list, compared_list, tested_list}
+use Rattle.nf_check_rules.specs.Steps.{worked_list, arrivals_list, told_list, balances_list, compared_list, tested_list}
 
 -- the rules that compare curves
 compared_same : {A B C P D V : Type 0} (c : Trial (Unit {0})) (a : Trial A) (o : Trial B) (q : Trial C) (s : Trial P) (b : P → Trial D) (k : P → Trial (Unit {0})) (e : Trial V)

@@ -1,15 +1,8 @@
 -- What a trial comes to by its parts: where one ends so does the whole, and where one goes through the next comes.
-use Rattle.std.proofs.Common.{◌≡◌, refl, sym, ap, subst}
-use Rattle.std.specs.Prelude.{Result, Ok, Err}
-use Rattle.nf_rational.specs.Rational.{ℚ}
-use Rattle.nf_frac_def.specs.declared.Halt.{Halt}
+use Rattle.std.proofs.Common.{◌≡◌, refl, sym, ap, subst, Result, Ok, Err}
+use Rattle.nf_check_rules.proofs.Common.{ℚ, Halt, PassedAt, Checked, Stops, placed, at_part, ◌>>=◌, Passes, Trial, in_part, was_ok, Ended, of_halt, EndsAs}
+use Rattle.nf_check_rules.proofs.Common.{Tries, done}
 use Rattle.nf_frac_def.specs.declared.Part.{Part}
-use Rattle.nf_frac_def.specs.declared.PassedAt.{PassedAt}
-use Rattle.nf_frac_def.specs.Checked.{Checked, Stops, placed, at_part, ◌>>=◌}
-use Rattle.nf_check_def.specs.Trial.{Passes, Trial, in_part}
-use Rattle.nf_curve.proofs.Exits.{was_ok}
-use Rattle.nf_check_rules.specs.declared.ended.Ended.{Ended}
-use Rattle.nf_check_rules.specs.Trials.{of_halt, EndsAs, Tries, done}
 
 module _ {A B : Type 0} where
   pub goes_on : (r : Trial A) (f : A → Trial B) (x : A) → r ≡ Ok x → (r >>= f) ≡ f x

@@ -1,35 +1,19 @@
 -- Cycles of interior links are cancelled, one after the other.
-use Rattle.std.proofs.Common.{◌≡◌, ℕ, ◌<◌, List, Bool, sym, ap, subst, refl, ◌∙◌, arith}
-use Rattle.std.specs.Prelude.{◌↔◌, length, Option, Some, None, Ok, Err, MatchOption}
+use Rattle.std.proofs.Common.{◌≡◌, ℕ, ◌<◌, List, Bool, sym, ap, subst, refl, ◌∙◌, arith, ◌↔◌, length, Option, Some, None, Ok, Err, MatchOption}
+use Rattle.nf_complete.proofs.Common.{ℚ, Passing, PassedAt, Verdict, Checked, at_part, placed, seen_passed_at, Stops, Has, Network, hops, Sets, IsThinFlow}
+use Rattle.nf_complete.proofs.Common.{Pattern, IsForest, IsListedIn, IsSolution, IsInterior, IsNextCycle, IsSettledPattern, fulls_list, cancel_list}
+use Rattle.nf_complete.proofs.Common.{Cancels, no_cycle, cancels, passes_at, Settles, settles, stops, AreGoodSets, IsFirstCycle, ClosesFirst}
+use Rattle.nf_complete.proofs.Common.{interior_flags, set_count, fewer_set, flags_are, value_of, AreForestBelow, ClosesNext, IsThinWithFulls, GivesOneOf}
 use Rattle.std.proofs.lemmas.Option.{MatchOption-at_some, MatchOption-at_none}
-use Rattle.nf_rational.specs.Rational.{ℚ}
 use Rattle.nf_rational.specs.Operations.{0ℚ}
 use Rattle.nf_rational.specs.Order.{◌≤ℚ◌}
-use Rattle.nf_frac_def.specs.Passing.{Passing}
 use Rattle.nf_frac_def.specs.declared.Passed.{Passed}
-use Rattle.nf_frac_def.specs.declared.PassedAt.{PassedAt}
 use Rattle.nf_frac_def.specs.declared.Halt.{Halt}
-use Rattle.nf_frac_def.specs.declared.Part.TheVariants.{Verdict}
-use Rattle.nf_frac_def.specs.Checked.{Checked, at_part, placed, seen_passed_at, Stops}
-use Rattle.nf_model.specs.Entries.{Has}
-use Rattle.nf_model.specs.Network.{Network, hops}
-use Rattle.nf_model.specs.ThinFlow.{Sets, IsThinFlow}
-use Rattle.nf_model.specs.Pattern.{Pattern, IsForest, IsListedIn, IsSolution}
 use Rattle.nf_rational_laws.proofs.Results.{same_Err}
-use Rattle.nf_complete_def.specs.Interior.{IsInterior, IsNextCycle}
-use Rattle.nf_complete_def.specs.SettledPattern.{IsSettledPattern}
-use Rattle.nf_complete_def.specs.Cancelling.{fulls_list, cancel_list, Cancels, no_cycle, cancels, passes_at, Settles, settles, stops}
-use Rattle.nf_complete_laws.specs.SettleLaws.{AreGoodSets}
 use Rattle.nf_complete_laws.proofs.Cancelled.{IsThinFlow-cancelled, interior-before, Ended, one-ended}
 use Rattle.nf_complete_laws.proofs.OneCycle.{weaker}
 use Rattle.nf_complete_laws.proofs.Settled.{settles-end, IsListedIn-settled, IsSolution-settled}
-use Rattle.nf_complete_cycles.specs.Cycles.{IsFirstCycle, ClosesFirst}
 use Rattle.nf_complete_cycles.proofs.Cycling.{forest-weaker}
-use Rattle.nf_complete_conditions.specs.InteriorFlags.{interior_flags}
-use Rattle.nf_complete_conditions.proofs.Interiors.{set_count, fewer_set, flags_are}
-use Rattle.nf_complete_conditions.proofs.Telling.{value_of}
-use Rattle.nf_complete.specs.NextCycles.{AreForestBelow, ClosesNext}
-use Rattle.nf_complete.specs.Settling.{IsThinWithFulls, GivesOneOf}
 
 -- ---- the first cycle of the flagged links is the next cycle, if the flags are those of interior links
 module _ (net : Network) (sets : Sets) (slopes flows : List ℚ) (flags : List Bool) (are : (e : ℕ) → Has flags e ↔ IsInterior net sets slopes flows e) where

@@ -1,8 +1,7 @@
 -- Sets of links of an accepted network.
-use Rattle.nf_model.specs.ThinFlow.{Sets}
+use Rattle.nf_complete.proofs.Common.{Sets, AreGoodSets}
 use Rattle.nf_net_def.specs.Named.{Named}
 use Rattle.nf_net_def.specs.WellNamed.{IsNamed}
-use Rattle.nf_complete_laws.specs.SettleLaws.{AreGoodSets}
 use Rattle.nf_complete.specs.FitSets.{AreFitSets}
 
 pub good_sets : (n : Named) (sets : Sets) → IsNamed n → AreFitSets n.net sets → AreGoodSets n.net sets

@@ -1,3 +1,4 @@
+mod Common
 pub mod ThinAnswers
 pub mod CancelsOn
 pub mod GoodSets

@@ -1,22 +1,13 @@
 -- Answers of the test for a thin flow.
-use Rattle.std.proofs.Common.{◌≡◌, List, length, Bool, ◌&&◌, Option, refl}
-use Rattle.std.specs.Prelude.{Ok, Err, IsOk, MatchBool}
+use Rattle.std.proofs.Common.{◌≡◌, List, length, Bool, ◌&&◌, Option, refl, Ok, Err, IsOk, MatchBool}
+use Rattle.nf_complete.proofs.Common.{ℚ, Passing, PassedAt, Verdict, Checked, each, at_part, ◌>>=◌, Network, Sets, IsThinFlow, fulls_list, AreGoodSets}
+use Rattle.nf_complete.proofs.Common.{first_passes}
 use Rattle.std.specs.List.{range_with_len}
-use Rattle.nf_rational.specs.Rational.{ℚ}
-use Rattle.nf_frac_def.specs.Passing.{Passing}
-use Rattle.nf_frac_def.specs.declared.PassedAt.{PassedAt}
-use Rattle.nf_frac_def.specs.declared.Part.TheVariants.{Verdict}
-use Rattle.nf_frac_def.specs.Checked.{Checked, each, at_part, ◌>>=◌}
-use Rattle.nf_model.specs.Network.{Network}
-use Rattle.nf_model.specs.ThinFlow.{Sets, IsThinFlow}
 use Rattle.nf_thin_laws.specs.ActiveLinks.{NoneEntersSource}
-use Rattle.nf_complete_def.specs.Cancelling.{fulls_list}
 use Rattle.nf_complete_def.specs.ThinList.{Sums, sums_at, thin_list}
-use Rattle.nf_complete_laws.specs.SettleLaws.{AreGoodSets}
 use Rattle.nf_complete_conditions.specs.Testing.{AnswersWhether}
 use Rattle.nf_complete_conditions.specs.ThinParts.{IsProper}
 use Rattle.nf_complete_conditions.proofs.Deciding.{says_like, says_both}
-use Rattle.nf_complete_conditions.proofs.Telling.{first_passes}
 use Rattle.nf_complete_conditions.proofs.ThinFlows.{Balanced, Kept, IsThinFlow-made, balanced-thin, kept-thin, proper-thin}
 
 module _ (passes : Passing) (net : Network) (sets : Sets) (rate : ℚ) (flows slopes : List ℚ) where

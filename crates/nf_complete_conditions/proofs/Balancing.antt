@@ -1,29 +1,11 @@
 -- Results of the sums at a node.
-use Rattle.std.proofs.Common.{◌≡◌, ℕ, suc, ◌+◌, List, [], ◌∷◌, Bool, true, false, ◌&&◌, if◌then◌else◌, eqb, sym, ap, subst, refl, ◌∙◌, arith}
-use Rattle.std.specs.Prelude.{Result, slice_get, unwrap_or, Ok, Err, IsOk}
-use Rattle.std.specs.Bool.{Decides}
-use Rattle.std.specs.List.{enumerate_from}
-use Rattle.nf_rational.specs.Rational.{ℚ}
-use Rattle.nf_rational.specs.Operations.{0ℚ, ◌+ℚ◌}
-use Rattle.nf_rational_laws.proofs.Polynomial.{reading_of}
-use Rattle.nf_rational_laws.proofs.Linear.{eq, linear_eq}
-use Rattle.nf_frac_def.specs.Passing.{Passing}
-use Rattle.nf_frac_def.specs.declared.Op.TheVariants.{Sum}
-use Rattle.nf_frac_def.specs.declared.PassedAt.{PassedAt}
-use Rattle.nf_frac_def.specs.declared.Part.TheVariants.{Verdict}
-use Rattle.nf_frac_def.specs.Checked.{Checked, fold_checked, at_part, ◌>>=◌}
-use Rattle.nf_frac_def.proofs.Binding.{bind_ok}
-use Rattle.nf_model.specs.Entries.{number_at}
-use Rattle.nf_model.specs.Network.{Link, Network, IsLink, sum_in, sum_out}
-use Rattle.nf_model.specs.ThinFlow.{Sets}
-use Rattle.nf_rational_laws.proofs.Results.{same_Ok}
-use Rattle.nf_frac_def.proofs.Exact.{checked-is}
-use Rattle.nf_complete_def.specs.ThinList.{Sums, sum_more, in_more, out_more, with_rate, sums_at}
-use Rattle.nf_complete_conditions.specs.NodeSums.{node_by, more_at}
-use Rattle.nf_complete_conditions.specs.declared.node_sums.End.{End}
+use Rattle.std.proofs.Common.{◌≡◌, ℕ, suc, ◌+◌, List, [], ◌∷◌, Bool, true, false, ◌&&◌, if◌then◌else◌, eqb, sym, ap, subst, refl, ◌∙◌, arith, Result}
+use Rattle.std.proofs.Common.{slice_get, unwrap_or, Ok, Err, IsOk}
+use Rattle.nf_complete_conditions.proofs.Common.{Decides, enumerate_from, ℚ, 0ℚ, ◌+ℚ◌, reading_of, eq, linear_eq, Passing, Sum, PassedAt, Verdict, Checked}
+use Rattle.nf_complete_conditions.proofs.Common.{fold_checked, at_part, ◌>>=◌, bind_ok, number_at, Link, Network, IsLink, sum_in, sum_out, Sets, same_Ok}
+use Rattle.nf_complete_conditions.proofs.Common.{checked-is, Sums, sum_more, in_more, out_more, with_rate, sums_at, node_by, more_at, End, AnswersWhether}
+use Rattle.nf_complete_conditions.proofs.Common.{same_test, active_flow, brought, taken_away, IsBalanced}
 use Rattle.nf_complete_conditions.specs.declared.node_sums.End.TheVariants.{Head, Tail}
-use Rattle.nf_complete_conditions.specs.Testing.{AnswersWhether, same_test}
-use Rattle.nf_complete_conditions.specs.ThinParts.{active_flow, brought, taken_away, IsBalanced}
 use Rattle.nf_complete_conditions.proofs.Deciding.{says_by, Decides-same}
 use Rattle.nf_complete_conditions.proofs.Telling.{value_of, first_passes, then_passes}
 

@@ -1,17 +1,7 @@
 -- Decisions by tests of numbers.
-use Rattle.std.proofs.Common.{◌≡◌, ℕ, List, slice_get, ◌⊎◌, inr, ⊎_elim, Bool, true, false, not, ◌&&◌, ◌||◌, refl, sym, ◌∙◌}
-use Rattle.std.specs.Prelude.{Option, Some, None, MatchBool}
-use Rattle.std.specs.Bool.{Decides}
-use Rattle.std.proofs.lemmas.Bool.Decides.{Decides-and, Decides-or, Decides-like}
-use Rattle.std.proofs.lemmas.Option.{same_Some}
-use Rattle.nf_rational.specs.Rational.{ℚ}
-use Rattle.nf_rational.specs.Operations.{0ℚ}
-use Rattle.nf_rational.specs.Order.{◌≤ℚ◌, ◌<ℚ◌, le_ℚ, lt_ℚ}
-use Rattle.nf_rational_laws.proofs.Order.{≤ℚ_of_same, ≤ℚ_antisymm}
-use Rattle.nf_rational_laws.proofs.Tests.{le_of_test, test_of_le, less_of_test, test_of_less}
-use Rattle.nf_model.specs.Entries.{Has}
-use Rattle.nf_complete_conditions.specs.Testing.{same_test}
-use Rattle.nf_complete_conditions.specs.ThinParts.{KeepsSlopes, keeps_test}
+use Rattle.std.proofs.Common.{◌≡◌, ℕ, List, slice_get, ◌⊎◌, inr, ⊎_elim, Bool, true, false, not, ◌&&◌, ◌||◌, refl, sym, ◌∙◌, Option, Some, None, MatchBool}
+use Rattle.nf_complete_conditions.proofs.Common.{Decides, Decides-and, Decides-or, Decides-like, same_Some, ℚ, 0ℚ, ◌≤ℚ◌, ◌<ℚ◌, le_ℚ, lt_ℚ, ≤ℚ_of_same}
+use Rattle.nf_complete_conditions.proofs.Common.{≤ℚ_antisymm, le_of_test, test_of_le, less_of_test, test_of_less, Has, same_test, KeepsSlopes, keeps_test}
 
 false_true : false ≡ true → ⊥
 false_true e = cc

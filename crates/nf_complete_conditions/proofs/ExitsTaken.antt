@@ -1,21 +1,12 @@
 -- The exit slope of a link that satisfies the slope condition. The flow of the link is x; s and t are the slopes of its tail and head.
 use Rattle.std.proofs.Common.{◌≡◌, ◌≢◌, ◌⊎◌, inl, inr, ⊎_elim, Bool, true, false, Option, Some, None, [], ◌∷◌, sym, subst, refl, ◌∙◌}
-use Rattle.nf_rational.specs.Rational.{ℚ}
-use Rattle.nf_rational.specs.Operations.{0ℚ, ◌*ℚ◌, ◌/ℚ◌}
-use Rattle.nf_rational.specs.Order.{◌≤ℚ◌, ◌<ℚ◌, max_ℚ}
-use Rattle.nf_rational_laws.proofs.Polynomial.{reading_of}
-use Rattle.nf_rational_laws.proofs.Order.{≤ℚ_of_same, ≤ℚ_antisymm, lt_or_le_ℚ, not_both_ℚ}
-use Rattle.nf_rational_laws.proofs.Linear.{le, eq, linear_le}
-use Rattle.nf_rational_laws.proofs.Chains.{≤ℚ_trans}
+use Rattle.nf_complete_conditions.proofs.Common.{ℚ, 0ℚ, ◌*ℚ◌, ◌/ℚ◌, ◌≤ℚ◌, ◌<ℚ◌, max_ℚ, reading_of, ≤ℚ_of_same, ≤ℚ_antisymm, lt_or_le_ℚ, not_both_ℚ, le, eq}
+use Rattle.nf_complete_conditions.proofs.Common.{linear_le, ≤ℚ_trans, exit_slope, some_or_none, filling, KeepsSlopes, empty_exit}
 use Rattle.nf_rational_laws.proofs.Extremes.{max_right}
-use Rattle.nf_model.specs.ThinFlow.{exit_slope}
 use Rattle.nf_model_laws.specs.Capacity.{IsPositive}
 use Rattle.nf_model_laws.proofs.Affine.{quotient-times, le_from_times}
 use Rattle.nf_thin_laws.proofs.ExitSlopes.{exit_resetting, exit_full, exit_tight, exit_zero}
 use Rattle.nf_thin_laws.proofs.LinkLaws.{LinkLaw}
-use Rattle.nf_complete_laws.proofs.Deciding.{some_or_none}
-use Rattle.nf_complete_conditions.specs.ThinParts.{filling, KeepsSlopes}
-use Rattle.nf_complete_laws.proofs.Classes.{empty_exit}
 
 quotient_above : (x c t : ℚ) → 0ℚ <ℚ c → c *ℚ t ≤ℚ x → t ≤ℚ x /ℚ c
 quotient_above x c t h k = le_from_times c t (x /ℚ c) h (linear_le (x ∷ c ∷ t ∷ (x /ℚ c) ∷ []) (eq (quotient-times x c h) ∷ le k ∷ []) (search reading_of depth 12) tt)

@@ -1,23 +1,11 @@
 -- Results of the operation sequence of the flows that fill the links.
-use Rattle.std.proofs.Common.{◌≡◌, ℕ, ◌+◌, List, length, Bool, true, false, not, ◌||◌, sym, ap, subst, refl, ◌∙◌, arith}
-use Rattle.std.specs.Prelude.{Option, Some, None, slice_get, unwrap_or, Ok, MatchBool}
-use Rattle.std.specs.List.{enumerate_from}
-use Rattle.std.proofs.lemmas.Option.{same_Some}
-use Rattle.nf_rational.specs.Rational.{ℚ}
-use Rattle.nf_frac_def.specs.Passing.{Passing}
-use Rattle.nf_frac_def.specs.declared.Op.TheVariants.{Product}
-use Rattle.nf_frac_def.specs.declared.Part.TheVariants.{Verdict}
-use Rattle.nf_frac_def.specs.Checked.{checked, each, at_part}
-use Rattle.nf_frac_def.proofs.Binding.{bind_ok}
-use Rattle.nf_model.specs.Entries.{number_at, Has}
-use Rattle.nf_model.specs.Network.{Link, Network, IsLink}
-use Rattle.nf_model.specs.ThinFlow.{Sets}
-use Rattle.nf_rational_laws.proofs.Results.{same_Ok}
-use Rattle.nf_frac_def.proofs.Exact.{checked-is}
-use Rattle.nf_complete_def.specs.Cancelling.{full_on, full_at, fulls_list}
+use Rattle.std.proofs.Common.{◌≡◌, ℕ, ◌+◌, List, length, Bool, true, false, not, ◌||◌, sym, ap, subst, refl, ◌∙◌, arith, Option, Some, None, slice_get}
+use Rattle.std.proofs.Common.{unwrap_or, Ok, MatchBool}
+use Rattle.nf_complete_conditions.proofs.Common.{enumerate_from, same_Some, ℚ, Passing, Product, Verdict, checked, each, at_part, bind_ok, number_at, Has}
+use Rattle.nf_complete_conditions.proofs.Common.{Link, Network, IsLink, Sets, same_Ok, checked-is, full_on, full_at, AnswersWhether, filling, KeepsSlopes}
+use Rattle.nf_complete_conditions.proofs.Common.{keeps_test, KeepsAt}
+use Rattle.nf_complete_def.specs.Cancelling.{fulls_list}
 use Rattle.nf_complete_laws.proofs.Eachs.{each-at, each-length}
-use Rattle.nf_complete_conditions.specs.Testing.{AnswersWhether}
-use Rattle.nf_complete_conditions.specs.ThinParts.{filling, KeepsSlopes, keeps_test, KeepsAt}
 use Rattle.nf_complete_conditions.proofs.Deciding.{says, says_like, Decides-keeps}
 use Rattle.nf_complete_conditions.proofs.Telling.{value_of, is_ok_of}
 

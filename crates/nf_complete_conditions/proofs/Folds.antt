@@ -1,15 +1,8 @@
 -- A loop over a list, one value after the other.
-use Rattle.std.proofs.Common.{◌≡◌, ℕ, suc, ◌≤◌, List, length, drop, ap, refl, ◌∙◌}
-use Rattle.std.specs.Prelude.{Some, slice_get, Result, Ok, Err}
-use Rattle.std.proofs.Math.ListN.{drop_of_length-le}
-use Rattle.nf_rational.specs.Rational.{ℚ}
+use Rattle.std.proofs.Common.{◌≡◌, ℕ, suc, ◌≤◌, List, length, drop, ap, refl, ◌∙◌, Some, slice_get, Result, Ok, Err}
+use Rattle.nf_complete_conditions.proofs.Common.{drop_of_length-le, ℚ, Passed, PassedAt, fold_checked, placed, at_part, same_Err, drop_entry}
 use Rattle.nf_frac_def.specs.declared.Part.{Part}
-use Rattle.nf_frac_def.specs.declared.Passed.{Passed}
-use Rattle.nf_frac_def.specs.declared.PassedAt.{PassedAt}
-use Rattle.nf_frac_def.specs.Checked.{fold_checked, placed, at_part}
 use Rattle.nf_frac_def.proofs.Each.{fold_ok, fold_err}
-use Rattle.nf_rational_laws.proofs.Results.{same_Err}
-use Rattle.nf_rational_laws.proofs.Entries.{drop_entry}
 
 module _ {A B : Type 0} (f : B → A → Result B (Passed ℚ)) (xs : List A) (start : B) where
   abbrev pub FoldsOn : B → ℕ → Type 0

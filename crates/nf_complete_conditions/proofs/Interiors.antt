@@ -1,25 +1,11 @@
 -- The flags of interior links, and how many of them are set.
-use Rattle.std.proofs.Common.{◌≡◌, ℕ, zero, suc, ◌+◌, ◌<◌, ◌≤◌, ⊎_elim, List, [], ◌∷◌, length, take, Bool, true, false, not, ◌&&◌, sym, ap, subst, refl, ◌∙◌, arith}
-use Rattle.std.specs.Prelude.{◌↔◌, Option, Some, None, slice_get, unwrap_or, Ok}
-use Rattle.std.specs.Bool.{Decides}
-use Rattle.std.specs.List.{range_with_len}
-use Rattle.std.proofs.lemmas.Bool.Decides.{Decides-like, Decides-and, Decides-not}
-use Rattle.std.proofs.lemmas.List.{take_all}
-use Rattle.std.proofs.lemmas.List.FromFn.{length-map-range_with_len}
-use Rattle.std.proofs.lemmas.Option.{none-some, same_Some, slice_get_within}
-use Rattle.nf_rational.specs.Rational.{ℚ}
-use Rattle.nf_rational.specs.Operations.{0ℚ, ◌*ℚ◌}
-use Rattle.nf_rational.specs.Order.{◌<ℚ◌, lt_ℚ}
-use Rattle.nf_frac_def.specs.Passing.{Passing}
-use Rattle.nf_model.specs.Entries.{number_at, Has}
-use Rattle.nf_model.specs.Network.{Link, Network, IsLink}
-use Rattle.nf_model.specs.ThinFlow.{Sets}
-use Rattle.nf_rational_laws.proofs.Entries.{entry, slice_get-image, slice_get-range}
-use Rattle.nf_thin_laws.proofs.Flags.{flag, flag-cases}
+use Rattle.std.proofs.Common.{◌≡◌, ℕ, zero, suc, ◌+◌, ◌<◌, ◌≤◌, ⊎_elim, List, [], ◌∷◌, length, take, Bool, true, false, not, ◌&&◌, sym, ap, subst, refl}
+use Rattle.std.proofs.Common.{◌∙◌, arith, ◌↔◌, Option, Some, None, slice_get, unwrap_or, Ok}
+use Rattle.nf_complete_conditions.proofs.Common.{Decides, range_with_len, Decides-like, Decides-and, Decides-not, take_all, length-map-range_with_len}
+use Rattle.nf_complete_conditions.proofs.Common.{none-some, same_Some, slice_get_within, ℚ, 0ℚ, ◌*ℚ◌, ◌<ℚ◌, lt_ℚ, Passing, number_at, Has, Link, Network}
+use Rattle.nf_complete_conditions.proofs.Common.{IsLink, Sets, entry, slice_get-image, slice_get-range, flag, flag-cases, fulls_list, filling, is_inside}
+use Rattle.nf_complete_conditions.proofs.Common.{interior_test, interior_flags}
 use Rattle.nf_complete_def.specs.Interior.{IsInterior}
-use Rattle.nf_complete_def.specs.Cancelling.{fulls_list}
-use Rattle.nf_complete_conditions.specs.ThinParts.{filling}
-use Rattle.nf_complete_conditions.specs.InteriorFlags.{is_inside, interior_test, interior_flags}
 use Rattle.nf_complete_conditions.proofs.Deciding.{Decides-less}
 use Rattle.nf_complete_conditions.proofs.Filling.{fulls_at}
 

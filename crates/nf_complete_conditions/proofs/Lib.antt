@@ -1,3 +1,4 @@
+mod Common
 pub mod ExitsTaken
 pub mod ThinFlows
 pub mod Interiors

@@ -1,16 +1,8 @@
 -- Answers of the tests on a link: whether it enters a node, has equal slopes, is resetting or carries flow, and is active if it carries
 -- flow.
-use Rattle.std.proofs.Common.{◌≡◌, ◌≢◌, inr, ⊎_elim, ℕ, Bool, not, eqb, List, ap, subst, ◌∙◌}
-use Rattle.std.specs.Prelude.{MatchBool}
-use Rattle.std.proofs.lemmas.Bool.Decides.{Decides-eqb, Decides-not}
-use Rattle.nf_rational.specs.Rational.{ℚ}
-use Rattle.nf_rational.specs.Operations.{0ℚ}
-use Rattle.nf_model.specs.Entries.{number_at, Has}
-use Rattle.nf_model.specs.Network.{Link, Network, IsLink}
-use Rattle.nf_model.specs.ThinFlow.{Sets}
-use Rattle.nf_model_laws.proofs.Networks.{IsLink-unique}
-use Rattle.nf_complete_conditions.specs.Testing.{same_test}
-use Rattle.nf_complete_conditions.specs.ThinParts.{LeadsInto, IsLevelAt, Brings, CarriesIfActive}
+use Rattle.std.proofs.Common.{◌≡◌, ◌≢◌, inr, ⊎_elim, ℕ, Bool, not, eqb, List, ap, subst, ◌∙◌, MatchBool}
+use Rattle.nf_complete_conditions.proofs.Common.{Decides-eqb, Decides-not, ℚ, 0ℚ, number_at, Has, Link, Network, IsLink, Sets, IsLink-unique, same_test}
+use Rattle.nf_complete_conditions.proofs.Common.{LeadsInto, IsLevelAt, Brings, CarriesIfActive}
 use Rattle.nf_complete_conditions.proofs.Deciding.{says_by, says_like, Decides-same}
 
 pub level_of : (net : Network) (slopes : List ℚ) (e : ℕ) (link : Link) → IsLink net e link → number_at slopes link.head ≡ number_at slopes link.tail → IsLevelAt net slopes e

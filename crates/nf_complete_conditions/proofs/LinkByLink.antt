@@ -1,17 +1,9 @@
 -- A sum over the links of a network, link by link.
-use Rattle.std.proofs.Common.{◌≡◌, ℕ, suc, ◌+◌, ◌<◌, ◌≤◌, length, sym, subst, ap, arith}
-use Rattle.std.specs.Prelude.{Some, slice_get, Ok, Err}
-use Rattle.std.specs.List.{enumerate_from}
-use Rattle.std.proofs.lemmas.List.FromFn.{length-enumerate_from}
-use Rattle.nf_rational.specs.Rational.{ℚ}
-use Rattle.nf_frac_def.specs.declared.Part.TheVariants.{Verdict}
-use Rattle.nf_frac_def.specs.declared.PassedAt.{PassedAt}
-use Rattle.nf_frac_def.specs.Checked.{Checked, fold_checked, at_part}
-use Rattle.nf_model.specs.Network.{Link, Network, IsLink}
-use Rattle.nf_rational_laws.proofs.Entries.{entry}
+use Rattle.std.proofs.Common.{◌≡◌, ℕ, suc, ◌+◌, ◌<◌, ◌≤◌, length, sym, subst, ap, arith, Some, slice_get, Ok, Err}
+use Rattle.nf_complete_conditions.proofs.Common.{enumerate_from, length-enumerate_from, ℚ, Verdict, PassedAt, Checked, fold_checked, at_part, Link, Network}
+use Rattle.nf_complete_conditions.proofs.Common.{IsLink, entry, enumerated}
 use Rattle.nf_frac_def.proofs.AtPart.{part_ok}
 use Rattle.nf_complete_conditions.proofs.Folds.{FoldsOn, folds_more, fold_stops, fold_ends}
-use Rattle.nf_thin_laws.proofs.Ending.{enumerated}
 
 module _ (f : ℚ → ℕ × Link → Checked ℚ) (net : Network) (start : ℚ) where
   abbrev pub SoFar : ℚ → ℕ → Type 0

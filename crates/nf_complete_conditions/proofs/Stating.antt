@@ -1,29 +1,15 @@
 -- The pattern of settled flows, link by link.
-use Rattle.std.proofs.Common.{◌≡◌, ◌≢◌, inl, inr, ⊎_elim, ℕ, ◌+◌, ◌<◌, ◌≤◌, List, length, get_or, replicate, Bool, true, false, sym, ap, subst, refl, ◌∙◌, arith}
-use Rattle.std.specs.Prelude.{Option, Some, None, slice_get, slice_set, unwrap_or, MatchBool, Ok}
-use Rattle.std.specs.Bool.{Decides}
-use Rattle.std.proofs.Math.ListN.{length-set}
-use Rattle.std.proofs.lemmas.List.{length-replicate}
-use Rattle.std.proofs.lemmas.Bool.Decides.{Decides-like}
-use Rattle.std.proofs.lemmas.Option.{same_Some, none-some, slice_get_within, slice_get_read}
-use Rattle.nf_rational.specs.Rational.{ℚ}
-use Rattle.nf_rational.specs.Operations.{0ℚ, ◌*ℚ◌}
-use Rattle.nf_frac_def.specs.Passing.{Passing}
+use Rattle.std.proofs.Common.{◌≡◌, ◌≢◌, inl, inr, ⊎_elim, ℕ, ◌+◌, ◌<◌, ◌≤◌, List, length, get_or, replicate, Bool, true, false, sym, ap, subst, refl, ◌∙◌}
+use Rattle.std.proofs.Common.{arith, Option, Some, None, slice_get, slice_set, unwrap_or, MatchBool, Ok}
+use Rattle.nf_complete_conditions.proofs.Common.{Decides, length-set, length-replicate, Decides-like, same_Some, none-some, slice_get_within}
+use Rattle.nf_complete_conditions.proofs.Common.{slice_get_read, ℚ, 0ℚ, ◌*ℚ◌, Passing, number_at, Has, Link, Network, IsLink, Sets, Enters, entry}
+use Rattle.nf_complete_conditions.proofs.Common.{before_or_at, fulls_list, same_or_not, same_test, filling, BringsInto, LevelInto, NoneLevelBefore}
+use Rattle.nf_complete_conditions.proofs.Common.{full_test, FitsState, IsStateAt}
 use Rattle.nf_model.specs.declared.State.{State}
 use Rattle.nf_model.specs.declared.State.TheVariants.{Tight, Full, Zero}
-use Rattle.nf_model.specs.Entries.{number_at, Has}
-use Rattle.nf_model.specs.Network.{Link, Network, IsLink}
-use Rattle.nf_model.specs.ThinFlow.{Sets, Enters}
 use Rattle.nf_model.specs.Pattern.{Pattern, HasState, NeedsState, Fills}
-use Rattle.nf_rational_laws.proofs.Entries.{entry}
-use Rattle.nf_rational_laws.proofs.Naturals.{before_or_at}
 use Rattle.nf_pattern.proofs.Setting.{set_same, set_other}
 use Rattle.nf_complete_def.specs.SettledPattern.{IsBare, LeadsToBare, IsSettledPattern}
-use Rattle.nf_complete_def.specs.Cancelling.{fulls_list}
-use Rattle.nf_complete_laws.proofs.Deciding.{same_or_not}
-use Rattle.nf_complete_conditions.specs.Testing.{same_test}
-use Rattle.nf_complete_conditions.specs.ThinParts.{filling}
-use Rattle.nf_complete_conditions.specs.States.{BringsInto, LevelInto, NoneLevelBefore, full_test, FitsState, IsStateAt}
 use Rattle.nf_complete_conditions.proofs.Deciding.{Decides-same}
 use Rattle.nf_complete_conditions.proofs.Filling.{fulls_at}
 use Rattle.nf_complete_conditions.proofs.LinkAnswers.{level_of}

@@ -1,18 +1,8 @@
 -- A loop over a list that tests each entry after a computation for it.
-use Rattle.std.proofs.Common.{◌≡◌, ℕ, zero, suc, ◌+◌, ◌<◌, ◌≤◌, List, [], ◌∷◌, length, ⊎_elim, Bool, ◌&&◌, sym, ap, subst, refl, ◌∙◌, arith}
-use Rattle.std.specs.Prelude.{Some, slice_get, Result, Ok, Err, IsOk, MatchBool}
-use Rattle.std.specs.List.{enumerate_from, range_with_len}
-use Rattle.std.proofs.lemmas.Option.{none-some, same_Some, slice_get_within}
-use Rattle.nf_rational.specs.Rational.{ℚ}
-use Rattle.nf_frac_def.specs.declared.Part.TheVariants.{Verdict}
-use Rattle.nf_frac_def.specs.declared.Passed.{Passed}
-use Rattle.nf_frac_def.specs.declared.PassedAt.{PassedAt}
-use Rattle.nf_frac_def.specs.Checked.{Checked, each, at_part, placed, ◌>>=◌}
-use Rattle.nf_rational_laws.proofs.Naturals.{before_or_at}
-use Rattle.nf_rational_laws.proofs.Results.{same_Err}
-use Rattle.nf_rational_laws.proofs.Entries.{slice_get-below}
-use Rattle.nf_thin_laws.proofs.Ending.{enumerated}
-use Rattle.nf_complete_conditions.specs.Testing.{AnswersWhether}
+use Rattle.std.proofs.Common.{◌≡◌, ℕ, zero, suc, ◌+◌, ◌<◌, ◌≤◌, List, [], ◌∷◌, length, ⊎_elim, Bool, ◌&&◌, sym, ap, subst, refl, ◌∙◌, arith, Some}
+use Rattle.std.proofs.Common.{slice_get, Result, Ok, Err, IsOk, MatchBool}
+use Rattle.nf_complete_conditions.proofs.Common.{enumerate_from, range_with_len, none-some, same_Some, slice_get_within, ℚ, Verdict, Passed, PassedAt}
+use Rattle.nf_complete_conditions.proofs.Common.{Checked, each, at_part, placed, ◌>>=◌, before_or_at, same_Err, slice_get-below, enumerated, AnswersWhether}
 use Rattle.nf_complete_conditions.proofs.Deciding.{says_like, says_both}
 
 -- ---- one computation

@@ -1,28 +1,18 @@
 -- Flows and slopes are a thin flow exactly if each node is balanced, each active link satisfies the slope condition, and the other
 -- conditions hold.
-use Rattle.std.proofs.Common.{◌≡◌, ◌≢◌, ◌⊎◌, inl, inr, ⊎_elim, ℕ, ◌<◌, Bool, true, false, if◌then◌else◌, eqb, List, [], ◌∷◌, length, None, sym, ap, subst, refl, ◌∙◌}
-use Rattle.std.proofs.lemmas.Bool.Decides.{eqb_tells}
-use Rattle.std.proofs.lemmas.Bool.{cases_eq}
-use Rattle.nf_rational.specs.Rational.{ℚ}
-use Rattle.nf_rational.specs.Operations.{0ℚ, ◌+ℚ◌, ◌-ℚ◌}
-use Rattle.nf_rational.specs.Order.{◌≤ℚ◌}
-use Rattle.nf_rational_laws.proofs.Polynomial.{reading_of}
-use Rattle.nf_rational_laws.proofs.Linear.{eq, linear_eq}
-use Rattle.nf_model.specs.Entries.{number_at, Has}
-use Rattle.nf_model.specs.Network.{Link, Network, IsLink, sum_in, sum_out}
-use Rattle.nf_model.specs.ThinFlow.{Sets, surplus, exit_slope, exit_slope_at, Enters, IsThinFlow}
+use Rattle.std.proofs.Common.{◌≡◌, ◌≢◌, ◌⊎◌, inl, inr, ⊎_elim, ℕ, ◌<◌, Bool, true, false, if◌then◌else◌, eqb, List, [], ◌∷◌, length, None, sym, ap, subst}
+use Rattle.std.proofs.Common.{refl, ◌∙◌}
+use Rattle.nf_complete_conditions.proofs.Common.{eqb_tells, cases_eq, ℚ, 0ℚ, ◌+ℚ◌, ◌-ℚ◌, ◌≤ℚ◌, reading_of, eq, linear_eq, number_at, Has, Link, Network}
+use Rattle.nf_complete_conditions.proofs.Common.{IsLink, sum_in, sum_out, Sets, surplus, exit_slope, exit_slope_at, Enters, IsThinFlow, IsLink-unique, flag}
+use Rattle.nf_complete_conditions.proofs.Common.{flag-cases, same_or_not, empty_exit, active_flow, brought, taken_away, IsBalanced, KeepsAt, IsLevelAt}
+use Rattle.nf_complete_conditions.proofs.Common.{Brings, Takes, CarriesOnActive, IsProper}
 use Rattle.nf_model_laws.proofs.Earliest.{IsPositive-link}
-use Rattle.nf_model_laws.proofs.Networks.{IsLink-unique}
 use Rattle.nf_model_laws.proofs.Sums.{sum_in-same, sum_out-same, sum_in-none}
 use Rattle.nf_thin_laws.specs.ActiveLinks.{NoneEntersSource}
-use Rattle.nf_thin_laws.proofs.Flags.{flag, flag-cases}
 use Rattle.nf_thin_laws.proofs.Slopes.{link_law}
 use Rattle.nf_thin_laws.proofs.Bases.{has_or_not}
 use Rattle.nf_model_laws.proofs.Totals.{IsThinFlow-sink}
 use Rattle.nf_complete_laws.specs.SettleLaws.{AreGoodSets}
-use Rattle.nf_complete_laws.proofs.Deciding.{same_or_not}
-use Rattle.nf_complete_laws.proofs.Classes.{empty_exit}
-use Rattle.nf_complete_conditions.specs.ThinParts.{active_flow, brought, taken_away, IsBalanced, KeepsAt, IsLevelAt, Brings, Takes, CarriesOnActive, IsProper}
 use Rattle.nf_complete_conditions.proofs.ExitsTaken.{keeps-used, keeps-least, keeps-taken, law-keeps}
 
 pub if_same : {A : Type 0} (v w : ℕ) (a b : A) → v ≡ w → (if eqb v w then a else b) ≡ a

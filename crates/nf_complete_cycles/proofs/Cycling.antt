@@ -1,21 +1,13 @@
 -- The first cycle of chosen links, link by link.
-use Rattle.std.proofs.Common.{◌≡◌, ℕ, ◌+◌, ◌<◌, ◌≤◌, List, [], ◌∷◌, ◌++◌, length, ◌⊎◌, inl, inr, ⊎_elim, Bool, true, false, not, if◌then◌else◌, set, replicate, Some, None, sym, ap, subst, refl, ◌∙◌, arith}
-use Rattle.std.specs.Prelude.{◌↔◌, Contains, nat_le, Result, Ok, Err, IfOk}
-use Rattle.std.proofs.Math.ListN.{length-set, length-replicate}
-use Rattle.std.proofs.lemmas.Option.{slice_get_within, none-some, same_Some}
-use Rattle.std.proofs.lemmas.Bool.Decides.{leb_tells}
-use Rattle.std.proofs.lemmas.Bool.{cases_lt}
-use Rattle.nf_model.specs.Entries.{Has}
-use Rattle.nf_model.specs.Walk.{Hop, IsHop}
-use Rattle.nf_model.specs.Pattern.{IsTrail, AllDiffer, IsForest}
-use Rattle.nf_graph.proofs.Flags.{Has-set_same, Has-set_other, Has-set_cases, Has-within, Has-replicate}
+use Rattle.std.proofs.Common.{◌≡◌, ℕ, ◌+◌, ◌<◌, ◌≤◌, List, [], ◌∷◌, ◌++◌, length, ◌⊎◌, inl, inr, ⊎_elim, Bool, true, false, not, if◌then◌else◌, set}
+use Rattle.std.proofs.Common.{replicate, Some, None, sym, ap, subst, refl, ◌∙◌, arith, ◌↔◌, Contains, nat_le, Result, Ok, Err, IfOk}
+use Rattle.nf_complete_cycles.proofs.Common.{length-set, length-replicate, slice_get_within, none-some, same_Some, leb_tells, cases_lt, Has, Hop, IsHop}
+use Rattle.nf_complete_cycles.proofs.Common.{IsTrail, AllDiffer, IsForest, Has-set_same, Has-set_other, Has-set_cases, Has-within, Has-replicate, links_of}
+use Rattle.nf_complete_cycles.proofs.Common.{turn_of, IsWay, AreApart, IsClosedTrail, IsFirstCycle, round_onto, lower_step, lowest_from, contains_none}
+use Rattle.nf_complete_cycles.proofs.Common.{contains_cases, contains_more, contains_first}
 use Rattle.nf_thin_laws.proofs.Flags.{flag, flag-cases}
-use Rattle.nf_complete_def.specs.Interior.{links_of, turn_of}
 use Rattle.nf_complete_laws.proofs.ForestMore.{forest-more}
 use Rattle.nf_complete_laws.proofs.OneCycle.{weaker}
-use Rattle.nf_complete_cycles.specs.Trees.{IsWay, AreApart}
-use Rattle.nf_complete_cycles.specs.Cycles.{IsClosedTrail, IsFirstCycle, round_onto, lower_step, lowest_from}
-use Rattle.nf_model_laws.proofs.Contained.{contains_none, contains_cases, contains_more, contains_first}
 use Rattle.nf_complete_cycles.proofs.Rounding.{round-trail, round-contains, contains-round, round-differ, round-turn, turn-same, turn-other}
 
 -- ---- forests

@@ -1,20 +1,11 @@
 -- A tree of steps, its extension by one step, and the path back to its root.
-use Rattle.std.proofs.Common.{◌≡◌, ◌≢◌, ℕ, zero, suc, ◌<◌, ◌≤◌, List, [], ◌∷◌, length, ◌⊎◌, inl, inr, ⊎_elim, Bool, true, false, not, if◌then◌else◌, eqb, set, Option, Some, None, slice_get, sym, ap, subst, refl, ◌∙◌, arith}
-use Rattle.std.specs.Prelude.{◌↔◌, Contains}
+use Rattle.std.proofs.Common.{◌≡◌, ◌≢◌, ℕ, zero, suc, ◌<◌, ◌≤◌, List, [], ◌∷◌, length, ◌⊎◌, inl, inr, ⊎_elim, Bool, true, false, not, if◌then◌else◌, eqb}
+use Rattle.std.proofs.Common.{set, Option, Some, None, slice_get, sym, ap, subst, refl, ◌∙◌, arith, ◌↔◌, Contains}
+use Rattle.nf_complete_cycles.proofs.Common.{AllByRecursion, length-set, slice_get_within, eqb_tells, Has, Hop, IsHop, IsTrail, AllDiffer, AreBelow}
+use Rattle.nf_complete_cycles.proofs.Common.{Has-set_same, Has-set_other, Has-set_cases, IsHop-unique, links_of, contains_none, contains_cases}
+use Rattle.nf_complete_cycles.proofs.Common.{contains_more, contains_first, begin_of, end_of, StepsOut, NoneStepsOut, begin_at, step_end, InTree, IsTree}
+use Rattle.nf_complete_cycles.proofs.Common.{way_back, IsWay, AreApart}
 use Rattle.std.specs.Option.{option_map_or}
-use Rattle.std.specs.List.{AllByRecursion}
-use Rattle.std.proofs.Math.ListN.{length-set}
-use Rattle.std.proofs.lemmas.Option.{slice_get_within}
-use Rattle.std.proofs.lemmas.Bool.Decides.{eqb_tells}
-use Rattle.nf_model.specs.Entries.{Has}
-use Rattle.nf_model.specs.Walk.{Hop, IsHop}
-use Rattle.nf_model.specs.Pattern.{IsTrail, AllDiffer}
-use Rattle.nf_graph.specs.Graph.{AreBelow}
-use Rattle.nf_graph.proofs.Flags.{Has-set_same, Has-set_other, Has-set_cases}
-use Rattle.nf_graph.proofs.Walks.{IsHop-unique}
-use Rattle.nf_complete_def.specs.Interior.{links_of}
-use Rattle.nf_model_laws.proofs.Contained.{contains_none, contains_cases, contains_more, contains_first}
-use Rattle.nf_complete_cycles.specs.Trees.{begin_of, end_of, StepsOut, NoneStepsOut, begin_at, step_end, InTree, IsTree, way_back, IsWay, AreApart}
 
 begin_is : (hops : List Hop) (step : ℕ × Bool) (hop : Hop) → IsHop hops step.0 hop → begin_at hops step ≡ begin_of step.1 hop
 begin_is hops step hop p = ap (λ (o : Option Hop). option_map_or (begin_of step.1) o 0) p

@@ -1,3 +1,4 @@
+mod Common
 pub mod Growing
 pub mod Rounding
 pub mod Cycling

@@ -1,12 +1,8 @@
 -- Reversed trails.
-use Rattle.std.proofs.Common.{◌≡◌, ◌≢◌, ℕ, suc, ◌+◌, ◌<◌, List, [], ◌∷◌, length, get_or, drop, add-one, drop-cons, ◌⊎◌, inl, inr, ⊎_elim, Bool, true, false, not, if◌then◌else◌, eqb, Option, Some, None, sym, ap, subst, refl, ◌∙◌, arith}
-use Rattle.std.specs.Prelude.{Contains}
-use Rattle.std.proofs.lemmas.Bool.Decides.{eqb_tells}
-use Rattle.nf_model.specs.Walk.{Hop}
-use Rattle.nf_model.specs.Pattern.{IsTrail, AllDiffer}
-use Rattle.nf_complete_def.specs.Interior.{links_of, turn_of}
-use Rattle.nf_complete_cycles.specs.Cycles.{round_onto, lower_step, lowest_from}
-use Rattle.nf_model_laws.proofs.Contained.{contains_cases, contains_more, contains_first}
+use Rattle.std.proofs.Common.{◌≡◌, ◌≢◌, ℕ, suc, ◌+◌, ◌<◌, List, [], ◌∷◌, length, get_or, drop, add-one, drop-cons, ◌⊎◌, inl, inr, ⊎_elim, Bool, true, false}
+use Rattle.std.proofs.Common.{not, if◌then◌else◌, eqb, Option, Some, None, sym, ap, subst, refl, ◌∙◌, arith, Contains}
+use Rattle.nf_complete_cycles.proofs.Common.{eqb_tells, Hop, IsTrail, AllDiffer, links_of, turn_of, round_onto, lower_step, lowest_from, contains_cases}
+use Rattle.nf_complete_cycles.proofs.Common.{contains_more, contains_first}
 
 -- one step more is turned
 pub round_more : (steps done next : List (ℕ × Bool)) (i : ℕ) (step turned : ℕ × Bool) → i < length steps → step ≡ get_or steps i step

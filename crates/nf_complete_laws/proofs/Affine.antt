@@ -1,9 +1,8 @@
 -- Affine numbers: a linear form of an assignment, plus a constant.
 use Rattle.std.proofs.Common.{◌≡◌, ℕ, zero, suc, List, [], ◌∷◌, ◌++◌, Bool, true, false, if◌then◌else◌, eqb, map, ◌∙◌}
-use Rattle.nf_complete_laws.proofs.Common.{ℚ, 0ℚ, ◌+ℚ◌, ◌-ℚ◌, ◌*ℚ◌, ◌≤ℚ◌, reading_of, le, eq, eq_times, linear_le, linear_eq, zero_plus, Link, sum_in, sum_out}
-use Rattle.nf_complete_laws.proofs.Common.{sum_to, Form, form_value}
+use Rattle.nf_complete_laws.proofs.Common.{ℚ, 0ℚ, ◌+ℚ◌, ◌-ℚ◌, ◌*ℚ◌, ◌≤ℚ◌, reading_of, le, eq, eq_times, linear_le, linear_eq, zero_plus, Link, sum_in}
+use Rattle.nf_complete_laws.proofs.Common.{sum_out, sum_to, Form, form_value, form_value-append, scaled, form_value-scaled, variable, form_value-variable}
 use Rattle.nf_complete_laws.proofs.Turned.{turned, sum_in-turned}
-use Rattle.nf_linear_laws.proofs.Forms.{form_value-append, scaled, form_value-scaled, variable, form_value-variable}
 
 pub record Affine (f : (ℕ → ℚ) → ℚ) : Type 0 where
   pub form : Form

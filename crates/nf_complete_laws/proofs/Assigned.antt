@@ -2,16 +2,18 @@
 -- flows. For oversupplies that is the flow out of the source.
 use Rattle.std.proofs.Common.{◌≡◌, ◌≢◌, ℕ, zero, suc, ◌<◌, ◌⊎◌, Option, Some, None, sym, ap, subst, refl, ◌∙◌}
 use Rattle.nf_complete_laws.proofs.Common.{none-some, same_Some, ℚ, 0ℚ, 1ℚ, ◌+ℚ◌, ◌-ℚ◌, ◌*ℚ◌, ◌≤ℚ◌, Has, Link, Network, IsNetwork, sum_in, sum_out, Sets}
-use Rattle.nf_complete_laws.proofs.Common.{Fills, sum_to, sum_to-nn, form_value, Fits, demand, IsOversupply}
-use Rattle.nf_linear_laws.proofs.Choices.{MeetsOne, LeastOfTwo, least_of_two}
+use Rattle.nf_complete_laws.proofs.Common.{Fills, sum_to, sum_to-nn, form_value, Fits, demand, IsOversupply, MeetsOne, LeastOfTwo, least_of_two}
 use Rattle.nf_complete_laws.proofs.Deciding.{Decided, both}
 use Rattle.nf_complete_laws.proofs.Bare.{flagged, same_node}
 use Rattle.nf_complete_laws.proofs.ExistsDeciding.{not_so, SomeLink}
 use Rattle.nf_complete_laws.proofs.LinkSums.{sum_out-not_negative}
 use Rattle.nf_complete_laws.proofs.Spare.{not_negative}
-use Rattle.nf_complete_laws.proofs.Serving.{Serves, Led, IsLed, IsInactive, NeedsStateAt, needs_or_not, capacity_of, Serves-over, ServesBySlopes, IsOversupply-serves}
-use Rattle.nf_complete_laws.proofs.Affine.{Affine, Affine-value, Affine-form, Affine-floor, Affine-constant, Affine-variable, Affine-plus, Affine-times, Affine-sum_to, Affine-sum_in, Affine-sum_out}
-use Rattle.nf_complete_laws.proofs.Described.{Described, Described-as, Described-always, Described-never, Described-both, Described-either, Described-when, Described-decided, Described-le, Described-same, Described-to, Described-links, Described-some, EachLink}
+use Rattle.nf_complete_laws.proofs.Serving.{Serves, Led, IsLed, IsInactive, NeedsStateAt, needs_or_not, capacity_of, Serves-over, ServesBySlopes}
+use Rattle.nf_complete_laws.proofs.Serving.{IsOversupply-serves}
+use Rattle.nf_complete_laws.proofs.Affine.{Affine, Affine-value, Affine-form, Affine-floor, Affine-constant, Affine-variable, Affine-plus, Affine-times}
+use Rattle.nf_complete_laws.proofs.Affine.{Affine-sum_to, Affine-sum_in, Affine-sum_out}
+use Rattle.nf_complete_laws.proofs.Described.{Described, Described-as, Described-always, Described-never, Described-both, Described-either, Described-when}
+use Rattle.nf_complete_laws.proofs.Described.{Described-decided, Described-le, Described-same, Described-to, Described-links, Described-some, EachLink}
 
 -- ---- slopes and flows in one assignment: slopes at even numbers, and flows at odd numbers
 abbrev even : ℕ → ℕ

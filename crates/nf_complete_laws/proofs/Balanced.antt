@@ -1,8 +1,10 @@
 -- An oversupply without excess at any node is a thin flow.
-use Rattle.std.proofs.Common.{◌≡◌, ◌≢◌, ℕ, ◌<◌, ◌≤◌, List, [], ◌∷◌, length, ◌⊎◌, inl, inr, ⊎_elim, Bool, true, false, Option, Some, None, slice_get, sym, ap, subst, refl, ◌∙◌}
-use Rattle.nf_complete_laws.proofs.Common.{cases_lt, slice_get_within, ℚ, 0ℚ, ◌-ℚ◌, ◌≤ℚ◌, ◌<ℚ◌, reading_of, ≤ℚ_of_same, eq, linear_eq, number_at, Has, Link, Network, IsLink}
-use Rattle.nf_complete_laws.proofs.Common.{IsNetwork, Sets, surplus, exit_slope, exit_slope_at, Enters, IsThinFlow, IsPositive-link, sum_in-same, sum_out-same}
-use Rattle.nf_complete_laws.proofs.Common.{out_less_in, AreSets, entry_beyond, flag, flag-cases, exit_resetting, Fits, IsOversupply}
+use Rattle.std.proofs.Common.{◌≡◌, ◌≢◌, ℕ, ◌<◌, ◌≤◌, List, [], ◌∷◌, length, ◌⊎◌, inl, inr, ⊎_elim, Bool, true, false, Option, Some, None, slice_get, sym}
+use Rattle.std.proofs.Common.{ap, subst, refl, ◌∙◌}
+use Rattle.nf_complete_laws.proofs.Common.{cases_lt, slice_get_within, ℚ, 0ℚ, ◌-ℚ◌, ◌≤ℚ◌, ◌<ℚ◌, reading_of, ≤ℚ_of_same, eq, linear_eq, number_at, Has, Link}
+use Rattle.nf_complete_laws.proofs.Common.{Network, IsLink, IsNetwork, Sets, surplus, exit_slope, exit_slope_at, Enters, IsThinFlow, IsPositive-link}
+use Rattle.nf_complete_laws.proofs.Common.{sum_in-same, sum_out-same, out_less_in, AreSets, entry_beyond, flag, flag-cases, exit_resetting, Fits}
+use Rattle.nf_complete_laws.proofs.Common.{IsOversupply}
 use Rattle.nf_complete_laws.proofs.Fitting.{fits_exit, fits_least, fits_used}
 use Rattle.nf_complete_laws.proofs.Numbers.{numbers, length-numbers, number_at-numbers, number_at-past}
 use Rattle.nf_complete_laws.proofs.Spare.{HasSpare, not_negative}

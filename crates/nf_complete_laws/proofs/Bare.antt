@@ -1,9 +1,8 @@
 -- A node without inflow has no outflow. Whether a link enters such a node is decidable.
 use Rattle.std.proofs.Common.{◌≡◌, ◌≢◌, ℕ, ◌<◌, ◌≤◌, List, [], ◌∷◌, ◌⊎◌, inl, inr, ⊎_elim, Bool, true, false, eqb, sym, subst, refl, ◌∙◌, arith}
-use Rattle.nf_complete_laws.proofs.Common.{eqb_tells, cases_lt, ℚ, 0ℚ, ◌-ℚ◌, ◌≤ℚ◌, reading_of, ≤ℚ_antisymm, le, eq, linear_le, ≤ℚ_trans, number_at, Has, Link}
-use Rattle.nf_complete_laws.proofs.Common.{Network, IsLink, IsNetwork, sum_in, sum_out, Sets, surplus, IsThinFlow, sum_in-same, sum_in-none, sum_out-each, flag}
-use Rattle.nf_complete_laws.proofs.Common.{flag-cases, IsBare, IsFirstLevel, LeadsToBare}
-use Rattle.nf_model_laws.proofs.Totals.{IsThinFlow-sink}
+use Rattle.nf_complete_laws.proofs.Common.{eqb_tells, cases_lt, ℚ, 0ℚ, ◌-ℚ◌, ◌≤ℚ◌, reading_of, ≤ℚ_antisymm, le, eq, linear_le, ≤ℚ_trans, number_at, Has}
+use Rattle.nf_complete_laws.proofs.Common.{Link, Network, IsLink, IsNetwork, sum_in, sum_out, Sets, surplus, IsThinFlow, sum_in-same, sum_in-none}
+use Rattle.nf_complete_laws.proofs.Common.{sum_out-each, flag, flag-cases, IsBare, IsFirstLevel, LeadsToBare, IsThinFlow-sink}
 use Rattle.nf_complete_laws.proofs.Deciding.{Decided, both, either, same_or_not, First, NoLink, first_or_none}
 
 pub flagged : (flags : List Bool) (e : ℕ) → Decided (Has flags e)

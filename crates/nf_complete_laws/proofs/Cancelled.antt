@@ -1,16 +1,15 @@
 -- Cancelling one cycle: the flows stay a thin flow with the same slopes, no link becomes interior, and at least one link stops being
 -- interior.
-use Rattle.std.proofs.Common.{◌≡◌, ◌≢◌, ℕ, ◌+◌, ◌<◌, ◌≤◌, List, [], ◌∷◌, length, ◌⊎◌, inl, inr, ⊎_elim, Bool, true, false, if◌then◌else◌, eqb, Option, Some, None, slice_get, unwrap_or, sym, ap, subst, refl, ◌∙◌, arith}
-use Rattle.nf_complete_laws.proofs.Common.{Contains, Ok, enumerate_from, same_Some, slice_get_within, eqb_tells, ℚ, 0ℚ, 1ℚ, ◌+ℚ◌, ◌-ℚ◌, ◌*ℚ◌, ◌≤ℚ◌, ◌<ℚ◌}
-use Rattle.nf_complete_laws.proofs.Common.{reading_of, ≤ℚ_of_same, ≤ℚ_of_lt, not_both_ℚ, less_ps, le, eq, eq_times, linear_le, linear_eq, ≤ℚ_refl, Passing}
-use Rattle.nf_complete_laws.proofs.Common.{checked, each, number_at, Has, Hop, Link, Network, IsLink, IsNetwork, hops, sum_in, sum_out, Sets, surplus}
-use Rattle.nf_complete_laws.proofs.Common.{IsThinFlow, IsTrail, AllDiffer, IsLink-unique, link_at, number_at-is, sum_in-same, sum_out-same, sum_in-line}
-use Rattle.nf_complete_laws.proofs.Common.{sum_out-line, HoldNoCycle, IsActiveWalk, entry, same_Ok, entry_beyond, number_at-beyond, IsInterior, links_of}
-use Rattle.nf_complete_laws.proofs.Common.{turn_of, IsCycle}
-use Rattle.nf_frac_def.proofs.Binding.{bind_ok}
-use Rattle.nf_frac_def.specs.declared.Op.TheVariants.{Sum, Difference, Product}
-use Rattle.nf_frac_def.proofs.Exact.{checked-is}
-use Rattle.nf_complete_def.specs.Cancelling.{full_on, full_at, fulls_list, room_on, room_at, least_room, change_on, change_at, cancel_list}
+use Rattle.std.proofs.Common.{◌≡◌, ◌≢◌, ℕ, ◌+◌, ◌<◌, ◌≤◌, List, [], ◌∷◌, length, ◌⊎◌, inl, inr, ⊎_elim, Bool, true, false, if◌then◌else◌, eqb, Option, Some}
+use Rattle.std.proofs.Common.{None, slice_get, unwrap_or, sym, ap, subst, refl, ◌∙◌, arith, Contains, Ok}
+use Rattle.nf_complete_laws.proofs.Common.{enumerate_from, same_Some, slice_get_within, eqb_tells, ℚ, 0ℚ, 1ℚ, ◌+ℚ◌, ◌-ℚ◌, ◌*ℚ◌, ◌≤ℚ◌, ◌<ℚ◌, reading_of}
+use Rattle.nf_complete_laws.proofs.Common.{≤ℚ_of_same, ≤ℚ_of_lt, not_both_ℚ, less_ps, le, eq, eq_times, linear_le, linear_eq, ≤ℚ_refl, Passing, checked}
+use Rattle.nf_complete_laws.proofs.Common.{each, number_at, Has, Hop, Link, Network, IsLink, IsNetwork, hops, sum_in, sum_out, Sets, surplus, IsThinFlow}
+use Rattle.nf_complete_laws.proofs.Common.{IsTrail, AllDiffer, IsLink-unique, link_at, number_at-is, sum_in-same, sum_out-same, sum_in-line, sum_out-line}
+use Rattle.nf_complete_laws.proofs.Common.{HoldNoCycle, IsActiveWalk, entry, same_Ok, entry_beyond, number_at-beyond, IsInterior, links_of, turn_of}
+use Rattle.nf_complete_laws.proofs.Common.{IsCycle, bind_ok, Sum, Difference, Product, checked-is, full_on, full_at, room_on, room_at, least_room}
+use Rattle.nf_complete_laws.proofs.Common.{change_on, change_at}
+use Rattle.nf_complete_def.specs.Cancelling.{fulls_list, cancel_list}
 use Rattle.nf_complete_laws.proofs.Trails.{signed, carried_by, turn-first, turn-contains, trail-allowed, carried-closed}
 use Rattle.nf_complete_laws.proofs.Eachs.{each-at, each-length}
 use Rattle.nf_complete_laws.proofs.Rooms.{least-some, least-bound, Taken, least-taken}

@@ -1,15 +1,13 @@
 -- The states of links in the pattern of settled flows. The flows solve the pattern's equations and satisfy its inequalities.
-use Rattle.std.proofs.Common.{◌≡◌, ◌≢◌, ℕ, ◌<◌, List, [], ◌∷◌, ◌⊎◌, inl, inr, ⊎_elim, Bool, true, false, Option, Some, None, slice_get, sym, ap, subst, refl, ◌∙◌}
-use Rattle.nf_complete_laws.proofs.Common.{is_none, same_Some, slice_get-map, none-some, ℚ, 0ℚ, ◌*ℚ◌, ◌≤ℚ◌, ◌<ℚ◌, reading_of, ≤ℚ_of_lt, ≤ℚ_antisymm, lt_or_le_ℚ}
+use Rattle.std.proofs.Common.{◌≡◌, ◌≢◌, ℕ, ◌<◌, List, [], ◌∷◌, ◌⊎◌, inl, inr, ⊎_elim, Bool, true, false, Option, Some, None, slice_get, sym, ap, subst}
+use Rattle.std.proofs.Common.{refl, ◌∙◌, is_none}
+use Rattle.nf_complete_laws.proofs.Common.{same_Some, slice_get-map, none-some, ℚ, 0ℚ, ◌*ℚ◌, ◌≤ℚ◌, ◌<ℚ◌, reading_of, ≤ℚ_of_lt, ≤ℚ_antisymm, lt_or_le_ℚ}
 use Rattle.nf_complete_laws.proofs.Common.{nn_times, le, eq, linear_le, ps_apart, State, Tight, Full, Zero, number_at, Has, Hop, IsHop, Link, Network}
-use Rattle.nf_complete_laws.proofs.Common.{IsLink, hop_of, hops, unbounded, Sets, exit_slope, exit_slope_at, Enters, IsThinFlow, Pattern, HasState, NeedsState}
-use Rattle.nf_complete_laws.proofs.Common.{IsPattern, Fills, Equation, Inequality, Solves, Meets, IsPositive, IsPositive-link, hop_at, flag, flag-cases}
-use Rattle.nf_complete_laws.proofs.Common.{exit_tight, IsInterior, IsBare, LeadsToBare, IsSettledPattern, AreGoodSets}
+use Rattle.nf_complete_laws.proofs.Common.{IsLink, hop_of, hops, unbounded, Sets, exit_slope, exit_slope_at, Enters, IsThinFlow, Pattern, HasState}
+use Rattle.nf_complete_laws.proofs.Common.{NeedsState, IsPattern, Fills, Equation, Inequality, Solves, Meets, IsPositive, IsPositive-link, hop_at, flag}
+use Rattle.nf_complete_laws.proofs.Common.{flag-cases, exit_tight, IsInterior, IsBare, LeadsToBare, IsSettledPattern, AreGoodSets, some_or_none}
+use Rattle.nf_complete_laws.proofs.Common.{le_from_times, LinkLaw, link_law}
 use Rattle.std.specs.Option.{option_map}
-use Rattle.nf_rational_laws.proofs.Order.{some_or_none}
-use Rattle.nf_model_laws.proofs.Affine.{le_from_times}
-use Rattle.nf_thin_laws.proofs.LinkLaws.{LinkLaw}
-use Rattle.nf_thin_laws.proofs.Slopes.{link_law}
 use Rattle.nf_complete_laws.proofs.Levels.{state_law, interior-level}
 use Rattle.nf_complete_laws.proofs.Deciding.{Decided, same_or_not, First, NoLink, first_or_none}
 use Rattle.nf_complete_laws.proofs.Bare.{flagged, Brings, brings_or_not, IsBare-none, LevelInto, level_or_not, IsFirstLevel-first, leads_or_not}

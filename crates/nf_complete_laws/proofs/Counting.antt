@@ -1,6 +1,6 @@
 -- The number of nodes that lack a property.
 use Rattle.std.proofs.Common.{◌≡◌, ℕ, zero, suc, ◌+◌, ◌<◌, ◌≤◌, inl, inr, ⊎_elim, subst, arith}
-use Rattle.nf_rational_laws.proofs.Naturals.{before_or_at}
+use Rattle.nf_complete_laws.proofs.Common.{before_or_at}
 use Rattle.nf_complete_laws.proofs.Deciding.{Decided}
 
 -- 0 if the property holds, and 1 otherwise.

@@ -1,10 +1,8 @@
 -- Properties of an assignment, described by finitely many systems of which one must be met.
 use Rattle.std.proofs.Common.{◌≡◌, ℕ, zero, suc, ◌<◌, List, [], ◌∷◌, ◌++◌, ◌⊎◌, inl, inr, ⊎_elim, Some, slice_get, sym, subst, refl, arith}
 use Rattle.nf_complete_laws.proofs.Common.{none-some, same_Some, ℚ, ◌+ℚ◌, ◌-ℚ◌, ◌≤ℚ◌, reading_of, ≤ℚ_of_same, ≤ℚ_antisymm, le, eq, linear_le, Link}
-use Rattle.nf_complete_laws.proofs.Common.{before_or_at, form_value, AtMost, MeetsAll}
-use Rattle.nf_linear_laws.proofs.Forms.{less, form_value-less}
+use Rattle.nf_complete_laws.proofs.Common.{before_or_at, form_value, AtMost, MeetsAll, less, form_value-less, MeetsOne}
 use Rattle.nf_linear_laws.proofs.Constraints.{MeetsAll-append, MeetsAll-front, MeetsAll-rest}
-use Rattle.nf_linear_laws.proofs.Choices.{MeetsOne}
 use Rattle.nf_complete_laws.proofs.LeastLinks.{each_of}
 use Rattle.nf_complete_laws.proofs.Deciding.{Decided}
 use Rattle.nf_complete_laws.proofs.ExistsDeciding.{SomeLink}

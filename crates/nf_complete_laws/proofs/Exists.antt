@@ -1,8 +1,7 @@
 -- A least oversupply whose nodes with excess are closed is a thin flow. Otherwise the slopes of these nodes could be lowered.
 use Rattle.std.proofs.Common.{ℕ, List, length}
-use Rattle.nf_complete_laws.proofs.Common.{ℚ, 0ℚ, ◌≤ℚ◌, not_both_ℚ, ≤ℚ_refl, Network, IsNetwork, Sets, IsThinFlow, AreSets, HoldNoCycle, EachIsEntered, IsOversupply}
-use Rattle.nf_complete_laws.proofs.Common.{OversupplyExists}
-use Rattle.nf_complete_laws.specs.ExistenceLaws.{ThinFlowExists}
+use Rattle.nf_complete_laws.proofs.Common.{ℚ, 0ℚ, ◌≤ℚ◌, not_both_ℚ, ≤ℚ_refl, Network, IsNetwork, Sets, IsThinFlow, AreSets, HoldNoCycle, EachIsEntered}
+use Rattle.nf_complete_laws.proofs.Common.{IsOversupply, OversupplyExists, ThinFlowExists}
 use Rattle.nf_complete_laws.proofs.Oversupplies.{grow_least, lower}
 use Rattle.nf_complete_laws.proofs.Numbers.{numbers}
 use Rattle.nf_complete_laws.proofs.Balanced.{IsThinFlow-balanced}

@@ -1,7 +1,7 @@
 -- Pushes of excess along links whose ends have equal levels: they end with flows whose nodes with excess are closed.
 use Rattle.std.proofs.Common.{◌≡◌, ◌≢◌, ℕ, zero, suc, ◌<◌, ◌≤◌, [], ◌∷◌, ◌⊎◌, inl, inr, ⊎_elim, Option, sym, ap, subst, refl, ◌∙◌, arith}
-use Rattle.nf_complete_laws.proofs.Common.{ℚ, 0ℚ, ◌+ℚ◌, ◌-ℚ◌, ◌≤ℚ◌, ◌<ℚ◌, reading_of, ≤ℚ_of_lt, le, lt, eq, linear_le, linear_lt, linear_eq, nn_less_part, less_some_le}
-use Rattle.nf_complete_laws.proofs.Common.{Link, Network, IsLink, IsNetwork}
+use Rattle.nf_complete_laws.proofs.Common.{ℚ, 0ℚ, ◌+ℚ◌, ◌-ℚ◌, ◌≤ℚ◌, ◌<ℚ◌, reading_of, ≤ℚ_of_lt, le, lt, eq, linear_le, linear_lt, linear_eq, nn_less_part}
+use Rattle.nf_complete_laws.proofs.Common.{less_some_le, Link, Network, IsLink, IsNetwork}
 use Rattle.nf_complete_laws.proofs.Deciding.{Decided, both, same_or_not, NoLink}
 use Rattle.nf_complete_laws.proofs.Bare.{same_node}
 use Rattle.nf_complete_laws.proofs.ExistsDeciding.{not_so, unless, less_or_not, SomeLink, some_link}

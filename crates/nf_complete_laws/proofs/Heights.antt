@@ -1,7 +1,7 @@
 -- Times and heights of nodes. Times fall along active links, and heights are as great as the links into the node allow.
 use Rattle.std.proofs.Common.{◌≡◌, ◌≢◌, ℕ, zero, suc, ◌+◌, ◌-◌, ◌<◌, ◌≤◌, ◌⊎◌, inl, inr, ⊎_elim, true, false, eqb, ap, sym, subst, ◌∙◌, arith}
-use Rattle.nf_complete_laws.proofs.Common.{eqb_tells, Has, Link, Network, IsLink, IsNetwork, Sets, Enters, HoldNoCycle, EachIsEntered, NoneEntersSource-acyclic}
-use Rattle.nf_complete_laws.proofs.Common.{flag, flag-cases}
+use Rattle.nf_complete_laws.proofs.Common.{eqb_tells, Has, Link, Network, IsLink, IsNetwork, Sets, Enters, HoldNoCycle, EachIsEntered}
+use Rattle.nf_complete_laws.proofs.Common.{NoneEntersSource-acyclic, flag, flag-cases}
 use Rattle.nf_complete_laws.proofs.LeastLinks.{least_of, least_of-either, least_of-below, least_of-taken, least_of-none, least_of-same}
 use Rattle.nf_complete_laws.proofs.Recursions.{iterated, solution, solution-is}
 use Rattle.nf_complete_laws.proofs.Loads.{bound}

@@ -1,9 +1,7 @@
 -- An interior link of a thin flow has equal slopes at its ends.
 use Rattle.std.proofs.Common.{◌≡◌, ℕ, List, ⊎_elim, Bool, true, false, Option, Some, None, sym, subst, refl}
-use Rattle.nf_complete_laws.proofs.Common.{ℚ, 0ℚ, ◌*ℚ◌, ◌≤ℚ◌, ◌<ℚ◌, ≤ℚ_antisymm, not_both_ℚ, number_at, Has, Link, Network, IsLink, IsNetwork, Sets, IsThinFlow}
-use Rattle.nf_complete_laws.proofs.Common.{NeedsState, IsLink-unique, HoldNoCycle, flag, flag-cases, IsInterior}
-use Rattle.nf_thin_laws.proofs.LinkLaws.{LinkLaw}
-use Rattle.nf_thin_laws.proofs.Slopes.{link_law}
+use Rattle.nf_complete_laws.proofs.Common.{ℚ, 0ℚ, ◌*ℚ◌, ◌≤ℚ◌, ◌<ℚ◌, ≤ℚ_antisymm, not_both_ℚ, number_at, Has, Link, Network, IsLink, IsNetwork, Sets}
+use Rattle.nf_complete_laws.proofs.Common.{IsThinFlow, NeedsState, IsLink-unique, HoldNoCycle, flag, flag-cases, IsInterior, LinkLaw, link_law}
 
 pub level_by : (capacity : Option ℚ) (x s t : ℚ) → LinkLaw false capacity x s t → 0ℚ <ℚ x → ((c : ℚ) → capacity ≡ Some c → x <ℚ c *ℚ t) → t ≡ s
 level_by None x s t l h k = sym (l.used h)

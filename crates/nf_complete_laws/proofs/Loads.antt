@@ -1,8 +1,8 @@
 -- The flow of a link if slopes are powers of a number k that is at least 1. Here a and b are the exponents of the slopes of the tail and
 -- the head, and t is the exponent of the flow into the head.
 use Rattle.std.proofs.Common.{◌≡◌, ℕ, ◌<◌, ◌≤◌, max, [], ◌∷◌, ◌⊎◌, inl, inr, ⊎_elim, Bool, true, false, Option, Some, None, subst, refl, arith}
-use Rattle.nf_complete_laws.proofs.Common.{cases_lt, none-some, same_Some, ℚ, 0ℚ, 1ℚ, ◌*ℚ◌, ◌≤ℚ◌, reading_of, ≤ℚ_of_lt, nn_times, linear_le, ≤ℚ_refl, times_le}
-use Rattle.nf_complete_laws.proofs.Common.{Fills, IsPositive, Fits}
+use Rattle.nf_complete_laws.proofs.Common.{cases_lt, none-some, same_Some, ℚ, 0ℚ, 1ℚ, ◌*ℚ◌, ◌≤ℚ◌, reading_of, ≤ℚ_of_lt, nn_times, linear_le, ≤ℚ_refl}
+use Rattle.nf_complete_laws.proofs.Common.{times_le, Fills, IsPositive, Fits}
 use Rattle.nf_complete_laws.proofs.Powers.{power, power-nn, power-rises, room}
 
 -- The exponent of the head's slope that the link allows.

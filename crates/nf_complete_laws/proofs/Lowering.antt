@@ -1,12 +1,15 @@
 -- If the nodes with excess are closed, the levels of all of them can be lowered. The sum of levels falls.
-use Rattle.std.proofs.Common.{◌≡◌, ◌≢◌, ℕ, zero, suc, ◌<◌, [], ◌∷◌, ◌⊎◌, inl, inr, ⊎_elim, Option, Some, None, slice_get, unwrap_or, sym, ap, subst, refl, ◌∙◌, arith}
-use Rattle.nf_complete_laws.proofs.Common.{ℚ, 0ℚ, ◌+ℚ◌, ◌-ℚ◌, ◌*ℚ◌, ◌≤ℚ◌, ◌<ℚ◌, reading_of, ≤ℚ_of_lt, ≤ℚ_of_same, ≤ℚ_antisymm, lt_or_le_ℚ, not_both_ℚ, less_ps, ≤ℚ_refl, ≤ℚ_trans, le, lt, eq}
-use Rattle.nf_complete_laws.proofs.Common.{linear_le, linear_lt, Link, Network, IsLink, IsNetwork, sum_in, sum_out, IsPositive, sum_in-same, sum_in-line, sum_in-order}
-use Rattle.nf_complete_laws.proofs.Common.{sum_out-order, sum_to, before_or_at, sum_le, sum_lt_le, sum_le_lt, Fits, demand}
+use Rattle.std.proofs.Common.{◌≡◌, ◌≢◌, ℕ, zero, suc, ◌<◌, [], ◌∷◌, ◌⊎◌, inl, inr, ⊎_elim, Option, Some, None, slice_get, unwrap_or, sym, ap, subst, refl}
+use Rattle.std.proofs.Common.{◌∙◌, arith}
+use Rattle.nf_complete_laws.proofs.Common.{ℚ, 0ℚ, ◌+ℚ◌, ◌-ℚ◌, ◌*ℚ◌, ◌≤ℚ◌, ◌<ℚ◌, reading_of, ≤ℚ_of_lt, ≤ℚ_of_same, ≤ℚ_antisymm, lt_or_le_ℚ, not_both_ℚ}
+use Rattle.nf_complete_laws.proofs.Common.{less_ps, ≤ℚ_refl, ≤ℚ_trans, le, lt, eq, linear_le, linear_lt, Link, Network, IsLink, IsNetwork, sum_in, sum_out}
+use Rattle.nf_complete_laws.proofs.Common.{IsPositive, sum_in-same, sum_in-line, sum_in-order, sum_out-order, sum_to, before_or_at, sum_le, sum_lt_le}
+use Rattle.nf_complete_laws.proofs.Common.{sum_le_lt, Fits, demand}
 use Rattle.nf_complete_laws.proofs.Deciding.{Decided}
 use Rattle.nf_complete_laws.proofs.Small.{Small, Small-bound, Small-map, Small-both, Small-when, Small-at_most, Small-apart, Small-times, Small-to}
 use Rattle.nf_complete_laws.proofs.LinkSums.{sum_in-not_negative}
-use Rattle.nf_complete_laws.proofs.Fitting.{IsAtMost, IsFilled, HasRoom, filled_or_room, capped, capped-le, capped-same, capped-none, capped-near, Fits-capped, fits_used}
+use Rattle.nf_complete_laws.proofs.Fitting.{IsAtMost, IsFilled, HasRoom, filled_or_room, capped, capped-le, capped-same, capped-none, capped-near}
+use Rattle.nf_complete_laws.proofs.Fitting.{Fits-capped, fits_used}
 use Rattle.nf_complete_laws.proofs.Spare.{spare, HasSpare, spare_or_not}
 use Rattle.nf_complete_laws.proofs.Serving.{Serves, IsClosed}
 

@@ -1,9 +1,8 @@
 -- Without excess at any node, the flow is kept at the nodes between source and sink, and its value is the rate.
 use Rattle.std.proofs.Common.{◌≡◌, ◌≢◌, ℕ, ◌<◌, if◌then◌else◌, [], ◌∷◌, ⊎_elim, Bool, true, false, eqb, sym, ap, refl}
-use Rattle.nf_complete_laws.proofs.Common.{eqb_tells, ℚ, 0ℚ, ◌+ℚ◌, ◌-ℚ◌, ◌≤ℚ◌, ◌<ℚ◌, reading_of, lt_or_le_ℚ, le, eq, linear_eq, Network, IsNetwork, sum_in, sum_out}
-use Rattle.nf_complete_laws.proofs.Common.{out_less_in, demand}
+use Rattle.nf_complete_laws.proofs.Common.{eqb_tells, ℚ, 0ℚ, ◌+ℚ◌, ◌-ℚ◌, ◌≤ℚ◌, ◌<ℚ◌, reading_of, lt_or_le_ℚ, le, eq, linear_eq, Network, IsNetwork, sum_in}
+use Rattle.nf_complete_laws.proofs.Common.{sum_out, out_less_in, demand, all_zero, two_cancel}
 use Rattle.nf_thin_laws.proofs.Cuts.{EndsBelow-net}
-use Rattle.nf_model_laws.proofs.Totals.{all_zero, two_cancel}
 use Rattle.nf_complete_laws.proofs.Spare.{spare, HasSpare, spare_of_enough}
 
 module _ (net : Network) (rate : ℚ) where

@@ -1,7 +1,7 @@
 -- The list of a function's values below n.
 use Rattle.std.proofs.Common.{◌≡◌, ℕ, ◌<◌, ◌≤◌, List, length, map, Option, unwrap_or, ap, ◌∙◌, arith}
-use Rattle.nf_complete_laws.proofs.Common.{range_with_len, slice_get-get_or, ℚ, 0ℚ, number_at, number_at-beyond}
-use Rattle.std.proofs.lemmas.List.FromFn.{length-map-range_with_len, get_or-map-range_with_len}
+use Rattle.nf_complete_laws.proofs.Common.{range_with_len, slice_get-get_or, ℚ, 0ℚ, number_at, number_at-beyond, length-map-range_with_len}
+use Rattle.nf_complete_laws.proofs.Common.{get_or-map-range_with_len}
 
 abbrev pub numbers : ℕ → (ℕ → ℚ) → List ℚ
 numbers n f = map f (range_with_len 0 n)

@@ -1,10 +1,10 @@
 -- The next cycle is unique. Two next cycles close with the same link. The difference of their flows balances at each node and uses only
 -- links before that link, which form a forest.
-use Rattle.std.proofs.Common.{◌≡◌, ◌≢◌, ℕ, zero, suc, ◌<◌, ◌≤◌, List, [], ◌∷◌, ⊎_elim, Bool, true, false, if◌then◌else◌, eqb, Option, Some, None, sym, ap, subst, refl, ◌∙◌, arith}
-use Rattle.nf_complete_laws.proofs.Common.{Contains, cases_lt, eqb_tells, ℚ, 0ℚ, 1ℚ, ◌+ℚ◌, ◌-ℚ◌, ◌*ℚ◌, reading_of, ≤ℚ_of_same, not_both_ℚ, eq, eq_times}
-use Rattle.nf_complete_laws.proofs.Common.{linear_eq, linear_false, Hop, Link, Network, IsLink, IsNetwork, hops, Sets, IsTrail, AllDiffer, out_less_in}
-use Rattle.nf_complete_laws.proofs.Common.{sum_in-line, sum_out-line, contains_more, contains_first, IsInterior, links_of, turn_of, IsNextCycle}
-use Rattle.nf_thin_laws.proofs.Forests.{Carries, forest-none}
+use Rattle.std.proofs.Common.{◌≡◌, ◌≢◌, ℕ, zero, suc, ◌<◌, ◌≤◌, List, [], ◌∷◌, ⊎_elim, Bool, true, false, if◌then◌else◌, eqb, Option, Some, None, sym, ap}
+use Rattle.std.proofs.Common.{subst, refl, ◌∙◌, arith, Contains}
+use Rattle.nf_complete_laws.proofs.Common.{cases_lt, eqb_tells, ℚ, 0ℚ, 1ℚ, ◌+ℚ◌, ◌-ℚ◌, ◌*ℚ◌, reading_of, ≤ℚ_of_same, not_both_ℚ, eq, eq_times, linear_eq}
+use Rattle.nf_complete_laws.proofs.Common.{linear_false, Hop, Link, Network, IsLink, IsNetwork, hops, Sets, IsTrail, AllDiffer, out_less_in, sum_in-line}
+use Rattle.nf_complete_laws.proofs.Common.{sum_out-line, contains_more, contains_first, IsInterior, links_of, turn_of, IsNextCycle, Carries, forest-none}
 use Rattle.nf_complete_laws.proofs.Trails.{signed, carried_by, turn-contains, trail-allowed, carried-closed}
 use Rattle.nf_complete_laws.proofs.Deciding.{same_or_not}
 

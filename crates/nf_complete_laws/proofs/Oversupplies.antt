@@ -1,12 +1,14 @@
 -- Pushes keep oversupplies that send the least out of the source. If the nodes with excess are closed, their slopes can be lowered. The
 -- result is an oversupply with a smaller sum of slopes.
 use Rattle.std.proofs.Common.{◌≡◌, ◌≢◌, ℕ, ◌<◌, [], ◌∷◌, inl, inr, ⊎_elim, sym, subst, refl}
-use Rattle.nf_complete_laws.proofs.Common.{ℚ, 0ℚ, ◌+ℚ◌, ◌-ℚ◌, ◌*ℚ◌, ◌≤ℚ◌, ◌<ℚ◌, reading_of, ≤ℚ_of_same, ≤ℚ_of_lt, ≤ℚ_antisymm, lt_or_le_ℚ, not_both_ℚ, ≤ℚ_refl}
-use Rattle.nf_complete_laws.proofs.Common.{≤ℚ_trans, le, lt, eq, le_times, linear_false, Has, Link, Network, IsLink, IsNetwork, sum_out, Sets, Enters, NeedsState}
-use Rattle.nf_complete_laws.proofs.Common.{Fills, IsPositive-link, HasIn, sum_to, AreSets, HoldNoCycle, EachIsEntered, NoneEntersSource-acyclic, none_first, IsOversupply}
+use Rattle.nf_complete_laws.proofs.Common.{ℚ, 0ℚ, ◌+ℚ◌, ◌-ℚ◌, ◌*ℚ◌, ◌≤ℚ◌, ◌<ℚ◌, reading_of, ≤ℚ_of_same, ≤ℚ_of_lt, ≤ℚ_antisymm, lt_or_le_ℚ, not_both_ℚ}
+use Rattle.nf_complete_laws.proofs.Common.{≤ℚ_refl, ≤ℚ_trans, le, lt, eq, le_times, linear_false, Has, Link, Network, IsLink, IsNetwork, sum_out, Sets}
+use Rattle.nf_complete_laws.proofs.Common.{Enters, NeedsState, Fills, IsPositive-link, HasIn, sum_to, AreSets, HoldNoCycle, EachIsEntered}
+use Rattle.nf_complete_laws.proofs.Common.{NoneEntersSource-acyclic, none_first, IsOversupply}
 use Rattle.nf_complete_laws.proofs.Fitting.{capped-fills, fits_used}
 use Rattle.nf_complete_laws.proofs.Spare.{spare, HasSpare, spare_or_not, by_kind, not_negative, at_most, spare-brings}
-use Rattle.nf_complete_laws.proofs.Serving.{IsClosed, Led, IsInactive, NeedsStateAt, needs_or_not, capacity_of, Serves-over, ServesBySlopes, IsOversupply-serves}
+use Rattle.nf_complete_laws.proofs.Serving.{IsClosed, Led, IsInactive, NeedsStateAt, needs_or_not, capacity_of, Serves-over, ServesBySlopes}
+use Rattle.nf_complete_laws.proofs.Serving.{IsOversupply-serves}
 use Rattle.nf_complete_laws.proofs.Pushing.{pushed, pushed-link, out-here, out-else}
 use Rattle.nf_complete_laws.proofs.Lowering.{Lowered, lowered_some}
 use Rattle.nf_complete_laws.proofs.Growing.{Serve-less, grow}

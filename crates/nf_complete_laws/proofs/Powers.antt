@@ -1,8 +1,8 @@
 -- Powers of a number that is at least 1, and the room of links.
 use Rattle.std.proofs.Common.{◌≡◌, ℕ, zero, suc, ◌≤◌, List, [], ◌∷◌, Bool, true, false, if◌then◌else◌, eqb, Option, Some, None, slice_get, refl, arith}
-use Rattle.nf_complete_laws.proofs.Common.{eqb-true, none-some, ℚ, 0ℚ, 1ℚ, ◌+ℚ◌, ◌*ℚ◌, ◌/ℚ◌, ◌≤ℚ◌, ◌<ℚ◌, reading_of, ≤ℚ_of_lt, nn_plus, nn_times, ps_whole, le}
-use Rattle.nf_complete_laws.proofs.Common.{eq, le_times, linear_le, ≤ℚ_refl, nn_of_one, times_le, Link, sum_out, IsPositive}
-use Rattle.nf_model_laws.proofs.Affine.{nn-quotient, quotient-times}
+use Rattle.nf_complete_laws.proofs.Common.{eqb-true, none-some, ℚ, 0ℚ, 1ℚ, ◌+ℚ◌, ◌*ℚ◌, ◌/ℚ◌, ◌≤ℚ◌, ◌<ℚ◌, reading_of, ≤ℚ_of_lt, nn_plus, nn_times, ps_whole}
+use Rattle.nf_complete_laws.proofs.Common.{le, eq, le_times, linear_le, ≤ℚ_refl, nn_of_one, times_le, Link, sum_out, IsPositive, nn-quotient}
+use Rattle.nf_complete_laws.proofs.Common.{quotient-times}
 use Rattle.nf_complete_laws.proofs.LeastLinks.{each_of}
 
 -- ---- powers

@@ -1,8 +1,8 @@
 -- More or less flow on a link whose ends have equal slopes.
 use Rattle.std.proofs.Common.{◌≡◌, ◌≢◌, ℕ, ◌<◌, [], ◌∷◌, ◌⊎◌, inl, inr, ⊎_elim, Option, sym, ap, subst, refl, ◌∙◌}
-use Rattle.nf_complete_laws.proofs.Common.{ℚ, 0ℚ, 1ℚ, ◌+ℚ◌, ◌-ℚ◌, ◌*ℚ◌, ◌≤ℚ◌, reading_of, ≤ℚ_of_same, eq, eq_times, linear_eq, moved_by_zero, same_differences}
-use Rattle.nf_complete_laws.proofs.Common.{Link, Network, IsLink, sum_in, sum_out, IsLink-unique, sum_in-line, sum_out-line}
-use Rattle.nf_complete_laws.proofs.Common.{only_at, only_at-here, only_at-else, Fits, demand}
+use Rattle.nf_complete_laws.proofs.Common.{ℚ, 0ℚ, 1ℚ, ◌+ℚ◌, ◌-ℚ◌, ◌*ℚ◌, ◌≤ℚ◌, reading_of, ≤ℚ_of_same, eq, eq_times, linear_eq, moved_by_zero}
+use Rattle.nf_complete_laws.proofs.Common.{same_differences, Link, Network, IsLink, sum_in, sum_out, IsLink-unique, sum_in-line, sum_out-line, only_at}
+use Rattle.nf_complete_laws.proofs.Common.{only_at-here, only_at-else, Fits, demand}
 use Rattle.nf_complete_laws.proofs.Trails.{sum_in-only, sum_out-only}
 use Rattle.nf_complete_laws.proofs.Bare.{same_node}
 use Rattle.nf_complete_laws.proofs.Fitting.{IsAtMost}

@@ -1,7 +1,8 @@
 -- Flows and levels that serve each node: the flows fit the levels, and a node's inflow may exceed its outflow and demand. The slopes of an
 -- oversupply are such levels.
 use Rattle.std.proofs.Common.{◌≡◌, ◌≢◌, ℕ, ◌<◌, ◌⊎◌, Option}
-use Rattle.nf_complete_laws.proofs.Common.{ℚ, 0ℚ, 1ℚ, ◌+ℚ◌, ◌≤ℚ◌, ◌<ℚ◌, Has, Link, Network, IsLink, sum_in, sum_out, Sets, Enters, NeedsState, Fills, Fits, demand, IsOversupply}
+use Rattle.nf_complete_laws.proofs.Common.{ℚ, 0ℚ, 1ℚ, ◌+ℚ◌, ◌≤ℚ◌, ◌<ℚ◌, Has, Link, Network, IsLink, sum_in, sum_out, Sets, Enters, NeedsState, Fills, Fits}
+use Rattle.nf_complete_laws.proofs.Common.{demand, IsOversupply}
 use Rattle.nf_complete_laws.proofs.Deciding.{Decided, both}
 use Rattle.nf_complete_laws.proofs.Bare.{flagged}
 use Rattle.nf_complete_laws.proofs.ExistsDeciding.{not_so}

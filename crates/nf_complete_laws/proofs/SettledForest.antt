@@ -1,13 +1,13 @@
 -- Tight links of the pattern of settled flows hold no cycle. The flow of a closed trail of them balances at each node. At a node without
 -- inflow, the only Tight links are the one chosen to enter it and those chosen to enter further such nodes. The flow of the entering link
 -- therefore continues forever along active links, which hold no cycle. So the trail uses interior links only, which hold no cycle.
-use Rattle.std.proofs.Common.{◌≡◌, ◌≢◌, ℕ, ◌<◌, ◌≤◌, List, [], ◌∷◌, ◌++◌, ◌⊎◌, inl, inr, ⊎_elim, Bool, true, false, if◌then◌else◌, eqb, Option, Some, None, sym, ap, subst, refl, ◌∙◌, arith}
-use Rattle.nf_complete_laws.proofs.Common.{cases_lt, eqb_tells, ℚ, 0ℚ, ◌-ℚ◌, ◌≤ℚ◌, reading_of, ≤ℚ_of_same, not_both_ℚ, eq, linear_eq, linear_false, Tight, Full}
-use Rattle.nf_complete_laws.proofs.Common.{Zero, number_at, Has, Link, Network, IsLink, IsNetwork, hops, sum_in, Sets, IsThinFlow, Pattern, HasState, IsTrail}
-use Rattle.nf_complete_laws.proofs.Common.{AllDiffer, IsForest, link_at, only_at, only_at-here, only_at-else, out_less_in, sum_in-same, sum_out-same}
-use Rattle.nf_complete_laws.proofs.Common.{sum_out-none, way_back, HoldNoCycle, IsActiveWalk, Way, no_way_round, IsInterior, links_of, turn_of, IsBare}
-use Rattle.nf_complete_laws.proofs.Common.{LeadsToBare, IsSettledPattern, AreGoodSets}
-use Rattle.nf_thin_laws.proofs.Forests.{Dart, Carries, forest-none}
+use Rattle.std.proofs.Common.{◌≡◌, ◌≢◌, ℕ, ◌<◌, ◌≤◌, List, [], ◌∷◌, ◌++◌, ◌⊎◌, inl, inr, ⊎_elim, Bool, true, false, if◌then◌else◌, eqb, Option, Some, None}
+use Rattle.std.proofs.Common.{sym, ap, subst, refl, ◌∙◌, arith}
+use Rattle.nf_complete_laws.proofs.Common.{cases_lt, eqb_tells, ℚ, 0ℚ, ◌-ℚ◌, ◌≤ℚ◌, reading_of, ≤ℚ_of_same, not_both_ℚ, eq, linear_eq, linear_false, Tight}
+use Rattle.nf_complete_laws.proofs.Common.{Full, Zero, number_at, Has, Link, Network, IsLink, IsNetwork, hops, sum_in, Sets, IsThinFlow, Pattern, HasState}
+use Rattle.nf_complete_laws.proofs.Common.{IsTrail, AllDiffer, IsForest, link_at, only_at, only_at-here, only_at-else, out_less_in, sum_in-same}
+use Rattle.nf_complete_laws.proofs.Common.{sum_out-same, sum_out-none, way_back, HoldNoCycle, IsActiveWalk, Way, no_way_round, IsInterior, links_of}
+use Rattle.nf_complete_laws.proofs.Common.{turn_of, IsBare, LeadsToBare, IsSettledPattern, AreGoodSets, Dart, Carries, forest-none}
 use Rattle.nf_complete_laws.proofs.Trails.{mark, sum_in-only, signed, carried_by, turn-first, trail-allowed, carried-closed}
 use Rattle.nf_complete_laws.proofs.Deciding.{Decided, both, same_or_not, First, NoLink, first_or_none}
 use Rattle.nf_complete_laws.proofs.Bare.{same_node, bare_out}

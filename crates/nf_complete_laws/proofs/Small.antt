@@ -1,8 +1,8 @@
 -- Properties of all sufficiently small numbers that are not negative.
 use Rattle.std.proofs.Common.{◌≡◌, ℕ, zero, suc, ◌<◌, [], ◌∷◌, ⊎_elim, Option, Some, None, sym, subst, refl, arith}
-use Rattle.nf_complete_laws.proofs.Common.{none-some, same_Some, ℚ, 0ℚ, 1ℚ, ◌+ℚ◌, ◌-ℚ◌, ◌*ℚ◌, ◌/ℚ◌, ◌≤ℚ◌, ◌<ℚ◌, min_ℚ, reading_of, less_ps, ps_times, ≤ℚ_trans, ≤ℚ_refl, ≤ℚ_of_lt}
-use Rattle.nf_complete_laws.proofs.Common.{le, lt, eq, le_times, linear_le, linear_lt, min_left, min_right, min_keeps, before_or_at}
-use Rattle.nf_rational_laws.proofs.Quotient.{/ℚ_is, /ℚ-times, ps_apart, ps_inv}
+use Rattle.nf_complete_laws.proofs.Common.{none-some, same_Some, ℚ, 0ℚ, 1ℚ, ◌+ℚ◌, ◌-ℚ◌, ◌*ℚ◌, ◌/ℚ◌, ◌≤ℚ◌, ◌<ℚ◌, min_ℚ, reading_of, less_ps, ps_times}
+use Rattle.nf_complete_laws.proofs.Common.{≤ℚ_trans, ≤ℚ_refl, ≤ℚ_of_lt, le, lt, eq, le_times, linear_le, linear_lt, min_left, min_right, min_keeps}
+use Rattle.nf_complete_laws.proofs.Common.{before_or_at, /ℚ_is, /ℚ-times, ps_apart, ps_inv}
 use Rattle.nf_complete_laws.proofs.Deciding.{Decided}
 use Rattle.nf_complete_laws.proofs.ExistsDeciding.{less_or_not}
 use Rattle.nf_complete_laws.proofs.Fitting.{HasRoom, IsAtMost}

@@ -1,15 +1,14 @@
 -- If a phase run stopped because no pattern was left, there is no thin flow there.
 use Rattle.std.proofs.Common.{◌≡◌, ℕ, suc, ◌<◌, List, length, get_or, Option, Some, None, unwrap_or, sym, ap, subst, ◌∙◌, arith}
-use Rattle.nf_complete_laws.proofs.Common.{none-some, slice_get-get_or, same_Some, ℚ, 0ℚ, not_both_ℚ, Passing, number_at, Network, IsNetwork, rate_at, sets_at}
-use Rattle.nf_complete_laws.proofs.Common.{IsThinFlow, AreSets-sets_at, HoldNoCycle-sets_at, same_entries, AreGoodSets}
-use Rattle.std.proofs.lemmas.List.FromFn.{length-map-range_with_len, get_or-map-range_with_len}
+use Rattle.nf_complete_laws.proofs.Common.{none-some, slice_get-get_or, same_Some, ℚ, 0ℚ, not_both_ℚ, Passing, number_at, Network, IsNetwork, rate_at}
+use Rattle.nf_complete_laws.proofs.Common.{sets_at, IsThinFlow, AreSets-sets_at, HoldNoCycle-sets_at, same_entries, AreGoodSets, length-map-range_with_len}
+use Rattle.nf_complete_laws.proofs.Common.{get_or-map-range_with_len, SearchAnswer, Found, OverBudget, PassesAt, NoPattern, slack_of_resetting}
 use Rattle.nf_frac_def.specs.declared.PassedAt.{PassedAt}
 use Rattle.nf_model.specs.Equilibrium.{label}
 use Rattle.nf_net_def.specs.declared.Cause.{Cause}
 use Rattle.nf_net_def.specs.Report.{Report}
-use Rattle.nf_thin_def.specs.Search.{SearchAnswer, Found, OverBudget, PassesAt, NoPattern}
-use Rattle.nf_thin_def.specs.PhaseRun.{Standing, Bounds, Seeks, cause_of_search, Fails, at_slack, at_search, at_lists, Runs, at_horizon, at_phases, fails, goes, IsRunReport, flow_of}
-use Rattle.nf_model_laws.proofs.Slacks.{slack_of_resetting}
+use Rattle.nf_thin_def.specs.PhaseRun.{Standing, Bounds, Seeks, cause_of_search, Fails, at_slack, at_search, at_lists, Runs, at_horizon, at_phases, fails}
+use Rattle.nf_thin_def.specs.PhaseRun.{goes, IsRunReport, flow_of}
 use Rattle.nf_model_laws.proofs.Supply.{rate_from-not_negative}
 use Rattle.nf_phase_laws.proofs.WellRun.{WellRun, WellRun-start}
 use Rattle.nf_phase_laws.proofs.Run.{WellRun-goes}

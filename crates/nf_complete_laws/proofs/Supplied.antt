@@ -1,6 +1,7 @@
 -- The existence of an oversupply. Slopes are powers of a great number, by the heights of nodes. Into each node leads a link that brings
 -- more than all links out of it can carry.
-use Rattle.std.proofs.Common.{◌≡◌, ℕ, zero, suc, ◌<◌, ◌≤◌, List, [], ◌∷◌, ◌⊎◌, inl, inr, ⊎_elim, Bool, true, false, eqb, if◌then◌else◌, Option, Some, None, slice_get, unwrap_or, ap, sym, subst, refl, ◌∙◌, arith}
+use Rattle.std.proofs.Common.{◌≡◌, ℕ, zero, suc, ◌<◌, ◌≤◌, List, [], ◌∷◌, ◌⊎◌, inl, inr, ⊎_elim, Bool, true, false, eqb, if◌then◌else◌, Option, Some, None}
+use Rattle.std.proofs.Common.{slice_get, unwrap_or, ap, sym, subst, refl, ◌∙◌, arith}
 use Rattle.nf_complete_laws.proofs.Common.{none-some, same_Some, ℚ, 0ℚ, 1ℚ, ◌+ℚ◌, ◌*ℚ◌, ◌≤ℚ◌, ◌<ℚ◌, reading_of, ≤ℚ_of_lt, nn_plus, nn_times, le, le_times}
 use Rattle.nf_complete_laws.proofs.Common.{linear_le, ≤ℚ_refl, ≤ℚ_trans, times_le, not_both, Has, Link, Network, IsLink, IsNetwork, sum_in, sum_out, Sets}
 use Rattle.nf_complete_laws.proofs.Common.{Enters, NeedsState, Fills, sum_in-each, AreSets, HoldNoCycle, EachIsEntered, flag, flag-cases, Fits, demand}

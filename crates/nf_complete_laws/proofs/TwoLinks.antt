@@ -1,10 +1,9 @@
 -- Two links from source to sink, of which one is resetting and the other unbounded.
 use Rattle.std.proofs.Common.{◌≡◌, ℕ, zero, suc, ◌<◌, List, [], ◌∷◌, Some, None, sym, ap, subst, refl, ◌∙◌, arith}
-use Rattle.nf_complete_laws.proofs.Common.{none-some, same_Some, ℚ, 0ℚ, 1ℚ, ◌≤ℚ◌, ◌<ℚ◌, reading_of, not_both_ℚ, linear_le, linear_lt, Has, Hop, IsHop, IsWalk}
-use Rattle.nf_complete_laws.proofs.Common.{Link, IsNetwork, IsLink, hops, hop_of, slack, EachIsEntered, AreSets-sets_at, HoldNoCycle-sets_at, ResetsAreBounded}
+use Rattle.nf_complete_laws.proofs.Common.{none-some, same_Some, ℚ, 0ℚ, 1ℚ, ◌≤ℚ◌, ◌<ℚ◌, reading_of, not_both_ℚ, linear_le, linear_lt, Has, Hop, IsHop}
+use Rattle.nf_complete_laws.proofs.Common.{IsWalk, Link, IsNetwork, IsLink, hops, hop_of, slack, EachIsEntered, AreSets-sets_at, HoldNoCycle-sets_at}
+use Rattle.nf_complete_laws.proofs.Common.{ResetsAreBounded, active_of_slack, resetting_of_slack, slack_of_resetting, ThinFlowExists}
 use Rattle.nf_model_laws.proofs.MemberLink.{node_cases}
-use Rattle.nf_model_laws.proofs.Slacks.{active_of_slack, resetting_of_slack, slack_of_resetting}
-use Rattle.nf_complete_laws.specs.ExistenceLaws.{ThinFlowExists}
 use Rattle.nf_complete_laws.specs.TwoLinks.{bounded_link, unbounded_link, two_links, queue_labels, queue_sets, TwoLinksHaveThinFlow}
 
 -- A property of both links is a property of each link.

@@ -1,17 +1,10 @@
 -- The words of a line, by their number.
 use Rattle.std.proofs.Common.{◌≡◌, ◌≢◌, ℕ, ◌<◌, false, List, length, drop, Result, Err, refl, ◌∙◌, ap}
-use Rattle.std.specs.Result.{result_ok}
-use Rattle.nf_rational.specs.Rational.{ℚ}
-use Rattle.nf_frac_words.specs.Numbers.{number_of}
-use Rattle.nf_net_def.specs.Names.{Name, has_name}
-use Rattle.nf_net_def.specs.Numbers.{greatest}
+use Rattle.nf_complete_read.proofs.Common.{result_ok, ℚ, number_of, Name, has_name, greatest, IsNameAt, FlowsRule, S6, S7, FlowsEntry, number_entry}
+use Rattle.nf_complete_read.proofs.Common.{named_line}
 use Rattle.nf_text.specs.Within.{word_at}
-use Rattle.nf_side.specs.NameAt.{IsNameAt}
 use Rattle.nf_side.proofs.NamesOf.{where_named, where_not_named}
 use Rattle.nf_side.proofs.WordCounts.{three_words, unless_three}
-use Rattle.nf_complete_def.specs.declared.FlowsRule.{FlowsRule}
-use Rattle.nf_complete_def.specs.declared.FlowsRule.TheVariants.{S6, S7}
-use Rattle.nf_complete_def.specs.FlowsFile.{FlowsEntry, number_entry, named_line}
 
 -- ---- `flow` and `slope`
 module _ (make : ℕ → ℚ → FlowsEntry) (names : List Name) (words : List (List ℕ)) where

@@ -1,12 +1,9 @@
 -- Numbers that are given, each at its place, and what stands where none is.
-use Rattle.std.proofs.Common.{◌≡◌, ℕ, ◌<◌, Bool, true, List, length, get_or, Option, None, Ok, Err, unwrap_or, refl, sym, ap, ◌∙◌}
-use Rattle.std.specs.Prelude.{is_some, if◌then◌else◌}
+use Rattle.std.proofs.Common.{◌≡◌, ℕ, ◌<◌, Bool, true, List, length, get_or, Option, None, Ok, Err, unwrap_or, refl, sym, ap, ◌∙◌, is_some, if◌then◌else◌}
+use Rattle.nf_complete_read.proofs.Common.{ℚ, S11, FlowsDraft, is_given, or_nothing, if_ended}
 use Rattle.std.proofs.lemmas.List.{length-map}
 use Rattle.std.proofs.lemmas.Option.{slice_get_read}
-use Rattle.nf_rational.specs.Rational.{ℚ}
 use Rattle.nf_rational.specs.Operations.{0ℚ}
-use Rattle.nf_complete_def.specs.declared.FlowsRule.TheVariants.{S11}
-use Rattle.nf_complete_def.specs.FlowsFile.{FlowsDraft, is_given, or_nothing, if_ended}
 
 -- whether a number is given, as it is read
 pub given_read : (numbers : List (Option ℚ)) (place : ℕ) (found : Option ℚ) → place < length numbers → found ≡ get_or numbers place found → is_given numbers place ≡ is_some found

@@ -1,3 +1,4 @@
+mod Common
 pub mod Nothing
 pub mod FlowWords
 pub mod FlowsRead

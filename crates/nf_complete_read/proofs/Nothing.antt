@@ -1,11 +1,8 @@
 -- Drafts in which nothing is given.
 use Rattle.std.proofs.Common.{◌≡◌, ℕ, false, List, length, map, replicate, Option, None, ◌∙◌}
+use Rattle.nf_complete_read.proofs.Common.{ℚ, Name, Named, FlowsDraft, empty_flows}
 use Rattle.std.proofs.lemmas.Simd.{splat_is_map}
-use Rattle.nf_rational.specs.Rational.{ℚ}
-use Rattle.nf_net_def.specs.Names.{Name}
-use Rattle.nf_net_def.specs.Named.{Named}
 use Rattle.nf_net_def.specs.WellNamed.{IsNamed}
-use Rattle.nf_complete_def.specs.FlowsFile.{FlowsDraft, empty_flows}
 
 none_each : (names : List Name) (numbers : List (Option ℚ)) (count : ℕ) → length names ≡ count → numbers ≡ replicate count None → numbers ≡ map (λ _. None) names
 none_each names numbers count many e = e ∙ splat_is_map names count None many

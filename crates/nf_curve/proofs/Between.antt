@@ -1,23 +1,10 @@
 -- The points of a curve whose times lie between two others, by the places of these.
-use Rattle.std.proofs.Common.{◌≡◌, ℕ, zero, suc, ◌≤◌, List, [], ◌∷◌, ◌++◌, take, drop, reverse, ⊎_elim, Bool, true, false, ◌&&◌, cond, refl, sym, ap, subst, ◌∙◌, append-nil}
-use Rattle.std.specs.Prelude.{Some, slice_get, slice_range, Ok, Err}
-use Rattle.std.specs.List.{filter}
+use Rattle.std.proofs.Common.{◌≡◌, ℕ, zero, suc, ◌≤◌, List, [], ◌∷◌, ◌++◌, take, drop, reverse, ⊎_elim, Bool, true, false, ◌&&◌, cond, refl, sym, ap, subst}
+use Rattle.std.proofs.Common.{◌∙◌, append-nil, Some, slice_get, slice_range, Ok, Err}
+use Rattle.nf_curve.proofs.Common.{filter, reverse-append, ℚ, ◌≤ℚ◌, ◌<ℚ◌, lt_ℚ, ≤ℚ_of_lt, lt_ℚ_cases, test_of_less, test_of_not_less, Part, PassedAt}
+use Rattle.nf_curve.proofs.Common.{Checked, at_part, each, ◌>>=◌, Point, TimesRise, <_≤_trans, points_between, points_along, rise_rest, count_until, behind}
 use Rattle.std.proofs.lemmas.List.Elements.{filter-append}
-use Rattle.std.proofs.lemmas.List.{reverse-append}
 use Rattle.std.proofs.lemmas.List.Folds.{drop_split}
-use Rattle.nf_rational.specs.Rational.{ℚ}
-use Rattle.nf_rational.specs.Order.{◌≤ℚ◌, ◌<ℚ◌, lt_ℚ}
-use Rattle.nf_rational_laws.proofs.Order.{≤ℚ_of_lt}
-use Rattle.nf_rational_laws.proofs.Tests.{lt_ℚ_cases, test_of_less, test_of_not_less}
-use Rattle.nf_frac_def.specs.declared.Part.{Part}
-use Rattle.nf_frac_def.specs.declared.PassedAt.{PassedAt}
-use Rattle.nf_frac_def.specs.Checked.{Checked, at_part, each, ◌>>=◌}
-use Rattle.nf_model.specs.Curve.{Point, TimesRise}
-use Rattle.nf_model_laws.proofs.Affine.{<_≤_trans}
-use Rattle.nf_curve_def.specs.Composed.{points_between, points_along}
-use Rattle.nf_curve_laws.proofs.Composed.{rise_rest}
-use Rattle.nf_curve.specs.Places.{count_until}
-use Rattle.nf_curve.specs.Steps.{behind}
 use Rattle.nf_curve.proofs.Placing.{place-behind, place-past, place-rises}
 use Rattle.nf_curve.proofs.Composing.{point_first}
 use Rattle.nf_curve.proofs.Exits.{after_err, was_ok}

@@ -1,16 +1,8 @@
 -- A curve at the values of another, piece by piece.
-use Rattle.std.proofs.Common.{◌≡◌, ℕ, zero, suc, List, [], ◌∷◌, ◌++◌, length, drop, refl, sym, ap, ◌∙◌, append_assoc, arith}
-use Rattle.std.specs.Prelude.{Some, slice_get, Ok, Err}
-use Rattle.nf_rational.specs.Rational.{ℚ}
-use Rattle.nf_frac_def.specs.Passing.{Passing}
-use Rattle.nf_frac_def.specs.declared.Part.{Part}
-use Rattle.nf_frac_def.specs.declared.PassedAt.{PassedAt}
-use Rattle.nf_frac_def.specs.Checked.{Checked, at_part, ◌>>=◌}
-use Rattle.nf_model.specs.Curve.{Point}
-use Rattle.nf_curve_def.specs.Values.{checked_value, checked_cut}
-use Rattle.nf_curve_def.specs.Composed.{composed_piece, composed_all, checked_composed}
-use Rattle.nf_rational_laws.proofs.Entries.{drop_entry}
-use Rattle.nf_curve.specs.Steps.{behind}
+use Rattle.std.proofs.Common.{◌≡◌, ℕ, zero, suc, List, [], ◌∷◌, ◌++◌, length, drop, refl, sym, ap, ◌∙◌, append_assoc, arith, Some, slice_get, Ok, Err}
+use Rattle.nf_curve.proofs.Common.{ℚ, Passing, Part, PassedAt, Checked, at_part, ◌>>=◌, Point, checked_value, checked_cut, composed_piece, composed_all}
+use Rattle.nf_curve.proofs.Common.{drop_entry, behind}
+use Rattle.nf_curve_def.specs.Composed.{checked_composed}
 use Rattle.nf_curve.proofs.Exits.{after_err, after_ok, was_ok, err_before, ok_before}
 use Rattle.nf_curve.proofs.Shortening.{drop-two}
 

@@ -1,22 +1,10 @@
 -- The corners before the last time at which two curves may differ, in order.
-use Rattle.std.proofs.Common.{◌≡◌, ◌≤◌, List, [], ◌∷◌, length, ⊎_elim, Bool, true, false, refl, sym, ap, subst, ◌∙◌, arith}
-use Rattle.std.specs.Prelude.{Option, Some, None, Ok, Err, IfSome, if◌then◌else◌}
-use Rattle.nf_rational.specs.Rational.{ℚ}
-use Rattle.nf_rational.specs.Order.{◌≤ℚ◌, ◌<ℚ◌, lt_ℚ}
-use Rattle.nf_rational_laws.proofs.Tests.{lt_ℚ_cases}
-use Rattle.nf_frac_def.specs.Passing.{Passing}
-use Rattle.nf_frac_def.specs.declared.Part.{Part}
-use Rattle.nf_frac_def.specs.declared.PassedAt.{PassedAt}
-use Rattle.nf_frac_def.specs.Checked.{Checked, at_part, ◌>>=◌}
-use Rattle.nf_model.specs.Curve.{Point}
-use Rattle.nf_curve_def.specs.Lines.{Sides}
-use Rattle.nf_curve_def.specs.Sums.{sides_at}
-use Rattle.nf_curve_def.specs.Differences.{do_differ, times_before, if_differ, differ_at, difference_here, difference_from}
-use Rattle.nf_curve.specs.Moments.{IsThere, times_left, only_before}
-use Rattle.nf_curve.specs.Steps.{difference_step}
-use Rattle.nf_curve.specs.declared.walk.Moment.{Moment}
+use Rattle.std.proofs.Common.{◌≡◌, ◌≤◌, List, [], ◌∷◌, length, ⊎_elim, Bool, true, false, refl, sym, ap, subst, ◌∙◌, arith, Option, Some, None, Ok, Err}
+use Rattle.std.proofs.Common.{IfSome, if◌then◌else◌}
+use Rattle.nf_curve.proofs.Common.{ℚ, ◌≤ℚ◌, ◌<ℚ◌, lt_ℚ, lt_ℚ_cases, Passing, Part, PassedAt, Checked, at_part, ◌>>=◌, Point, Sides, sides_at, do_differ}
+use Rattle.nf_curve.proofs.Common.{times_before, if_differ, differ_at, difference_here, difference_from, IsThere, times_left, only_before, difference_step}
+use Rattle.nf_curve.proofs.Common.{Moment, not_both_ℚ}
 use Rattle.nf_curve.proofs.Exits.{after_err, after_ok, was_ok}
-use Rattle.nf_rational_laws.proofs.Order.{not_both_ℚ}
 
 -- ---- a step
 or_later : Option Sides → Checked (Option Sides) → Checked (Option Sides)

@@ -1,17 +1,7 @@
 -- The lesser of two curves, from one time to the next.
-use Rattle.std.proofs.Common.{◌≡◌, List, [], ◌∷◌, ◌++◌, refl, sym, ap, ◌∙◌, append_assoc}
-use Rattle.std.specs.Prelude.{Ok, Err}
-use Rattle.nf_rational.specs.Rational.{ℚ}
-use Rattle.nf_frac_def.specs.Passing.{Passing}
-use Rattle.nf_frac_def.specs.declared.Part.{Part}
-use Rattle.nf_frac_def.specs.declared.PassedAt.{PassedAt}
-use Rattle.nf_frac_def.specs.Checked.{Checked, at_part, ◌>>=◌}
-use Rattle.nf_frac_def.proofs.Each.{with_front}
-use Rattle.nf_model.specs.Curve.{Point}
-use Rattle.nf_curve_def.specs.Lines.{Sides}
-use Rattle.nf_curve_def.specs.Sums.{sides_at}
-use Rattle.nf_curve_def.specs.Least.{is_crossed, least_point, crossing, least_after, least_from}
-use Rattle.nf_curve.specs.Steps.{lesser_step}
+use Rattle.std.proofs.Common.{◌≡◌, List, [], ◌∷◌, ◌++◌, refl, sym, ap, ◌∙◌, append_assoc, Ok, Err}
+use Rattle.nf_curve.proofs.Common.{ℚ, Passing, Part, PassedAt, Checked, at_part, ◌>>=◌, with_front, Point, Sides, sides_at, is_crossed, least_point}
+use Rattle.nf_curve.proofs.Common.{crossing, least_after, least_from, lesser_step}
 use Rattle.nf_curve.proofs.Exits.{after_err, after_ok, was_ok, err_before, ok_before, front_err, front_more}
 
 more_points : (between rest : List Point) (p : Point) (r : Checked (List Point)) → (r >>= λ rest. Ok (between ++ p ∷ rest)) ≡ (r >>= λ rest. Ok ((between ++ p ∷ []) ++ rest))

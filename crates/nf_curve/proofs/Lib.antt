@@ -1,3 +1,4 @@
+mod Common
 pub mod Points
 pub mod Pieces
 pub mod Placing

@@ -1,20 +1,10 @@
 -- The divisors of the operations on a piece of a curve are not 0.
-use Rattle.std.proofs.Common.{◌≡◌, ◌≢◌, [], ◌∷◌, true, sym, ◌∙◌}
-use Rattle.std.specs.Prelude.{Ok}
-use Rattle.nf_rational.specs.Rational.{ℚ}
-use Rattle.nf_rational.specs.Operations.{0ℚ, ◌-ℚ◌, ◌*ℚ◌}
-use Rattle.nf_rational.specs.Order.{◌<ℚ◌}
+use Rattle.std.proofs.Common.{◌≡◌, ◌≢◌, [], ◌∷◌, true, sym, ◌∙◌, Ok}
+use Rattle.nf_curve.proofs.Common.{ℚ, 0ℚ, ◌-ℚ◌, ◌*ℚ◌, ◌<ℚ◌, Passing, Checked, checked, Difference, Point, slope, Sides, checked_slope, is_crossed}
+use Rattle.nf_curve.proofs.Common.{checked-is, checked_slope-is, Crossing, rises, falls, left_below, right_below, is_crossed-is}
 use Rattle.nf_rational_laws.proofs.Polynomial.{reading_of}
 use Rattle.nf_rational_laws.proofs.Linear.{lt, eq, eq_times, linear_eq, linear_false}
-use Rattle.nf_frac_def.specs.Passing.{Passing}
-use Rattle.nf_frac_def.specs.Checked.{Checked, checked}
-use Rattle.nf_frac_def.specs.declared.Op.TheVariants.{Difference}
-use Rattle.nf_model.specs.Curve.{Point, slope}
 use Rattle.nf_model_laws.proofs.Curves.{slope-times}
-use Rattle.nf_curve_def.specs.Lines.{Sides, checked_slope}
-use Rattle.nf_curve_def.specs.Least.{is_crossed}
-use Rattle.nf_curve_laws.proofs.Operations.{checked-is, checked_slope-is}
-use Rattle.nf_curve_laws.proofs.Least.{Crossing, rises, falls, left_below, right_below, is_crossed-is}
 
 -- the times of two points differ, one after the other
 pub run_apart : (passes : Passing) (s t run : ℚ) → s <ℚ t → checked passes Difference t s ≡ Ok run → run ≢ 0ℚ

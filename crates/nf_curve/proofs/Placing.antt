@@ -1,25 +1,10 @@
 -- Places on curves: what lies before and behind them.
-use Rattle.std.proofs.Common.{◌≡◌, ℕ, zero, suc, ◌+◌, ◌-◌, ◌<◌, ◌≤◌, List, [], ◌∷◌, length, get_or, ⊎_elim, Bool, true, false, refl, sym, ap, subst, ◌∙◌, arith}
-use Rattle.std.proofs.lemmas.Option.{none-some, same_Some, slice_get-get_or}
-use Rattle.std.specs.Prelude.{Option, Some, None, slice_get, IfSome, Result, Ok, if◌then◌else◌}
-use Rattle.nf_rational.specs.Rational.{ℚ}
-use Rattle.nf_rational.specs.Operations.{0ℚ}
-use Rattle.nf_rational.specs.Order.{◌≤ℚ◌, ◌<ℚ◌, lt_ℚ}
-use Rattle.nf_rational_laws.proofs.Order.{≤ℚ_of_lt, ≤ℚ_of_same, ≤ℚ_antisymm, not_both_ℚ}
-use Rattle.nf_rational_laws.proofs.Tests.{lt_ℚ_cases}
-use Rattle.nf_frac_def.specs.Passing.{Passing}
-use Rattle.nf_frac_def.specs.Checked.{at_part}
-use Rattle.nf_frac_def.specs.declared.Part.{Part}
-use Rattle.nf_frac_def.specs.declared.PassedAt.{PassedAt}
-use Rattle.nf_model.specs.Curve.{Point, TimesRise, IsCurve}
-use Rattle.nf_model_laws.proofs.Affine.{<_≤_trans}
-use Rattle.nf_rational.specs.Signs.{is_same}
-use Rattle.nf_curve_def.specs.Lines.{checked_line}
-use Rattle.nf_curve_def.specs.Values.{value_from, checked_value}
-use Rattle.nf_curve_laws.proofs.Operations.{is_same_cases}
-use Rattle.nf_curve_laws.proofs.Composed.{rise_rest}
-use Rattle.nf_curve.specs.Places.{count_until, value_between}
-use Rattle.nf_rational_laws.proofs.Chains.{≤ℚ_refl, ≤ℚ_trans, ≤_<_trans}
+use Rattle.std.proofs.Common.{◌≡◌, ℕ, zero, suc, ◌+◌, ◌-◌, ◌<◌, ◌≤◌, List, [], ◌∷◌, length, get_or, ⊎_elim, Bool, true, false, refl, sym, ap, subst, ◌∙◌}
+use Rattle.std.proofs.Common.{arith, Option, Some, None, slice_get, IfSome, Result, Ok, if◌then◌else◌}
+use Rattle.nf_curve.proofs.Common.{none-some, same_Some, slice_get-get_or, ℚ, 0ℚ, ◌≤ℚ◌, ◌<ℚ◌, lt_ℚ, ≤ℚ_of_lt, ≤ℚ_of_same, ≤ℚ_antisymm, not_both_ℚ}
+use Rattle.nf_curve.proofs.Common.{lt_ℚ_cases, Passing, at_part, Part, PassedAt, Point, TimesRise, IsCurve, <_≤_trans, is_same, checked_line, value_from}
+use Rattle.nf_curve.proofs.Common.{is_same_cases, rise_rest, count_until, value_between, ≤ℚ_refl, ≤ℚ_trans, ≤_<_trans}
+use Rattle.nf_curve_def.specs.Values.{checked_value}
 
 -- ---- the place, by the first point's test
 pub place-behind : (time : ℚ) (p : Point) (rest : List Point) → time <ℚ p.0 → count_until time (p ∷ rest) ≡ zero

@@ -1,17 +1,10 @@
 -- A point after the last one.
-use Rattle.std.proofs.Common.{◌≡◌, ℕ, zero, suc, ◌+◌, ◌-◌, ◌<◌, true, List, [], ◌∷◌, ◌++◌, length, ⊎_elim, sym, ap, subst, ◌∙◌, arith}
-use Rattle.std.specs.Prelude.{Some, slice_get}
-use Rattle.std.proofs.lemmas.Option.{none-some, same_Some}
+use Rattle.std.proofs.Common.{◌≡◌, ℕ, zero, suc, ◌+◌, ◌-◌, ◌<◌, true, List, [], ◌∷◌, ◌++◌, length, ⊎_elim, sym, ap, subst, ◌∙◌, arith, Some, slice_get}
+use Rattle.nf_curve.proofs.Common.{none-some, same_Some, ℚ, 0ℚ, ◌≤ℚ◌, ◌<ℚ◌, cmp_ℚ, ≤ℚ_antisymm, lt_or_le_ℚ, TimesRise, IsCurve, Grown, last_time}
 use Rattle.std.specs.Ordering.{MatchOrdering, is_lt}
 use Rattle.std.specs.declared.cmp.Ordering.{Ordering}
 use Rattle.std.specs.declared.cmp.Ordering.TheVariants.{Less, Equal, Greater}
 use Rattle.nf_frac.specs.Total.{ranks_ℚ}
-use Rattle.nf_rational.specs.Rational.{ℚ}
-use Rattle.nf_rational.specs.Operations.{0ℚ}
-use Rattle.nf_rational.specs.Order.{◌≤ℚ◌, ◌<ℚ◌, cmp_ℚ}
-use Rattle.nf_rational_laws.proofs.Order.{≤ℚ_antisymm, lt_or_le_ℚ}
-use Rattle.nf_model.specs.Curve.{TimesRise, IsCurve}
-use Rattle.nf_curve.specs.Points.{Grown, last_time}
 
 TimesRise-append : (x : ℚ × ℚ) (rest : List (ℚ × ℚ)) (p : ℚ × ℚ) → TimesRise (x ∷ rest) → last_time (x ∷ rest) <ℚ p.0 → TimesRise (x ∷ rest ++ p ∷ [])
 TimesRise-append x [] p rise later = (later, tt)

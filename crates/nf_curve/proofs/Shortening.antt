@@ -1,17 +1,9 @@
 -- A curve in short form, point by point.
-use Rattle.std.proofs.Common.{◌≡◌, ℕ, zero, suc, List, [], ◌∷◌, ◌++◌, length, drop, Bool, true, false, refl, sym, ap, ◌∙◌}
-use Rattle.std.specs.Prelude.{Some, slice_get, Ok, Err, if◌then◌else◌}
-use Rattle.nf_rational.specs.Rational.{ℚ}
-use Rattle.nf_frac_def.specs.Passing.{Passing}
-use Rattle.nf_frac_def.specs.declared.Part.{Part}
-use Rattle.nf_frac_def.specs.declared.PassedAt.{PassedAt}
-use Rattle.nf_frac_def.specs.Checked.{Checked, at_part, ◌>>=◌}
-use Rattle.nf_frac_def.proofs.Each.{with_front}
-use Rattle.nf_model.specs.Curve.{Point}
-use Rattle.nf_rational.specs.Signs.{is_same}
-use Rattle.nf_curve_def.specs.Lines.{checked_slope}
-use Rattle.nf_curve_def.specs.Short.{turning, checked_slopes, checked_short}
-use Rattle.nf_rational_laws.proofs.Entries.{drop_entry}
+use Rattle.std.proofs.Common.{◌≡◌, ℕ, zero, suc, List, [], ◌∷◌, ◌++◌, length, drop, Bool, true, false, refl, sym, ap, ◌∙◌, Some, slice_get, Ok, Err}
+use Rattle.std.proofs.Common.{if◌then◌else◌}
+use Rattle.nf_curve.proofs.Common.{ℚ, Passing, Part, PassedAt, Checked, at_part, ◌>>=◌, with_front, Point, is_same, checked_slope, turning, checked_slopes}
+use Rattle.nf_curve.proofs.Common.{drop_entry}
+use Rattle.nf_curve_def.specs.Short.{checked_short}
 use Rattle.nf_curve.proofs.Exits.{after_err, was_ok, front_err, front_more}
 
 -- the points from one on that turn, with the slope before it

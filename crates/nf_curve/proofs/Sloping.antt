@@ -1,15 +1,8 @@
 -- Slopes kept on the way along a curve.
-use Rattle.std.proofs.Common.{◌≡◌, ℕ, ◌-◌, List, refl, sym, ap, subst, ◌∙◌}
-use Rattle.std.proofs.lemmas.Option.{same_Some}
-use Rattle.std.specs.Prelude.{Option, Some, None, slice_get, Result, Ok, Err}
-use Rattle.nf_rational.specs.Rational.{ℚ}
-use Rattle.nf_frac_def.specs.Passing.{Passing, passes_Q}
-use Rattle.nf_frac_def.specs.declared.Part.{Part}
-use Rattle.nf_frac_def.specs.declared.PassedAt.{PassedAt}
-use Rattle.nf_frac_def.specs.Checked.{Checked, at_part, ◌>>=◌}
-use Rattle.nf_model.specs.Curve.{Point}
-use Rattle.nf_curve_def.specs.Lines.{checked_slope, checked_line}
-use Rattle.nf_curve.specs.Slopes.{checked_along, KeepsSlope}
+use Rattle.std.proofs.Common.{◌≡◌, ℕ, ◌-◌, List, refl, sym, ap, subst, ◌∙◌, Option, Some, None, slice_get, Result, Ok, Err}
+use Rattle.nf_curve.proofs.Common.{same_Some, ℚ, Passing, passes_Q, Part, PassedAt, Checked, at_part, ◌>>=◌, Point, checked_slope, KeepsSlope}
+use Rattle.nf_curve_def.specs.Lines.{checked_line}
+use Rattle.nf_curve.specs.Slopes.{checked_along}
 use Rattle.nf_curve.specs.declared.values.PieceSlope.{PieceSlope}
 use Rattle.nf_curve.proofs.Exits.{after_err, after_ok}
 

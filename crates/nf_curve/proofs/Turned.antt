@@ -1,20 +1,8 @@
 -- Whether a curve turns at a time, by its place; and the corners at which two curves differ, one after the other.
-use Rattle.std.proofs.Common.{◌≡◌, ℕ, zero, suc, ◌-◌, ◌<◌, ◌≤◌, List, [], ◌∷◌, ⊎_elim, Bool, true, false, refl, sym, ap, subst, ◌∙◌, arith}
-use Rattle.std.specs.Prelude.{Option, Some, None, slice_get, Ok, if◌then◌else◌}
-use Rattle.nf_rational.specs.Rational.{ℚ}
-use Rattle.nf_rational.specs.Operations.{0ℚ}
-use Rattle.nf_rational.specs.Order.{◌≤ℚ◌, ◌<ℚ◌, lt_ℚ}
-use Rattle.nf_rational_laws.proofs.Order.{≤ℚ_of_lt, ≤ℚ_of_same, not_both_ℚ}
-use Rattle.nf_rational_laws.proofs.Tests.{lt_ℚ_cases}
-use Rattle.nf_frac_def.specs.Passing.{Passing}
-use Rattle.nf_frac_def.specs.Checked.{Checked}
-use Rattle.nf_model.specs.Curve.{Point, TimesRise, IsCurve}
-use Rattle.nf_model_laws.proofs.Affine.{<_≤_trans}
-use Rattle.nf_rational.specs.Signs.{is_same}
-use Rattle.nf_curve_def.specs.Differences.{turn_at, turns_from, checked_turn}
-use Rattle.nf_curve_laws.proofs.Operations.{is_same_cases}
-use Rattle.nf_curve.specs.Places.{count_until}
-use Rattle.nf_curve.specs.Steps.{turn_between}
+use Rattle.std.proofs.Common.{◌≡◌, ℕ, zero, suc, ◌-◌, ◌<◌, ◌≤◌, List, [], ◌∷◌, ⊎_elim, Bool, true, false, refl, sym, ap, subst, ◌∙◌, arith, Option, Some}
+use Rattle.std.proofs.Common.{None, slice_get, Ok, if◌then◌else◌}
+use Rattle.nf_curve.proofs.Common.{ℚ, 0ℚ, ◌≤ℚ◌, ◌<ℚ◌, lt_ℚ, ≤ℚ_of_lt, ≤ℚ_of_same, not_both_ℚ, lt_ℚ_cases, Passing, Checked, Point, TimesRise, IsCurve}
+use Rattle.nf_curve.proofs.Common.{<_≤_trans, is_same, turn_at, turns_from, checked_turn, is_same_cases, count_until, turn_between}
 use Rattle.nf_curve.proofs.Placing.{place-behind, place-past}
 
 -- equal where the time is that of the middle point

@@ -1,21 +1,12 @@
 -- The merge of two curves' times lists their times in order.
-use Rattle.std.proofs.Common.{◌≡◌, ℕ, zero, suc, ◌<◌, List, [], ◌∷◌, length, ⊎_elim, Bool, true, false, refl, sym, ap, subst, ◌∙◌, arith}
-use Rattle.std.proofs.lemmas.Option.{same_Some}
-use Rattle.std.specs.Prelude.{Option, Some, None, slice_get, option_map, IfSome, if◌then◌else◌}
-use Rattle.nf_rational.specs.Rational.{ℚ}
-use Rattle.nf_rational.specs.Operations.{0ℚ}
-use Rattle.nf_rational.specs.Order.{◌≤ℚ◌, ◌<ℚ◌, lt_ℚ, min_ℚ}
-use Rattle.nf_rational_laws.proofs.Order.{≤ℚ_of_lt, ≤ℚ_of_same, not_both_ℚ}
-use Rattle.nf_rational_laws.proofs.Tests.{lt_ℚ_cases}
-use Rattle.nf_model.specs.Curve.{Point, TimesRise, IsCurve}
-use Rattle.nf_curve_def.specs.Times.{merged, times_of, both_times}
+use Rattle.std.proofs.Common.{◌≡◌, ℕ, zero, suc, ◌<◌, List, [], ◌∷◌, length, ⊎_elim, Bool, true, false, refl, sym, ap, subst, ◌∙◌, arith, Option, Some}
+use Rattle.std.proofs.Common.{None, slice_get, option_map, IfSome, if◌then◌else◌}
+use Rattle.nf_curve.proofs.Common.{same_Some, ℚ, 0ℚ, ◌≤ℚ◌, ◌<ℚ◌, lt_ℚ, min_ℚ, ≤ℚ_of_lt, ≤ℚ_of_same, not_both_ℚ, lt_ℚ_cases, Point, TimesRise, IsCurve}
+use Rattle.nf_curve.proofs.Common.{merged, times_of, rise_rest, count_until, points_after, times_after, earlier_of, ComesNext, IsMoment, times_left, Moment}
+use Rattle.nf_curve.proofs.Common.{≤ℚ_refl, ≤ℚ_trans}
+use Rattle.nf_curve_def.specs.Times.{both_times}
 use Rattle.nf_curve_laws.proofs.Times.{merged_from-cases}
-use Rattle.nf_curve_laws.proofs.Composed.{rise_rest}
-use Rattle.nf_curve.specs.Places.{count_until, points_after, times_after, earlier_of, ComesNext}
-use Rattle.nf_curve.specs.Moments.{IsMoment, times_left}
-use Rattle.nf_curve.specs.declared.walk.Moment.{Moment}
 use Rattle.nf_curve.proofs.Placing.{curve-rises}
-use Rattle.nf_rational_laws.proofs.Chains.{≤ℚ_refl, ≤ℚ_trans}
 use Rattle.nf_rational_laws.proofs.Extremes.{min_left, min_right, min_is_left, min_is_right}
 
 -- ---- the points after a time

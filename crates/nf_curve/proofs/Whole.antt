@@ -1,17 +1,9 @@
 -- A curve that ends at the time of its cut is its own cut.
-use Rattle.std.proofs.Common.{◌≡◌, ℕ, zero, suc, ◌+◌, ◌-◌, ◌<◌, ◌≤◌, List, [], ◌∷◌, ◌++◌, length, Bool, refl, sym, ap, ◌∙◌, arith}
-use Rattle.std.proofs.lemmas.Option.{none-some, same_Some, slice_get_past}
-use Rattle.std.specs.Prelude.{Some, None, slice_get, Ok, if◌then◌else◌}
-use Rattle.nf_rational.specs.Rational.{ℚ}
-use Rattle.nf_rational.specs.Operations.{0ℚ}
-use Rattle.nf_rational.specs.Order.{◌≤ℚ◌, ◌<ℚ◌}
-use Rattle.nf_rational_laws.proofs.Tests.{not_less_itself, test_of_less}
-use Rattle.nf_frac_def.specs.Passing.{Passing}
-use Rattle.nf_frac_def.specs.Checked.{Checked, ◌>>=◌}
-use Rattle.nf_model.specs.Curve.{Point, TimesRise, IsCurve}
-use Rattle.nf_curve_def.specs.Values.{points_before, checked_value, checked_cut}
-use Rattle.nf_curve_laws.proofs.Composed.{rise_rest}
-use Rattle.nf_curve.specs.Places.{count_until}
+use Rattle.std.proofs.Common.{◌≡◌, ℕ, zero, suc, ◌+◌, ◌-◌, ◌<◌, ◌≤◌, List, [], ◌∷◌, ◌++◌, length, Bool, refl, sym, ap, ◌∙◌, arith, Some, None, slice_get}
+use Rattle.std.proofs.Common.{Ok, if◌then◌else◌}
+use Rattle.nf_curve.proofs.Common.{none-some, same_Some, slice_get_past, ℚ, 0ℚ, ◌≤ℚ◌, ◌<ℚ◌, not_less_itself, test_of_less, Passing, Checked, ◌>>=◌, Point}
+use Rattle.nf_curve.proofs.Common.{TimesRise, IsCurve, points_before, checked_value, rise_rest, count_until}
+use Rattle.nf_curve_def.specs.Values.{checked_cut}
 use Rattle.nf_curve.proofs.Placing.{place_within, rise-pairs, not-yet, value-at, curve-rises}
 
 -- the points before the last one's time, and the last one, are all

@@ -1,19 +1,11 @@
 -- The loop invariant of a run without a horizon, and the end of the loop.
-use Rattle.std.proofs.Common.{◌≡◌, ℕ, suc, ◌+◌, ◌<◌, add-one, refl, sym, ap, subst, ◌∙◌}
-use Rattle.std.specs.Prelude.{Option, Some, None, IsSome, MatchOption, Result, Ok, Err, IfOk}
-use Rattle.nf_rational.specs.Rational.{ℚ}
-use Rattle.nf_frac_def.specs.Passing.{Passing}
-use Rattle.nf_model.specs.Network.{Network}
-use Rattle.nf_net_def.specs.declared.Cause.{Cause}
-use Rattle.nf_thin_def.specs.PhaseRun.{Standing, IsStart}
+use Rattle.std.proofs.Common.{◌≡◌, ℕ, suc, ◌+◌, ◌<◌, add-one, refl, sym, ap, subst, ◌∙◌, Option, Some, None, IsSome, MatchOption, Result, Ok, Err, IfOk}
+use Rattle.nf_forever.proofs.Common.{ℚ, Passing, Network, Cause, Standing, IsStart, Reaches, starts, IsCauseOn, tail_by, GoesToEnd, GoesForever, FailsOn}
+use Rattle.nf_forever.proofs.Common.{End, Stops, NeverEnds, RunsForever, at_phases, fails, never_ends, goes, IsForeverRun, end_in, IsStopBy}
 use Rattle.nf_phase.specs.ThinFlow.{ThinFlow}
 use Rattle.nf_phase.specs.declared.fault.StepFault.{StepFault}
-use Rattle.nf_phase.specs.Stepping.{Reaches, starts, IsCauseOn, tail_by}
 use Rattle.nf_phase.proofs.Stopping.{stands_stop}
-use Rattle.nf_phase_def.specs.ToEnd.{GoesToEnd, GoesForever, FailsOn}
-use Rattle.nf_forever_def.specs.ForeverRun.{End, Stops, NeverEnds, RunsForever, at_phases, fails, never_ends, goes, IsForeverRun}
 use Rattle.nf_forever.specs.declared.solving.End.{End as Told}
-use Rattle.nf_forever.specs.Ends.{end_in, IsStopBy}
 
 -- From the start the run has reached this state after this many phases, and an end from here is an end from the start.
 pub record GoneOn (passes : Passing) (net : Network) (phases patterns : ℕ) (first : Standing) (count : ℕ) (s : Standing) : Type 0 where

@@ -1,34 +1,23 @@
 -- The result of a run without a horizon can be written; its flow and the flow extended by its tail are equilibria.
-use Rattle.std.proofs.Common.{◌≡◌, ◌↔◌, ℕ, length, sym, subst, refl, ◌∙◌}
-use Rattle.std.specs.Prelude.{Option, Some, None, IfSome, IsSome, Result, Ok, Err, IfOk, option_map}
+use Rattle.std.proofs.Common.{◌≡◌, ◌↔◌, ℕ, length, sym, subst, refl, ◌∙◌, Option, Some, None, IfSome, IsSome, Result, Ok, Err, IfOk, option_map}
+use Rattle.nf_forever.proofs.Common.{ℚ, Passing, Network, IsNetwork, Pattern, IsListedIn, Equilibrium, Cause, Standing, flow_of, Tail, GoesForever, End}
+use Rattle.nf_forever.proofs.Common.{Stops, NeverEnds, RunsForever, at_phases, fails, never_ends, goes, IsForeverRun, Forever, forever_of, IsForever}
+use Rattle.nf_forever.proofs.Common.{HasForm, tail_in, forever_in}
 use Rattle.std.proofs.lemmas.Option.{none-some}
-use Rattle.nf_rational.specs.Rational.{ℚ}
 use Rattle.nf_rational.specs.Operations.{0ℚ}
 use Rattle.nf_rational.specs.Order.{◌≤ℚ◌}
-use Rattle.nf_frac_def.specs.Passing.{Passing}
-use Rattle.nf_model.specs.Network.{Network, IsNetwork}
 use Rattle.nf_model.specs.ThinFlow.{sets_at}
-use Rattle.nf_model.specs.Pattern.{Pattern, IsListedIn}
-use Rattle.nf_model.specs.Equilibrium.{Equilibrium}
-use Rattle.nf_net_def.specs.declared.Cause.{Cause}
 use Rattle.nf_net_laws.proofs.ReportFacts.{have_rates}
-use Rattle.nf_thin_def.specs.PhaseRun.{Standing, flow_of}
-use Rattle.nf_thin_laws.proofs.OneRun.{length-sets}
+use Rattle.nf_thin_laws.proofs.OneRun.{length-sets, goes_knows, start_knows}
 use Rattle.nf_phase_laws.proofs.WellRun.{WellRun}
 use Rattle.nf_phase_laws.proofs.Run.{HasShape-well, HasSlopes-well}
 use Rattle.nf_curve.specs.Flows.{seen_flow as flow_in}
-use Rattle.nf_phase_def.specs.ToEnd.{Tail}
-use Rattle.nf_phase_def.specs.ToEnd.{GoesForever}
-use Rattle.nf_forever_def.specs.ForeverRun.{End, Stops, NeverEnds, RunsForever, at_phases, fails, never_ends, goes, IsForeverRun, Forever, forever_of, IsForever}
 use Rattle.nf_forever_def.specs.Extended.{flow_until}
-use Rattle.nf_forever_def.specs.ForeverText.{HasForm}
-use Rattle.nf_thin_laws.proofs.OneRun.{goes_knows, start_knows}
 use Rattle.nf_forever_laws.proofs.Run.{well_forever, Equilibrium-forever, Equilibrium-until, Equilibrium-forever_of}
 use Rattle.nf_forever_laws.specs.TailGrowth.{TailGrows}
 use Rattle.nf_settling_laws.proofs.Tail.{TailGrows-forever}
 use Rattle.nf_forever.specs.declared.forever.Tail as code
 use Rattle.nf_forever.specs.declared.forever.Forever as told
-use Rattle.nf_forever.specs.Seen.{tail_in, forever_in}
 
 -- ---- the number of states, slopes and flows
 abbrev HasCounts : Network → Standing → End → Type 0

@@ -1,18 +1,11 @@
 -- Signed numbers converted to 128 bits and back.
 use Rattle.std.proofs.Common.{◌≡◌, ℕ, ◌<◌, ◌≤◌, ℤ, pos, negsuc, ◌+ℤ◌, ◌*ℤ◌, nat_abs, sym, ◌∙◌, ap, subst, arith}
+use Rattle.nf_frac.proofs.Common.{mul-le, abs-product, IsGcd, gcd, gcd_pos, gcd-le, greatest, short}
 use mathlib.Core.Path.{ap₂}
 use mir.Syntax.{w128}
 use mir.Val.{to_z, of_z, SFits}
 use mir.Facts.{to_z-of_z, to_z_pos}
-use Rattle.std.proofs.lemmas.Nat.{mul-le}
-use Rattle.nf_rational_laws.proofs.Products.{abs-product}
 use native.Mathlib.Nat.{one-dvd}
-use Rattle.std.specs.Int.{IsGcd}
-use Rattle.nf_rational.specs.Gcd.{gcd}
-use Rattle.nf_rational.specs.Rational.{gcd_pos}
-use Rattle.nf_rational_laws.proofs.Lowest.{gcd-le}
-use Rattle.nf_frac.specs.Parts.{greatest}
-use Rattle.nf_frac.specs.Short.{short}
 
 abbrev pub bits_of : ℤ → ℤ
 bits_of z = to_z w128 (of_z w128 z)

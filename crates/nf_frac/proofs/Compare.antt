@@ -1,17 +1,12 @@
 -- The order of two quotients.
-use Rattle.std.proofs.Common.{◌≡◌, ◌≢◌, ℕ, zero, suc, ◌+◌, ◌*◌, ◌/◌, ◌%◌, ◌<◌, ◌≤◌, ◌⊎◌, inl, inr, ⊎_elim, refl, sym, ◌∙◌, ap, subst, arith, Less, Equal, Greater}
+use Rattle.std.proofs.Common.{◌≡◌, ◌≢◌, ℕ, zero, suc, ◌+◌, ◌*◌, ◌/◌, ◌%◌, ◌<◌, ◌≤◌, ◌⊎◌, inl, inr, ⊎_elim, refl, sym, ◌∙◌, ap, subst, arith, Less, Equal}
+use Rattle.std.proofs.Common.{Greater, ℤ, pos, negsuc, ◌*ℤ◌, ◌<ℤ◌, ◌≤ℤ◌, neg_ℤ, nat_abs, Bool, true, false, cond}
+use Rattle.nf_frac.proofs.Common.{nat_cmp, int_cmp, MatchOrdering, Ordering, int_ranks, int_cmp_is, ℚ, cmp_ℚ, lt-times, le-times, pos_in}
 use mathlib.Core.Path.{ap₂}
 use native.Mathlib.Nat.{div-add-mod, mod-lt, mul-le-mul_right, mul-lt-mul_of_pos_right}
-use Rattle.std.specs.Ordering.{nat_cmp, int_cmp, MatchOrdering}
-use Rattle.std.specs.declared.cmp.Ordering.{Ordering}
-use Rattle.std.specs.Cmp.{int_ranks, int_cmp_is}
-use Rattle.std.proofs.Common.{ℤ, pos, negsuc, ◌*ℤ◌, ◌<ℤ◌, ◌≤ℤ◌, neg_ℤ, nat_abs, Bool, true, false, cond}
 use lib.IntN.{zero-*ℤ}
 use lib.Signed.{lt_z}
 use borrow.Author.Differences.{ints}
-use Rattle.nf_rational.specs.Rational.{ℚ}
-use Rattle.nf_rational.specs.Order.{cmp_ℚ}
-use Rattle.nf_rational_laws.proofs.Ints.{lt-times, le-times, pos_in}
 use Rattle.nf_rational_laws.proofs.Naturals.{compared}
 
 pub cmp_less : (x y : ℕ) → x < y → nat_cmp x y ≡ Less

@@ -1,16 +1,11 @@
 -- The results of `<`, `<=`, `>`, `>=` and `==` for fractions, and for any type that is ordered by the numbers of its values.
-use Rattle.std.proofs.Common.{◌≡◌, ◌≢◌, Bool, true, false, not, cond, ◌&&◌, refl, sym, ◌∙◌, ap}
-use Rattle.std.specs.Prelude.{Option, Some}
-use Rattle.std.specs.Ordering.{is_eq, is_lt, is_le, is_gt, is_ge, is_some_and, MatchOrdering, partial_lt, partial_le}
-use Rattle.std.specs.declared.cmp.Ordering.{Ordering}
+use Rattle.std.proofs.Common.{◌≡◌, ◌≢◌, Bool, true, false, not, cond, ◌&&◌, refl, sym, ◌∙◌, ap, Option, Some}
+use Rattle.nf_frac.proofs.Common.{is_eq, is_lt, is_le, is_gt, is_ge, is_some_and, MatchOrdering, partial_lt, partial_le, Ordering, ℚ, ◌<ℚ◌, cmp_ℚ, le_ℚ}
+use Rattle.nf_frac.proofs.Common.{≤ℚ_of_lt, ≤ℚ_of_same, same_ℚ, ranks_ℚ, same_decides, cmp_matches_same}
 use Rattle.std.specs.declared.cmp.Ordering.TheVariants.{Less, Equal, Greater}
 use mathlib.Core.Path.{ap₂}
-use Rattle.nf_rational.specs.Rational.{ℚ}
-use Rattle.nf_rational.specs.Order.{◌<ℚ◌, cmp_ℚ, le_ℚ, lt_ℚ, min_ℚ, max_ℚ}
-use Rattle.nf_rational_laws.proofs.Order.{≤ℚ_of_lt, ≤ℚ_of_same}
+use Rattle.nf_rational.specs.Order.{lt_ℚ, min_ℚ, max_ℚ}
 use Rattle.nf_rational_laws.proofs.Tests.{test_of_le, test_of_lt}
-use Rattle.nf_frac.specs.Order.{same_ℚ}
-use Rattle.nf_frac.specs.Total.{ranks_ℚ, same_decides, cmp_matches_same}
 
 -- the order of two numbers as a test
 pub le-cmp : (x y : ℚ) → is_le (cmp_ℚ x y) ≡ le_ℚ x y

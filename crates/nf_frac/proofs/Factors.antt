@@ -1,15 +1,11 @@
 -- A sum over the least common denominator can only be reduced by factors of the greatest common divisor of the two denominators.
 use Rattle.std.proofs.Common.{◌≡◌, ℕ, suc, ◌+◌, ◌-◌, ◌*◌, ◌/◌, ℤ, pos, negsuc, ◌+ℤ◌, ◌*ℤ◌, neg_ℤ, nat_abs, sym, ◌∙◌, ap, subst, arith}
+use Rattle.nf_frac.proofs.Common.{IsGcd, IsGcd-swap, same_from_IsGcd, gcd, IsGcd-gcd, ℚ, parts_reduced, abs-mul, abs-neg, apart_parts, divides}
+use Rattle.nf_frac.proofs.Common.{lowest_parts, split_dvd}
 use Prim.Native.Nat.{◌∣◌}
 use lib.IntN.{+ℤ_comm}
 use native.Mathlib.Nat.{dvd_trans, dvd-mul_right, dvd-mul_left, one-dvd, dvd-add, dvd-sub, div-mul_cancel, mul_comm}
 use borrow.Author.Differences.{ints}
-use Rattle.std.specs.Int.{IsGcd}
-use Rattle.std.proofs.lemmas.Nat.Gcd.{IsGcd-swap, same_from_IsGcd}
-use Rattle.nf_rational.specs.Gcd.{gcd, IsGcd-gcd}
-use Rattle.nf_rational.specs.Rational.{ℚ, parts_reduced}
-use Rattle.nf_rational_laws.proofs.Ints.{abs-mul, abs-neg}
-use Rattle.nf_rational_laws.proofs.Products.{apart_parts, divides, lowest_parts, split_dvd}
 
 itself : (a : ℕ) → a ∣ a
 itself a = subst (λ (m : ℕ). a ∣ m) (one_times a) (dvd-mul_right a 1)

@@ -1,13 +1,11 @@
 -- The number of a fraction's stored parts, and the parts of a number.
-use Rattle.std.proofs.Common.{◌≡◌, ℕ, zero, suc, ◌/◌, ◌<◌, ◌≤◌, Bool, true, false, ℤ, pos, neg_ℤ, nat_abs, refl, sym, ◌∙◌, ap, subst, arith}
-use Rattle.std.specs.Prelude.{Option, None, SomeIff}
+use Rattle.std.proofs.Common.{◌≡◌, ℕ, zero, suc, ◌/◌, ◌<◌, ◌≤◌, Bool, true, false, ℤ, pos, neg_ℤ, nat_abs, refl, sym, ◌∙◌, ap, subst, arith, Option, None}
+use Rattle.std.proofs.Common.{SomeIff}
+use Rattle.nf_frac.proofs.Common.{gcd, ℚ, abs_quot, parts_ratio, greatest, InForm, IsWithin, signed}
 use mathlib.Core.Path.{ap₂}
 use lib.Signed.{quot_z}
 use native.Mathlib.Nat.{div-le_self, zero-div}
-use Rattle.nf_rational.specs.Gcd.{gcd}
-use Rattle.nf_rational.specs.Rational.{ℚ, ratio, abs_quot}
-use Rattle.nf_rational.proofs.Lowest.{parts_ratio}
-use Rattle.nf_frac.specs.Parts.{greatest, InForm, IsWithin, signed}
+use Rattle.nf_rational.specs.Rational.{ratio}
 use Rattle.nf_frac.specs.Form.{parts_back}
 use Rattle.nf_frac.proofs.Bits.{bits_of, plain}
 

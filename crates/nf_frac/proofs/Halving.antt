@@ -1,16 +1,11 @@
 -- The greatest common divisor by differences of odd numbers.
 use Rattle.std.proofs.Common.{◌≡◌, ℕ, zero, suc, ◌+◌, ◌-◌, ◌*◌, ◌/◌, ◌%◌, ◌^◌, ◌<◌, min, max, ◌⊎◌, inl, inr, refl, sym, ◌∙◌, ap, subst, arith}
+use Rattle.nf_frac.proofs.Common.{IsGcd, trailing_zeros, bit_at, pow-add, IsGcd-swap, IsGcd-from_mod, IsGcd-from_zero, dvd_refl, dvd_of_mod-eq-zero}
+use Rattle.nf_frac.proofs.Common.{same_from_IsGcd, pow-suc, mod-eq_of_lt, gcd, IsGcd-gcd, IsGcd-scaled, apart_parts, apart_product, split_dvd, gcd-le}
 use Prim.Native.Nat.{◌∣◌}
 use mir.Syntax.{w64}
 use native.Mathlib.Nat.{dvd_trans, dvd-mul_left, mul-dvd-mul_left, mul-div_cancel', one-dvd, mul_comm}
-use Rattle.std.specs.Int.{IsGcd, trailing_zeros, bit_at}
-use Rattle.std.proofs.lemmas.Nat.{pow-add}
 use Rattle.std.proofs.lemmas.Nat.Bits.{bit_at-trailing_zeros}
-use Rattle.std.proofs.lemmas.Nat.Gcd.{IsGcd-swap, IsGcd-from_mod, IsGcd-from_zero, dvd_refl, dvd_of_mod-eq-zero, same_from_IsGcd}
-use Rattle.std.proofs.Math.Nat.{pow-suc, mod-eq_of_lt}
-use Rattle.nf_rational.specs.Gcd.{gcd, IsGcd-gcd, IsGcd-scaled}
-use Rattle.nf_rational_laws.proofs.Products.{apart_parts, apart_product, split_dvd}
-use Rattle.nf_rational_laws.proofs.Lowest.{gcd-le}
 use Rattle.nf_frac.proofs.Bits.{IsGcd-one}
 
 -- ---- the power of 2 in a number

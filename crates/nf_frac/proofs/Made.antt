@@ -1,5 +1,8 @@
 -- A quotient of whole numbers as the ratio of their magnitudes with a sign. The bound on the parts.
-use Rattle.std.proofs.Common.{◌≡◌, ◌≢◌, ℕ, suc, ◌-◌, ◌*◌, ◌%◌, ◌^◌, ◌<◌, ◌≤◌, min, max, Bool, true, false, not, ℤ, pos, negsuc, ◌*ℤ◌, neg_ℤ, nat_abs, [], ◌∷◌, refl, sym, ◌∙◌, ap, subst, arith}
+use Rattle.std.proofs.Common.{◌≡◌, ◌≢◌, ℕ, suc, ◌-◌, ◌*◌, ◌%◌, ◌^◌, ◌<◌, ◌≤◌, min, max, Bool, true, false, not, ℤ, pos, negsuc, ◌*ℤ◌, neg_ℤ, nat_abs, []}
+use Rattle.std.proofs.Common.{◌∷◌, refl, sym, ◌∙◌, ap, subst, arith}
+use Rattle.nf_frac.proofs.Common.{same_from_IsGcd, gcd, IsGcd-gcd, ℚ, ratio, 0ℚ, ◌/ℚ◌, num-ratio, /ℚ-unique, abs_positive, bound_of, greatest, InForm}
+use Rattle.nf_frac.proofs.Common.{IsWithin, IsMade, signed, AreShortParts}
 use mathlib.Core.Path.{ap₂}
 use mathlib.Core.Bool.{beq}
 use borrow.Author.Differences.{ints}
@@ -8,18 +11,10 @@ use native.Mathlib.Nat.{mod-le, one-dvd}
 use mir.Syntax.{w128}
 use mir.Val.{to_z}
 use Rattle.std.proofs.Math.Pow.{pow_mono}
-use Rattle.std.proofs.lemmas.Nat.Gcd.{same_from_IsGcd}
-use Rattle.nf_rational.specs.Gcd.{gcd, IsGcd-gcd}
-use Rattle.nf_rational.specs.Rational.{ℚ, ratio}
-use Rattle.nf_rational.specs.Operations.{0ℚ, whole, ◌/ℚ◌}
-use Rattle.nf_rational.proofs.Lowest.{num-ratio}
+use Rattle.nf_rational.specs.Operations.{whole}
 use Rattle.nf_rational_laws.proofs.Polynomial.{ring, combine, using, done, reading}
 use Rattle.nf_rational_laws.proofs.IntegerRing.{ints_ring}
 use Rattle.nf_rational_laws.proofs.Ratio.{Is-same, Is-times, Is-whole, Is-ratio}
-use Rattle.nf_rational_laws.proofs.Quotient.{/ℚ-unique, abs_positive}
-use Rattle.nf_frac_def.specs.Passing.{bound_of}
-use Rattle.nf_frac.specs.Parts.{greatest, InForm, IsWithin, IsMade, signed}
-use Rattle.nf_frac.specs.Short.{AreShortParts}
 use Rattle.nf_frac.proofs.Bits.{cast_plain}
 use Rattle.nf_frac.proofs.Form.{ratio_within}
 

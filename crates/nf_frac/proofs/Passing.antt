@@ -1,19 +1,14 @@
 -- The results of the four operations, and which operations exceed the bound.
-use Rattle.std.proofs.Common.{◌≡◌, ℕ, ◌*◌, ◌/◌, ◌≤◌, Bool, true, false, cond, ltb, pos, ◌*ℤ◌, nat_abs, refl, sym, ◌∙◌, ap, subst, arith}
-use Rattle.std.specs.Prelude.{Ok, Err}
-use Rattle.std.proofs.Math.Nat.{le_trans}
+use Rattle.std.proofs.Common.{◌≡◌, ℕ, ◌*◌, ◌/◌, ◌≤◌, Bool, true, false, cond, ltb, pos, ◌*ℤ◌, nat_abs, refl, sym, ◌∙◌, ap, subst, arith, Ok, Err}
+use Rattle.nf_frac.proofs.Common.{le_trans, gcd, ℚ, part_pos, neg_ℚ, inv_ℚ, ◌+ℚ◌, ◌*ℚ◌, plus_over_lcm, bound_of, is_wide, sum_is_wide, passes_Q, IsWithin}
+use Rattle.nf_frac.proofs.Common.{SumFits, none_of, neither, not_lower, narrow_in, narrow_out}
 use native.Mathlib.Nat.{mul-pos}
 use borrow.Author.Tests.{ltb-false}
-use Rattle.nf_rational.specs.Gcd.{gcd}
-use Rattle.nf_rational.specs.Rational.{ℚ, part_pos}
-use Rattle.nf_rational.specs.Operations.{neg_ℚ, inv_ℚ, ◌+ℚ◌, ◌-ℚ◌, ◌*ℚ◌, ◌/ℚ◌}
-use Rattle.nf_rational_laws.proofs.Lowest.{plus_over_lcm}
+use Rattle.nf_rational.specs.Operations.{◌-ℚ◌, ◌/ℚ◌}
 use Rattle.nf_frac_def.specs.declared.Op.{Op}
 use Rattle.nf_frac_def.specs.declared.Op.TheVariants.{Sum, Difference, Product, Quotient}
-use Rattle.nf_frac_def.specs.Passing.{bound_of, beyond, is_wide, sum_is_wide, passes_Q}
+use Rattle.nf_frac_def.specs.Passing.{beyond}
 use Rattle.nf_frac_def.specs.Checked.{checked}
-use Rattle.nf_frac.specs.Parts.{IsWithin, SumFits}
-use Rattle.nf_frac.specs.Narrow.{none_of, neither, not_lower, narrow_in, narrow_out}
 use Rattle.nf_frac.proofs.Form.{ratio_within}
 
 -- ---- a sum

@@ -1,13 +1,9 @@
 -- The computed product: each numerator is reduced with the other denominator before the multiplication.
 use Rattle.std.proofs.Common.{◌≡◌, ℕ, ◌*◌, ◌/◌, ◌≤◌, ℤ, pos, ◌*ℤ◌, nat_abs, sym, ◌∙◌, ap, subst, arith}
+use Rattle.nf_frac.proofs.Common.{gcd, ℚ, abs_quot, ◌*ℚ◌, num_times, den_times, greatest, IsWithin}
 use mathlib.Core.Path.{ap₂}
 use lib.Signed.{quot_z}
 use native.Mathlib.Nat.{div-le_self}
-use Rattle.nf_rational.specs.Gcd.{gcd}
-use Rattle.nf_rational.specs.Rational.{ℚ, abs_quot}
-use Rattle.nf_rational.specs.Operations.{◌*ℚ◌}
-use Rattle.nf_rational_laws.proofs.Products.{num_times, den_times}
-use Rattle.nf_frac.specs.Parts.{greatest, IsWithin}
 use Rattle.nf_frac.proofs.Bits.{bits_of, plain}
 
 -- the numerator n of x and the denominator e of y

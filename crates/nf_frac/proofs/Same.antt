@@ -1,15 +1,11 @@
 -- The computed test for equality.
 use Rattle.std.proofs.Common.{◌≡◌, ℕ, Bool, true, false, ◌&&◌, eqb, ℤ, refl, sym, ◌∙◌, ap}
+use Rattle.nf_frac.proofs.Common.{one_answer, int_eq, signed_Decides, ℚ, same_ℚ}
 use mathlib.Core.Path.{ap₂}
 use mir.Syntax.{Width}
 use mir.Val.{to_z, of_z, SFits}
 use mir.Facts.{to_z-of_z}
 use borrow.Author.Tests.{eqb-true, eq-eqb}
-use Rattle.std.specs.Bool.{one_answer}
-use Rattle.std.specs.Ordering.{int_eq}
-use Rattle.std.specs.Cmp.{signed_Decides}
-use Rattle.nf_rational.specs.Rational.{ℚ}
-use Rattle.nf_frac.specs.Order.{same_ℚ}
 use Rattle.nf_frac.proofs.Form.{Parts}
 
 same_bits : (w : Width) (n m : ℤ) → SFits w n → SFits w m → eqb (of_z w n) (of_z w m) ≡ int_eq n m

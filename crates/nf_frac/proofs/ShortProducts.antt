@@ -1,11 +1,8 @@
 -- The computed product of small numbers, if it is small too.
 use Rattle.std.proofs.Common.{◌≡◌, ℕ, ◌/◌, ◌≤◌, ℤ, pos, nat_abs, sym, ap, ◌∙◌}
+use Rattle.nf_frac.proofs.Common.{gcd, ℚ, quot_one, over_one, short}
 use mathlib.Core.Path.{ap₂}
 use lib.Signed.{quot_z}
-use Rattle.nf_rational.specs.Gcd.{gcd}
-use Rattle.nf_rational.specs.Rational.{ℚ}
-use Rattle.nf_rational.proofs.Lowest.{quot_one, over_one}
-use Rattle.nf_frac.specs.Short.{short}
 use Rattle.nf_frac.proofs.SmallParts.{bits_64, plain_64, gcd_one}
 use Rattle.nf_frac.proofs.SmallSums.{part_plain}
 

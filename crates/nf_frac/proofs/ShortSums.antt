@@ -1,14 +1,7 @@
 -- The computed sum of two numbers with equal denominators.
 use Rattle.std.proofs.Common.{◌≡◌, ℕ, ◌*◌, ◌/◌, ◌<◌, ◌≤◌, ℤ, pos, ◌+ℤ◌, ◌*ℤ◌, nat_abs, refl, sym, ◌∙◌, ap, subst, arith}
-use Rattle.std.proofs.Math.Nat.{div_self}
+use Rattle.nf_frac.proofs.Common.{div_self, ℚ, ratio, gcd, ◌+ℚ◌, plus_over_lcm, times_one, greatest, SumFits, short}
 use mathlib.Core.Path.{ap₂}
-use Rattle.nf_rational.specs.Rational.{ℚ, ratio}
-use Rattle.nf_rational.specs.Gcd.{gcd}
-use Rattle.nf_rational.specs.Operations.{◌+ℚ◌}
-use Rattle.nf_rational_laws.proofs.Lowest.{plus_over_lcm}
-use Rattle.nf_rational_laws.proofs.Order.{times_one}
-use Rattle.nf_frac.specs.Parts.{greatest, SumFits}
-use Rattle.nf_frac.specs.Short.{short}
 use Rattle.nf_frac.proofs.Bits.{bits_of, plain, kept_within}
 use Rattle.nf_frac.proofs.Factors.{left_over, right_over, sum_over}
 use Rattle.nf_frac.proofs.SmallParts.{bits_64, plain_64, gcd_itself, short_total}

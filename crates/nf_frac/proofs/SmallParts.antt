@@ -1,5 +1,7 @@
 -- The number of a small fraction's stored parts, and the parts of a number.
 use Rattle.std.proofs.Common.{◌≡◌, ℕ, ◌+◌, ◌/◌, ◌%◌, ◌≤◌, ℤ, pos, negsuc, ◌+ℤ◌, ◌*ℤ◌, nat_abs, refl, sym, ◌∙◌, ap, subst, arith}
+use Rattle.nf_frac.proofs.Common.{IsGcd, same_from_IsGcd, IsGcd-from_mod, dvd_refl, gcd, IsGcd-gcd, ℚ, ratio, abs_quot, parts_ratio, greatest, IsWithin}
+use Rattle.nf_frac.proofs.Common.{short, AreShortParts, short_back}
 use mathlib.Core.Path.{ap₂}
 use mir.Syntax.{w64, w128}
 use mir.Val.{to_z, of_z, SFits}
@@ -7,13 +9,6 @@ use mir.Facts.{to_z-of_z, to_z_pos}
 use lib.Signed.{quot_z}
 use native.Mathlib.Nat.{div-le_self, one-dvd}
 use borrow.Author.Differences.{ints}
-use Rattle.std.specs.Int.{IsGcd}
-use Rattle.std.proofs.lemmas.Nat.Gcd.{same_from_IsGcd, IsGcd-from_mod, dvd_refl}
-use Rattle.nf_rational.specs.Gcd.{gcd, IsGcd-gcd}
-use Rattle.nf_rational.specs.Rational.{ℚ, ratio, abs_quot}
-use Rattle.nf_rational.proofs.Lowest.{parts_ratio}
-use Rattle.nf_frac.specs.Parts.{greatest, IsWithin}
-use Rattle.nf_frac.specs.Short.{short, AreShortParts, short_back}
 use Rattle.nf_frac.proofs.Bits.{bits_of, fits_128, plain, short_product}
 use Rattle.nf_frac.proofs.Form.{Parts}
 

@@ -1,10 +1,7 @@
 -- No operation on two small values exceeds the widest bound.
 use Rattle.std.proofs.Common.{◌≡◌, ◌≢◌, ℕ, sym, ◌∙◌, ap, subst}
+use Rattle.nf_frac.proofs.Common.{ℚ, 0ℚ, neg_ℚ, inv_ℚ, ◌+ℚ◌, ◌*ℚ◌, IsWithin, SumFits, short, AreSmall}
 use mathlib.Core.Path.{ap₂}
-use Rattle.nf_rational.specs.Rational.{ℚ}
-use Rattle.nf_rational.specs.Operations.{0ℚ, neg_ℚ, inv_ℚ, ◌+ℚ◌, ◌*ℚ◌}
-use Rattle.nf_frac.specs.Parts.{IsWithin, SumFits}
-use Rattle.nf_frac.specs.Short.{short, AreSmall}
 use Rattle.nf_frac.proofs.SmallSums.{sum_fits, product_fits}
 use Rattle.nf_frac.proofs.Turned.{neg_within, inv_within}
 

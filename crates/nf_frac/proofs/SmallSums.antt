@@ -1,5 +1,7 @@
 -- The computed sums and products of small fractions: every number in them has at most 127 bits.
 use Rattle.std.proofs.Common.{◌≡◌, ℕ, ◌*◌, ◌/◌, ◌<◌, ◌≤◌, ℤ, pos, ◌+ℤ◌, ◌*ℤ◌, nat_abs, sym, ◌∙◌, ap, subst, arith}
+use Rattle.nf_frac.proofs.Common.{mul-le, gcd, IsGcd-gcd, ℚ, ratio, gcd_pos, part_pos, ◌+ℚ◌, abs-mul, plus_over_lcm, num_times, den_times, num_zero}
+use Rattle.nf_frac.proofs.Common.{greatest, InForm, IsWithin, SumFits, short}
 use mathlib.Core.Path.{ap₂}
 use Prim.Native.Nat.{◌∣◌}
 use lib.Signed.{quot_z}
@@ -7,17 +9,8 @@ use mir.Syntax.{w64, w128}
 use mir.Val.{to_z, of_z, SFits}
 use mir.Facts.{to_z_pos}
 use native.Mathlib.Nat.{mul-pos, dvd_trans, mul-div_cancel', eq_of_mul-eq-mul_left}
-use Rattle.std.proofs.lemmas.Nat.{mul-le}
-use Rattle.nf_rational.specs.Gcd.{gcd, IsGcd-gcd}
-use Rattle.nf_rational.specs.Rational.{ℚ, ratio, gcd_pos, part_pos}
-use Rattle.nf_rational.specs.Operations.{◌+ℚ◌, ◌*ℚ◌}
+use Rattle.nf_rational.specs.Operations.{◌*ℚ◌}
 use Rattle.nf_rational_laws.proofs.Field.{+ℚ_idl, +ℚ_comm}
-use Rattle.nf_rational_laws.proofs.Ints.{abs-mul}
-use Rattle.nf_rational_laws.proofs.Lowest.{plus_over_lcm}
-use Rattle.nf_rational_laws.proofs.Products.{num_times, den_times}
-use Rattle.nf_rational_laws.proofs.Quotient.{num_zero}
-use Rattle.nf_frac.specs.Parts.{greatest, InForm, IsWithin, SumFits}
-use Rattle.nf_frac.specs.Short.{short}
 use Rattle.nf_frac.proofs.Bits.{bits_of, plain, fits_128, short_product}
 use Rattle.nf_frac.proofs.Factors.{left_over, right_over, sum_over, factors_of_sum}
 use Rattle.nf_frac.proofs.Form.{num_of, den_of, ratio_within, form_of, value_of}

@@ -1,12 +1,8 @@
 -- The computed sum.
 use Rattle.std.proofs.Common.{◌≡◌, ℕ, ◌*◌, ◌/◌, ◌<◌, ◌≤◌, ℤ, pos, ◌+ℤ◌, ◌*ℤ◌, nat_abs, sym, ◌∙◌, ap, subst, arith}
+use Rattle.nf_frac.proofs.Common.{gcd, ℚ, ratio, part_pos, ◌+ℚ◌, plus_over_lcm, SumFits}
 use mathlib.Core.Path.{ap₂}
 use native.Mathlib.Nat.{mul-pos}
-use Rattle.nf_rational.specs.Gcd.{gcd}
-use Rattle.nf_rational.specs.Rational.{ℚ, ratio, part_pos}
-use Rattle.nf_rational.specs.Operations.{◌+ℚ◌}
-use Rattle.nf_rational_laws.proofs.Lowest.{plus_over_lcm}
-use Rattle.nf_frac.specs.Parts.{SumFits}
 use Rattle.nf_frac.proofs.Factors.{left_over, right_over, sum_over, factors_of_sum}
 
 -- converting a number to its bits and back does not change it if it is at most `top` in magnitude

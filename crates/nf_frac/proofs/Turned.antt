@@ -1,16 +1,11 @@
 -- The negation and the reciprocal of a fraction.
 use Rattle.std.proofs.Common.{◌≡◌, ◌≢◌, ℕ, zero, suc, ◌<◌, ◌≤◌, Bool, true, false, ℤ, pos, negsuc, ◌-ℤ◌, neg_ℤ, nat_abs, refl, sym, ◌∙◌, ap, subst, arith}
+use Rattle.nf_frac.proofs.Common.{IsGcd-swap, same_from_IsGcd, gcd, IsGcd-gcd, ℚ, 0ℚ, signed_as, num-ratio, den-ratio, IsWithin, signed, abs_positive}
+use Rattle.nf_frac.proofs.Common.{num_zero, abs-neg}
 use mathlib.Core.Path.{ap₂}
 use lib.Signed.{lt_z}
 use borrow.Author.Differences.{ints}
-use Rattle.std.proofs.lemmas.Nat.Gcd.{IsGcd-swap, same_from_IsGcd}
-use Rattle.nf_rational.specs.Gcd.{gcd, IsGcd-gcd}
-use Rattle.nf_rational.specs.Rational.{ℚ}
-use Rattle.nf_rational.specs.Operations.{0ℚ, neg_ℚ, inv_ℚ, signed_as}
-use Rattle.nf_rational.proofs.Lowest.{num-ratio, den-ratio}
-use Rattle.nf_frac.specs.Parts.{IsWithin, signed}
-use Rattle.nf_rational_laws.proofs.Quotient.{abs_positive, num_zero}
-use Rattle.nf_rational_laws.proofs.Ints.{abs-neg}
+use Rattle.nf_rational.specs.Operations.{neg_ℚ, inv_ℚ}
 
 -- ---- the negation
 neg_lowest : (x : ℚ) → gcd (nat_abs (neg_ℤ x.num)) x.den ≡ 1

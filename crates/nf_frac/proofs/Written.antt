@@ -1,12 +1,10 @@
 -- Parsed and printed fractions.
-use Rattle.std.proofs.Common.{◌≡◌, ℕ, ◌<◌, ◌≤◌, List, ℤ, nat_abs, sym, ◌∙◌, ap, subst, arith}
-use Rattle.std.specs.Prelude.{Ok}
+use Rattle.std.proofs.Common.{◌≡◌, ℕ, ◌<◌, ◌≤◌, List, ℤ, nat_abs, sym, ◌∙◌, ap, subst, arith, Ok}
+use Rattle.nf_frac.proofs.Common.{ℚ, ratio, greatest, IsWithin}
 use mathlib.Core.Path.{ap₂}
-use Rattle.nf_rational.specs.Rational.{ℚ, ratio}
 use Rattle.nf_frac_words.specs.Numbers.{number_of, decimal_of}
 use Rattle.nf_frac_words.specs.Printed.{printed, printed_parts}
 use Rattle.nf_frac_words.proofs.ReadBack.{number_read, number_read_as_decimal}
-use Rattle.nf_frac.specs.Parts.{greatest, IsWithin}
 use Rattle.nf_frac.proofs.Bits.{bits_of, plain}
 use Rattle.nf_frac.proofs.Form.{ratio_within}
 

@@ -1,26 +1,21 @@
 -- A ladder is a network within the limits of a file, and its canonical text is read as it.
-use Rattle.std.proofs.Common.{map, ◌≡◌, ℕ, suc, ◌+◌, ◌-◌, ◌*◌, ◌%◌, ◌<◌, ◌≤◌, true, false, not, List, [], ◌∷◌, ◌++◌, length, Option, Some, None, Ok, pos, codes, unwrap_or, bytes_eq, inl, refl, sym, ◌∙◌, ap, subst, arith}
+use Rattle.std.proofs.Common.{map, ◌≡◌, ℕ, suc, ◌+◌, ◌-◌, ◌*◌, ◌%◌, ◌<◌, ◌≤◌, true, false, not, List, [], ◌∷◌, ◌++◌, length, Option, Some, None, Ok, pos}
+use Rattle.std.proofs.Common.{codes, unwrap_or, bytes_eq, inl, refl, sym, ◌∙◌, ap, subst, arith}
+use Rattle.nf_gen.proofs.Common.{length-map, AllByRecursion, AllZip, IsDistinct, list_all, nn_whole, Name, is_name, has_name, place_of, with_names}
+use Rattle.nf_gen.proofs.Common.{NamedLink, numbered, links_by_name, active_links, ends, names_of, IsReached, LeavesUnreached, BreaksRule, closing_rules}
+use Rattle.nf_gen.proofs.Common.{marked, network_of, AreActive, Reads, canonical, IsFractionPiece, IsNamedLink, IsNamed, name_at-place, place_below}
+use Rattle.nf_gen.proofs.Common.{bytes_eq-self, is_named, every_append, drawn, upper, lower, Ends, rails_on, rung_at, links_in, links_along, links_down}
+use Rattle.nf_gen.proofs.Common.{links_out, ladder_ends, drawn_links, drawn_pieces, ladder_nodes, ladder_links}
 use Rattle.std.specs.Bool.{Decides}
-use Rattle.std.proofs.lemmas.List.{length-map}
-use Rattle.std.specs.List.{AllByRecursion, AllZip, IsDistinct, list_all}
 use Rattle.nf_rational.specs.Rational.{ratio}
 use Rattle.nf_rational.specs.Gcd.{gcd}
 use Rattle.nf_rational.specs.Operations.{whole}
 use Rattle.nf_rational.specs.Order.{le_ℚ}
-use Rattle.nf_rational_laws.proofs.Order.{nn_whole}
-use Rattle.nf_net_def.specs.Names.{Name, is_name, has_name, place_of, with_names}
-use Rattle.nf_net_def.specs.Named.{NamedLink, numbered, links_by_name, active_links, ends, names_of}
-use Rattle.nf_net_def.specs.NetClosing.{IsReached, LeavesUnreached, BreaksRule, closing_rules, marked, network_of, AreActive}
-use Rattle.nf_net_def.specs.NetFile.{Reads}
-use Rattle.nf_net_def.specs.NetText.{canonical}
-use Rattle.nf_net_def.specs.WellNamed.{IsFractionPiece, IsNamedLink, IsNamed}
-use Rattle.nf_net_laws.proofs.NameFacts.{name_at-place, place_below, bytes_eq-self}
 use Rattle.nf_net_laws.proofs.LinesBack.{Rises, AreNotNegative}
 use Rattle.nf_net_laws.proofs.DraftKept.{IsGoodDraft}
 use Rattle.nf_net_laws.proofs.AcceptedNodes.{all_implied}
-use Rattle.nf_net_laws.proofs.AcceptedNamed.{is_named, every_append}
 use Rattle.nf_net_laws.proofs.CanonicalBack.{canonical_back}
-use Rattle.nf_gen.specs.Ladder.{drawn, upper, lower, Ends, rails_on, rung_at, links_in, links_along, links_down, links_out, ladder_ends, drawn_links, drawn_pieces, ladder_nodes, ladder_links, ladder}
+use Rattle.nf_gen.specs.Ladder.{ladder}
 use Rattle.nf_gen.specs.Laws.{IsLadder}
 use Rattle.nf_gen.proofs.Wholes.{small_fraction, above_zero}
 use Rattle.nf_gen.proofs.Ranges.{all_flat, all_map}

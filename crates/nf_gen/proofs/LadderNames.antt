@@ -1,18 +1,15 @@
 -- The names of a ladder: they are names, and no two nodes and no two links have the same.
-use Rattle.std.proofs.Common.{◌≡◌, ℕ, zero, suc, ◌+◌, ◌-◌, ◌<◌, ◌≤◌, ◌==◌, ◌||◌, ◌&&◌, Bool, true, false, List, [], ◌∷◌, ◌++◌, length, map, flat_map, nat_le, codes, bytes_eq, inl, inr, refl, sym, ◌∙◌, ap, subst, arith}
-use Rattle.std.specs.List.{AllByRecursion, IsDistinct, list_all, range_with_len}
+use Rattle.std.proofs.Common.{◌≡◌, ℕ, zero, suc, ◌+◌, ◌-◌, ◌<◌, ◌≤◌, ◌==◌, ◌||◌, ◌&&◌, Bool, true, false, List, [], ◌∷◌, ◌++◌, length, map, flat_map}
+use Rattle.std.proofs.Common.{nat_le, codes, bytes_eq, inl, inr, refl, sym, ◌∙◌, ap, subst, arith}
+use Rattle.nf_gen.proofs.Common.{AllByRecursion, list_all, range_with_len, and_parts, and_from, or_left, or_right, le-leb, cases_eq, are_digits, digits_of}
+use Rattle.nf_gen.proofs.Common.{Name, is_name_byte, is_name, has_name, same_names, bytes_eq-self, has_none, map-append, upper, lower, rung, Ends, rails_on}
+use Rattle.nf_gen.proofs.Common.{rung_at, links_in, links_along, links_down, links_out, ladder_ends, rung_nodes, every_append}
+use Rattle.std.specs.List.{IsDistinct}
 use Rattle.std.specs.Char.{is_ascii_digit, is_ascii_alphanumeric}
 use Rattle.std.specs.Int.{is_in_range}
-use Rattle.std.proofs.lemmas.Bool.{and_parts, and_from, or_left, or_right, le-leb, cases_eq}
-use Rattle.nf_frac_words.specs.Digits.{are_digits, digits_of}
 use Rattle.nf_frac_words.proofs.Digits.{digits_injective, are_digits-digits_of}
-use Rattle.nf_net_def.specs.Names.{Name, is_name_byte, is_name, has_name}
-use Rattle.nf_net_laws.proofs.NameFacts.{same_names, bytes_eq-self, has_none}
-use Rattle.nf_net_laws.proofs.LinkFacts.{map-append}
 use Rattle.nf_net_laws.proofs.ShortWords.{length_digits}
-use Rattle.nf_gen.specs.Ladder.{upper, lower, rung, Ends, rails_on, rung_at, links_in, links_along, links_down, links_out, ladder_ends, rung_nodes}
 use Rattle.nf_gen.proofs.Ranges.{all_flat, all_map}
-use Rattle.nf_net_laws.proofs.AcceptedNamed.{every_append}
 
 -- ---- names that differ
 differ : (a b : Name) → (a ≡ b → ⊥) → bytes_eq a b ≡ false

@@ -1,15 +1,12 @@
 -- The nodes of a ladder: those that its links lead from and to, in the order of first appearance.
-use Rattle.std.proofs.Common.{◌≡◌, ℕ, zero, suc, ◌+◌, ◌-◌, ◌*◌, ◌≤◌, Bool, true, List, [], ◌∷◌, ◌++◌, length, map, flat_map, codes, refl, sym, ◌∙◌, ap, arith, append_assoc, length-append}
-use Rattle.std.specs.List.{AllByRecursion, list_all, range_with_len}
-use Rattle.std.proofs.lemmas.Bool.{and_from, or_from, or_left}
-use Rattle.std.proofs.lemmas.Grind.{flat_map-append}
-use Rattle.nf_net_def.specs.Names.{Name, is_name, has_name, with_names}
-use Rattle.nf_net_def.specs.Named.{NamedLink, ends, names_of}
-use Rattle.nf_net_laws.proofs.NameFacts.{has_name-append, with_name_there, with_name_new, with_names-append}
-use Rattle.nf_gen.specs.Ladder.{upper, lower, Ends, rails_on, rung_at, links_in, links_along, links_down, links_out, ladder_ends, drawn_links, rung_nodes, ladder_nodes}
+use Rattle.std.proofs.Common.{◌≡◌, ℕ, zero, suc, ◌+◌, ◌-◌, ◌*◌, ◌≤◌, Bool, true, List, [], ◌∷◌, ◌++◌, length, map, flat_map, codes, refl, sym, ◌∙◌, ap}
+use Rattle.std.proofs.Common.{arith, append_assoc, length-append}
+use Rattle.nf_gen.proofs.Common.{AllByRecursion, list_all, range_with_len, and_from, or_from, or_left, flat_map-append, Name, is_name, has_name, with_names}
+use Rattle.nf_gen.proofs.Common.{NamedLink, ends, names_of, has_name-append, with_name_there, with_name_new, with_names-append, upper, lower, Ends}
+use Rattle.nf_gen.proofs.Common.{rails_on, rung_at, links_in, links_along, links_down, links_out, ladder_ends, drawn_links, rung_nodes, ladder_nodes}
+use Rattle.nf_gen.proofs.Common.{every_append}
 use Rattle.nf_gen.proofs.Ranges.{all_flat, all_map, count_push}
 use Rattle.nf_gen.proofs.LadderNames.{lettered_is_name, no_upper, no_lower, has_upper, has_lower}
-use Rattle.nf_net_laws.proofs.AcceptedNamed.{every_append}
 
 -- ---- what is drawn changes no names
 -- the ends of links, in order

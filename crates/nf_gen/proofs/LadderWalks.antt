@@ -1,25 +1,13 @@
 -- Walks along a ladder: each node is reached from the source, and transit sums are whole numbers that fit.
-use Rattle.std.proofs.Common.{◌≡◌, ℕ, zero, suc, ◌+◌, ◌-◌, ◌*◌, ◌%◌, ◌<◌, ◌≤◌, true, false, List, [], ◌∷◌, ◌++◌, length, slice_get, Some, pos, codes, refl, sym, ◌∙◌, ap, subst, arith, length-append}
-use Rattle.std.specs.List.{AllByRecursion}
-use Rattle.nf_rational.specs.Rational.{ℚ}
-use Rattle.nf_rational.specs.Operations.{0ℚ, whole, ◌+ℚ◌}
-use Rattle.nf_rational.specs.Order.{◌≤ℚ◌, ◌<ℚ◌}
-use Rattle.nf_rational_laws.proofs.Order.{<ℚ_irrefl}
-use Rattle.nf_frac_def.specs.declared.Op.TheVariants.{Sum}
-use Rattle.nf_frac_def.specs.Passing.{passes_Q}
+use Rattle.std.proofs.Common.{◌≡◌, ℕ, zero, suc, ◌+◌, ◌-◌, ◌*◌, ◌%◌, ◌<◌, ◌≤◌, true, false, List, [], ◌∷◌, ◌++◌, length, slice_get, Some, pos, codes, refl}
+use Rattle.std.proofs.Common.{sym, ◌∙◌, ap, subst, arith, length-append}
+use Rattle.nf_gen.proofs.Common.{AllByRecursion, ℚ, 0ℚ, whole, ◌+ℚ◌, ◌≤ℚ◌, ◌<ℚ◌, <ℚ_irrefl, Sum, passes_Q, hop_of, Name, place_of, name_at, NamedLink}
+use Rattle.nf_gen.proofs.Common.{numbered, Draft, draft_hops, source_place, HasZeroCycle, HasPassingSum, all_at, place_at, place_below, entry_all, CameFrom}
+use Rattle.nf_gen.proofs.Common.{came_from, walk_push, Entry, not_both, drawn, upper, lower, Ends, link_from, rails_on, links_in, links_along, links_down}
+use Rattle.nf_gen.proofs.Common.{links_out, ladder_ends, drawn_link, drawn_links, drawn_pieces, rung_nodes, ladder_nodes, ladder_links}
 use Rattle.nf_model.specs.Walk.{Hop, IsHop, IsWalk, transit_sum}
-use Rattle.nf_model.specs.Network.{hop_of}
 use Rattle.nf_model_laws.proofs.Networks.{transit_of-hop}
-use Rattle.nf_net_def.specs.Names.{Name, place_of, name_at}
-use Rattle.nf_net_def.specs.Named.{NamedLink, numbered}
-use Rattle.nf_net_def.specs.NetLines.{Draft}
-use Rattle.nf_net_def.specs.NetClosing.{draft_hops, source_place, HasZeroCycle, HasPassingSum}
-use Rattle.nf_net_laws.proofs.NameFacts.{all_at, place_at, place_below}
-use Rattle.nf_net_laws.proofs.WalkFacts.{entry_all, CameFrom, came_from, walk_push}
-use Rattle.nf_net_laws.proofs.MarkedFacts.{Entry}
 use Rattle.nf_rational_laws.proofs.Entries.{slice_get-image}
-use Rattle.nf_rational_laws.proofs.Results.{not_both}
-use Rattle.nf_gen.specs.Ladder.{drawn, upper, lower, Ends, link_from, rails_on, links_in, links_along, links_down, links_out, ladder_ends, drawn_link, drawn_links, drawn_pieces, rung_nodes, ladder_nodes, ladder_links}
 use Rattle.nf_gen.proofs.Wholes.{small_sum, sum_whole, below_whole, above_zero}
 use Rattle.nf_gen.proofs.Ranges.{all_flat, entry_left, entry_right, entry_flat}
 use Rattle.nf_gen.proofs.LadderNames.{distinct_nodes}

@@ -1,3 +1,4 @@
+mod Common
 pub mod Wholes
 pub mod Ranges
 pub mod LadderNames

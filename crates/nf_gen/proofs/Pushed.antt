@@ -1,6 +1,6 @@
 -- The words of a line, put behind a text one after the other.
 use Rattle.std.proofs.Common.{◌≡◌, ℕ, List, [], ◌∷◌, ◌++◌, codes, ◌∙◌, ap, append_assoc}
-use Rattle.nf_text_def.specs.Words.{line_of_words}
+use Rattle.nf_gen.proofs.Common.{line_of_words}
 use Rattle.nf_net.proofs.TextLines.{more_words}
 
 words_joined : (a b c d e : List ℕ) → (((a ++ 32 ∷ b) ++ 32 ∷ c) ++ 32 ∷ d) ++ 32 ∷ e ≡ a ++ 32 ∷ (b ++ 32 ∷ (c ++ 32 ∷ (d ++ 32 ∷ e)))

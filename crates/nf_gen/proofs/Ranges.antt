@@ -1,10 +1,6 @@
 -- Lists that go by a range of numbers: what holds of each entry, and what is among them.
 use Rattle.std.proofs.Common.{◌≡◌, ℕ, zero, suc, ◌+◌, ◌<◌, ◌≤◌, List, [], ◌∷◌, ◌++◌, length, map, flat_map, inl, inr, ap, subst, ◌∙◌, arith}
-use Rattle.std.specs.List.{AllByRecursion, range_with_len}
-use Rattle.std.proofs.lemmas.Bool.{cases_eq}
-use Rattle.nf_net_laws.proofs.WalkFacts.{slice_get-left, slice_get-right}
-use Rattle.nf_net_laws.proofs.MarkedFacts.{Entry}
-use Rattle.nf_net_laws.proofs.AcceptedNamed.{every_append}
+use Rattle.nf_gen.proofs.Common.{AllByRecursion, range_with_len, cases_eq, slice_get-left, slice_get-right, Entry, every_append}
 
 -- ---- each entry
 module _ {X : Type 0} (P : X → Type 0) where

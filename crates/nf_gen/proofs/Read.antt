@@ -1,13 +1,7 @@
 -- Reading the text of a ladder.
 use Rattle.std.proofs.Common.{◌≡◌, ℕ, ◌≤◌, List, length, Result, Ok, Err, sym, subst}
-use Rattle.nf_text_def.specs.Faults.{longest_text}
-use Rattle.nf_net_def.specs.Named.{Named}
-use Rattle.nf_net_def.specs.NetLines.{Broken}
-use Rattle.nf_net_def.specs.NetFile.{Reads}
-use Rattle.nf_net_def.specs.NetText.{canonical}
+use Rattle.nf_gen.proofs.Common.{longest_text, Named, Broken, Reads, canonical, same_Ok, ladder}
 use Rattle.nf_net_laws.proofs.Once.{reads_at_most_once}
-use Rattle.nf_rational_laws.proofs.Results.{same_Ok}
-use Rattle.nf_gen.specs.Ladder.{ladder}
 use Rattle.nf_gen.proofs.LadderNamed.{ladder_named, ladder_reads}
 use Rattle.nf_gen.proofs.Written.{canonical_fits}
 

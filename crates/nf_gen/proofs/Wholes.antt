@@ -1,21 +1,16 @@
 -- Whole numbers as rationals: their parts, how they are printed, their order, and that small ones fit.
-use Rattle.std.proofs.Common.{◌≡◌, ℕ, zero, suc, ◌+◌, ◌-◌, ◌≤◌, false, [], ◌∷◌, ℤ, pos, nat_abs, inl, inr, refl, sym, ◌∙◌, ap, subst, arith, lit<, lit≤, nat_lt}
-use Rattle.std.proofs.lemmas.Bool.{le-ltb, or_from, cases_lt}
-use Rattle.nf_rational.specs.Rational.{ℚ}
-use Rattle.nf_rational.specs.Operations.{0ℚ, whole, ◌+ℚ◌}
-use Rattle.nf_rational.specs.Order.{◌≤ℚ◌, ◌<ℚ◌}
+use Rattle.std.proofs.Common.{◌≡◌, ℕ, zero, suc, ◌+◌, ◌-◌, ◌≤◌, false, [], ◌∷◌, ℤ, pos, nat_abs, inl, inr, refl, sym, ◌∙◌, ap, subst, arith, lit<, lit≤}
+use Rattle.std.proofs.Common.{nat_lt}
+use Rattle.nf_gen.proofs.Common.{le-ltb, or_from, cases_lt, ℚ, 0ℚ, ◌+ℚ◌, ◌≤ℚ◌, ◌<ℚ◌, ps_whole, Sum, bound_of, passes_Q, digits_of, printed, IsFraction}
+use Rattle.nf_rational.specs.Operations.{whole}
 use Rattle.nf_rational.proofs.Lowest.{num-ratio, den-ratio}
 use Rattle.nf_rational_laws.proofs.Field.{whole-plus}
-use Rattle.nf_rational_laws.proofs.Order.{ps_whole}
 use Rattle.nf_rational_laws.proofs.Polynomial.{reading_of}
 use Rattle.nf_rational_laws.proofs.Linear.{le, lt, eq, linear_false}
-use Rattle.nf_frac_def.specs.declared.Op.TheVariants.{Sum}
-use Rattle.nf_frac_def.specs.Passing.{bound_of, beyond, passes_Q}
-use Rattle.nf_frac_words.specs.Digits.{digits_of}
-use Rattle.nf_frac_words.specs.Printed.{printed, printed_parts}
+use Rattle.nf_frac_def.specs.Passing.{beyond}
+use Rattle.nf_frac_words.specs.Printed.{printed_parts}
 use Rattle.nf_frac_words.proofs.Bytes.{printed_by_parts}
 use Rattle.nf_net_def.specs.Numbers.{greatest}
-use Rattle.nf_net_def.specs.WellNamed.{IsFraction}
 use Rattle.nf_frac.specs.Parts.{IsWithin}
 use Rattle.nf_frac.specs.Short.{short}
 use Rattle.nf_frac.proofs.SmallParts.{gcd_one}

@@ -1,23 +1,13 @@
 -- The lines of a ladder, written one after the other, are its canonical text.
-use Rattle.std.proofs.Common.{◌≡◌, ℕ, zero, suc, ◌+◌, ◌-◌, ◌*◌, ◌%◌, ◌≤◌, List, [], ◌∷◌, ◌++◌, length, map, flat_map, Some, pos, codes, refl, sym, ◌∙◌, ap, subst, arith, append_assoc, append-nil, length-append}
-use Rattle.std.specs.List.{AllByRecursion, range_with_len, join_with_byte}
-use Rattle.std.proofs.lemmas.List.{length-map}
-use Rattle.std.proofs.lemmas.Grind.{flat_map-append}
-use Rattle.nf_rational.specs.Operations.{whole}
-use Rattle.nf_model.specs.Network.{Piece}
-use Rattle.nf_frac_words.specs.Digits.{digits_of}
-use Rattle.nf_frac_words.specs.Printed.{printed}
-use Rattle.nf_text_def.specs.Words.{line_of_words}
-use Rattle.nf_text_def.specs.Faults.{longest_text}
-use Rattle.nf_net_def.specs.Names.{Name}
-use Rattle.nf_net_def.specs.Named.{NamedLink, Named, active_links}
-use Rattle.nf_net_def.specs.NetText.{link_words, inflow_words, canonical_lines, canonical}
-use Rattle.nf_net_def.specs.WellNamed.{IsNamed}
-use Rattle.nf_net_laws.proofs.LinkFacts.{map-append}
+use Rattle.std.proofs.Common.{◌≡◌, ℕ, zero, suc, ◌+◌, ◌-◌, ◌*◌, ◌%◌, ◌≤◌, List, [], ◌∷◌, ◌++◌, length, map, flat_map, Some, pos, codes, refl, sym, ◌∙◌, ap}
+use Rattle.std.proofs.Common.{subst, arith, append_assoc, append-nil, length-append}
+use Rattle.nf_gen.proofs.Common.{AllByRecursion, range_with_len, join_with_byte, length-map, flat_map-append, whole, Piece, digits_of, printed}
+use Rattle.nf_gen.proofs.Common.{line_of_words, longest_text, Name, NamedLink, Named, active_links, link_words, inflow_words, canonical_lines, canonical}
+use Rattle.nf_gen.proofs.Common.{IsNamed, map-append, next_value, upper, lower, Ends, link_from, rails_on, rung_at, ladder_ends, drawn_links, drawn_pieces}
+use Rattle.nf_gen.proofs.Common.{ladder_links, after_two, link_after, links_after, after_links, pieces_after, WritesLinks}
 use Rattle.nf_net_laws.proofs.TextBack.{IsPlainLine}
 use Rattle.nf_net_laws.proofs.PlainCanonical.{plain_canonical}
-use Rattle.nf_gen.specs.Ladder.{next_value, drawn, upper, lower, Ends, link_from, rails_on, rung_at, ladder_ends, drawn_links, drawn_pieces, ladder_links, ladder}
-use Rattle.nf_gen.specs.Writing.{after_two, link_after, links_after, after_links, pieces_after, WritesLinks}
+use Rattle.nf_gen.specs.Ladder.{drawn, ladder}
 use Rattle.nf_gen.proofs.Wholes.{printed-whole}
 use Rattle.nf_gen.proofs.Ranges.{count_push}
 use Rattle.nf_gen.proofs.LadderNodes.{link_count}

@@ -1,10 +1,7 @@
 -- Going back along chosen links until a node comes for the second time; that closes a cycle.
-use Rattle.std.proofs.Common.{◌≡◌, ℕ, zero, suc, ◌<◌, List, [], ◌∷◌, length, set, take, insert, replicate, true, false, Bool, Some, slice_get, ⊎_elim, sym, subst, refl, ◌∙◌, ap}
-use Rattle.std.proofs.Math.ListN.{length-set}
-use Rattle.nf_model.specs.Entries.{Has}
-use Rattle.nf_model.specs.Walk.{Hop, IsHop, IsWalk}
-use Rattle.nf_graph.specs.Graph.{AreBelow}
-use Rattle.nf_graph.specs.Order.{EntersFromUnplaced, Turns, IsChosenCycle}
+use Rattle.std.proofs.Common.{◌≡◌, ℕ, zero, suc, ◌<◌, List, [], ◌∷◌, length, set, take, insert, replicate, true, false, Bool, Some, slice_get, ⊎_elim, sym}
+use Rattle.std.proofs.Common.{subst, refl, ◌∙◌, ap}
+use Rattle.nf_graph.proofs.Common.{length-set, Has, Hop, IsHop, IsWalk, AreBelow, EntersFromUnplaced, Turns, IsChosenCycle}
 use Rattle.nf_graph.proofs.Flags.{Has-replicate, Has-set_cases, Has-within}
 use Rattle.nf_graph.proofs.Walks.{IsHop-unique, IsWalk-take, take-at, take_some}
 

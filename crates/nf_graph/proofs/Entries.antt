@@ -1,10 +1,7 @@
 -- Entries of lists with one entry for each node.
-use Rattle.std.proofs.Common.{◌≡◌, ℕ, zero, suc, ◌<◌, List, [], ◌∷◌, length, get_or, set, false, replicate, Option, Some, None, slice_get, ◌⊎◌, inl, inr, subst, refl, ◌∙◌, sym, ap, arith}
-use Rattle.std.specs.Option.{is_some}
-use Rattle.std.proofs.lemmas.Option.{slice_get-get_or, slice_get_read}
-use Rattle.std.proofs.lemmas.Bool.{true≢false}
-use Rattle.nf_rational.specs.Rational.{ℚ}
-use Rattle.nf_graph.specs.Distances.{HasSum, IsUnsettled}
+use Rattle.std.proofs.Common.{◌≡◌, ℕ, zero, suc, ◌<◌, List, [], ◌∷◌, length, get_or, set, false, replicate, Option, Some, None, slice_get, ◌⊎◌, inl, inr}
+use Rattle.std.proofs.Common.{subst, refl, ◌∙◌, sym, ap, arith}
+use Rattle.nf_graph.proofs.Common.{is_some, slice_get-get_or, slice_get_read, true≢false, ℚ, HasSum, IsUnsettled}
 
 pub HasSum-unique : (sums : List (Option ℚ)) (v : ℕ) (a b : ℚ) → HasSum sums v a → HasSum sums v b → a ≡ b
 HasSum-unique sums v a b h k = cc

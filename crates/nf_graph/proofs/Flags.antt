@@ -1,7 +1,7 @@
 -- Lists of flags, and how many of them are not set.
-use Rattle.std.proofs.Common.{◌≡◌, ℕ, zero, suc, ◌<◌, ◌⊎◌, inl, inr, ⊎_elim, Bool, true, false, not, MatchBool, List, [], ◌∷◌, length, get_or, set, replicate, Some, slice_get, refl, sym, subst, ap, ◌∙◌, arith}
-use Rattle.std.proofs.lemmas.Option.{slice_get_within, slice_get_read}
-use Rattle.nf_model.specs.Entries.{Has}
+use Rattle.std.proofs.Common.{◌≡◌, ℕ, zero, suc, ◌<◌, ◌⊎◌, inl, inr, ⊎_elim, Bool, true, false, not, MatchBool, List, [], ◌∷◌, length, get_or, set}
+use Rattle.std.proofs.Common.{replicate, Some, slice_get, refl, sym, subst, ap, ◌∙◌, arith}
+use Rattle.nf_graph.proofs.Common.{slice_get_within, slice_get_read, Has}
 
 -- how many flags are not set
 abbrev pub free : List Bool → ℕ

@@ -1,3 +1,4 @@
+mod Common
 pub mod Flags
 pub mod Walks
 pub mod Entries

@@ -1,11 +1,8 @@
 -- The links of a network as hops: their number, and that their ends are nodes.
-use Rattle.std.proofs.Common.{◌≡◌, ◌<◌, length}
-use Rattle.std.specs.Prelude.{is_none}
+use Rattle.std.proofs.Common.{◌≡◌, ◌<◌, length, is_none}
+use Rattle.nf_graph.proofs.Common.{Hop, by_link, AreBelow}
 use Rattle.std.proofs.lemmas.List.{length-map}
-use Rattle.nf_model.specs.Walk.{Hop}
 use Rattle.nf_model.specs.Network.{Link, Network, IsNetwork, hop_of, hops, unbounded}
-use Rattle.nf_model_laws.proofs.Networks.{by_link}
-use Rattle.nf_graph.specs.Graph.{AreBelow}
 
 pub hops_length : (net : Network) → length (hops net) ≡ length net.links
 hops_length net = length-map net.links hop_of

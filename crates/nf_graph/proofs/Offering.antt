@@ -1,26 +1,17 @@
 -- What links offer, and the least of it.
-use Rattle.std.proofs.Common.{◌≡◌, ◌≢◌, ℕ, ◌+◌, ◌<◌, ◌≤◌, List, length, set, replicate, get_or, Bool, true, false, if◌then◌else◌, Option, Some, None, Result, Ok, Err, slice_get, ◌⊎◌, inl, inr, ⊎_elim, eqb, sym, ap, subst, refl, ◌∙◌, arith}
-use Rattle.std.proofs.Math.ListN.{length-set}
-use Rattle.std.proofs.lemmas.Option.{slice_get_within, same_Some}
-use Rattle.std.proofs.lemmas.Bool.Decides.{eqb_tells}
-use Rattle.nf_rational.specs.Rational.{ℚ}
-use Rattle.nf_rational.specs.Operations.{◌+ℚ◌}
-use Rattle.nf_rational.specs.Order.{◌≤ℚ◌, ◌<ℚ◌, min_ℚ}
-use Rattle.nf_rational_laws.proofs.Order.{≤ℚ_of_same}
-use Rattle.nf_rational_laws.proofs.Chains.{≤ℚ_trans}
+use Rattle.std.proofs.Common.{◌≡◌, ◌≢◌, ℕ, ◌+◌, ◌<◌, ◌≤◌, List, length, set, replicate, get_or, Bool, true, false, if◌then◌else◌, Option, Some, None}
+use Rattle.std.proofs.Common.{Result, Ok, Err, slice_get, ◌⊎◌, inl, inr, ⊎_elim, eqb, sym, ap, subst, refl, ◌∙◌, arith}
+use Rattle.nf_graph.proofs.Common.{length-set, slice_get_within, same_Some, eqb_tells, ℚ, ◌+ℚ◌, ◌≤ℚ◌, ◌<ℚ◌, min_ℚ, ≤ℚ_of_same, ≤ℚ_trans, set_cases}
+use Rattle.nf_graph.proofs.Common.{set_same, Hop, IsHop, Step, HasSum, IsUnsettled, Offers, SumPasses, AreOffers, AnyLink, LinksBefore, PassesAlong}
+use Rattle.nf_graph.proofs.Common.{StopsAt, ForPassed, lesser_offer, IsOffered, PassesFrom, IsStepTo, IsNearer, IsNearestBefore, IsNearest}
 use Rattle.nf_rational_laws.proofs.Tests.{min_ℚ_cases}
 use Rattle.nf_rational_laws.proofs.Extremes.{min_left, min_right}
-use Rattle.nf_rational_laws.proofs.Entries.{set_cases, set_same}
 use Rattle.nf_frac_def.specs.declared.Op.{Op}
 use Rattle.nf_frac_def.specs.declared.Passed as Work
 use Rattle.nf_frac_def.specs.Passing.{Passing, result_of}
 use Rattle.nf_frac_def.specs.Checked.{checked}
-use Rattle.nf_model.specs.Walk.{Hop, IsHop}
-use Rattle.nf_graph.specs.declared.distance.Step.{Step}
 use Rattle.nf_graph.specs.declared.distance.DistanceFault.{DistanceFault}
 use Rattle.nf_graph.specs.declared.distance.DistanceFault.TheVariants.{Passed, Memory}
-use Rattle.nf_graph.specs.Distances.{HasSum, IsUnsettled, Offers, SumPasses, AreOffers, AnyLink, LinksBefore, PassesAlong, StopsAt}
-use Rattle.nf_graph.specs.Steps.{ForPassed, lesser_offer, IsOffered, PassesFrom, IsStepTo, IsNearer, IsNearestBefore, IsNearest}
 use Rattle.nf_graph.proofs.Walks.{IsHop-unique, IsHop-read}
 use Rattle.nf_graph.proofs.Entries.{HasSum-unique, entry_cases, set_apart, set_other, replicate_open}
 

@@ -1,11 +1,7 @@
 -- An order that grows node by node.
-use Rattle.std.proofs.Common.{◌≡◌, ℕ, zero, suc, ◌+◌, ◌<◌, ◌≤◌, List, [], ◌∷◌, ◌++◌, length, set, true, false, Bool, Option, Some, None, slice_get, replicate, ◌⊎◌, inl, inr, ⊎_elim, sym, subst, refl, ◌∙◌, ap, arith}
-use Rattle.std.proofs.Math.ListN.{length-set}
-use Rattle.std.proofs.lemmas.Option.{slice_get_within}
-use Rattle.nf_model.specs.Entries.{Has}
-use Rattle.nf_model.specs.Walk.{Hop, IsHop, IsWalk}
-use Rattle.nf_graph.specs.Graph.{AreBelow}
-use Rattle.nf_graph.specs.Order.{IsAt, IsOrder, IsReady, IsChosenCycle}
+use Rattle.std.proofs.Common.{◌≡◌, ℕ, zero, suc, ◌+◌, ◌<◌, ◌≤◌, List, [], ◌∷◌, ◌++◌, length, set, true, false, Bool, Option, Some, None, slice_get}
+use Rattle.std.proofs.Common.{replicate, ◌⊎◌, inl, inr, ⊎_elim, sym, subst, refl, ◌∙◌, ap, arith}
+use Rattle.nf_graph.proofs.Common.{length-set, slice_get_within, Has, Hop, IsHop, IsWalk, AreBelow, IsAt, IsOrder, IsReady, IsChosenCycle}
 use Rattle.nf_graph.proofs.Flags.{free, free-set, not_set, Has-set_same, Has-set_other, Has-set_cases, Has-replicate, Has-within}
 
 -- the nodes placed stand in the order, each once, and every chosen link into one of them comes from an earlier one

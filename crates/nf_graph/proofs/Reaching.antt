@@ -1,12 +1,8 @@
 -- One more node that a walk reaches.
 use Rattle.std.proofs.Common.{◌≡◌, ℕ, suc, ◌<◌, List, [], ◌∷◌, ◌++◌, length, set, true, Bool, ⊎_elim, sym, subst, ◌∙◌, arith}
-use Rattle.std.proofs.Math.ListN.{length-set}
-use Rattle.nf_model.specs.Entries.{Has}
-use Rattle.nf_model.specs.Walk.{Hop, IsWalk}
-use Rattle.nf_graph.specs.Graph.{AreBelow, Leaves, IsClosed, AreReached}
+use Rattle.nf_graph.proofs.Common.{length-set, Has, Hop, IsWalk, AreBelow, Leaves, IsClosed, AreReached, IsWalk-append}
 use Rattle.nf_graph.proofs.Flags.{free, free-set, not_set, Has-set_same, Has-set_other, Has-set_cases}
 use Rattle.nf_graph.proofs.Walks.{IsClosed-walk}
-use Rattle.nf_model_laws.proofs.Networks.{IsWalk-append}
 
 pub record AreWalked (nodes : ℕ) (hops : List Hop) (from : ℕ) (flags : List Bool) : Type 0 where
   pub count : length flags ≡ nodes

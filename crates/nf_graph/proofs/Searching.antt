@@ -1,11 +1,7 @@
 -- Numbers up to which the links that enter a node were searched.
-use Rattle.std.proofs.Common.{◌≡◌, ◌≢◌, ℕ, zero, suc, ◌+◌, ◌<◌, ◌≤◌, List, length, set, replicate, true, false, Bool, Some, slice_get, ⊎_elim, eqb, sym, subst, ◌∙◌, arith}
-use Rattle.std.proofs.Math.ListN.{length-set}
-use Rattle.std.proofs.lemmas.Option.{slice_get_within}
-use Rattle.std.proofs.lemmas.Bool.Decides.{eqb_tells}
-use Rattle.nf_model.specs.Walk.{Hop}
-use Rattle.nf_rational_laws.proofs.Entries.{set_cases}
-use Rattle.nf_graph.specs.Order.{EntersFromUnplaced, NoneEnters, AreSearched}
+use Rattle.std.proofs.Common.{◌≡◌, ◌≢◌, ℕ, zero, suc, ◌+◌, ◌<◌, ◌≤◌, List, length, set, replicate, true, false, Bool, Some, slice_get, ⊎_elim, eqb, sym}
+use Rattle.std.proofs.Common.{subst, ◌∙◌, arith}
+use Rattle.nf_graph.proofs.Common.{length-set, slice_get_within, eqb_tells, Hop, set_cases, EntersFromUnplaced, NoneEnters, AreSearched}
 use Rattle.nf_graph.proofs.Flags.{Has-set_other}
 
 module _ (hops : List Hop) (chosen placed : List Bool) where

@@ -1,23 +1,13 @@
 -- Nodes settled one by one, each with its least transit sum.
-use Rattle.std.proofs.Common.{◌≡◌, ℕ, ◌<◌, List, [], ◌∷◌, ◌++◌, length, set, replicate, Option, Some, None, slice_get, ◌⊎◌, ⊎_elim, sym, subst, refl, ◌∙◌, ap}
-use Rattle.std.proofs.Math.ListN.{length-set}
-use Rattle.std.proofs.lemmas.List.{length-replicate}
-use Rattle.nf_rational.specs.Rational.{ℚ}
-use Rattle.nf_rational.specs.Operations.{0ℚ, ◌+ℚ◌}
-use Rattle.nf_rational.specs.Order.{◌≤ℚ◌}
+use Rattle.std.proofs.Common.{◌≡◌, ℕ, ◌<◌, List, [], ◌∷◌, ◌++◌, length, set, replicate, Option, Some, None, slice_get, ◌⊎◌, ⊎_elim, sym, subst, refl, ◌∙◌}
+use Rattle.std.proofs.Common.{ap}
+use Rattle.nf_graph.proofs.Common.{length-set, length-replicate, ℚ, 0ℚ, ◌+ℚ◌, ◌≤ℚ◌, nn_plus, set_cases, set_same, ≤ℚ_refl, Hop, IsHop, IsWalk, transit_of}
+use Rattle.nf_graph.proofs.Common.{transit_sum, IsLeastTransit, AreBelow, Step, NoNegativeTransit, AreDistances, PassesAt, StopsAt, HasSum, IsUnsettled}
+use Rattle.nf_graph.proofs.Common.{Offers, AreOffers, AnyLink, AllFit, SumPasses, IsNearest, IsWalk-append, transit_of-hop, transit_sum-append}
 use Rattle.nf_rational_laws.proofs.Polynomial.{reading_of}
-use Rattle.nf_rational_laws.proofs.Order.{nn_plus}
 use Rattle.nf_rational_laws.proofs.Linear.{le, eq, linear_le}
-use Rattle.nf_rational_laws.proofs.Entries.{set_cases, set_same}
-use Rattle.nf_rational_laws.proofs.Chains.{≤ℚ_refl}
-use Rattle.nf_model.specs.Walk.{Hop, IsHop, IsWalk, transit_of, transit_sum, IsLeastTransit}
-use Rattle.nf_graph.specs.Graph.{AreBelow}
-use Rattle.nf_graph.specs.declared.distance.Step.{Step}
-use Rattle.nf_graph.specs.Distances.{NoNegativeTransit, AreDistances, PassesAt, StopsAt, HasSum, IsUnsettled, Offers, AreOffers, AnyLink, AllFit, SumPasses}
-use Rattle.nf_graph.specs.Steps.{IsNearest}
 use Rattle.nf_graph.proofs.Entries.{HasSum-not_open, entry_cases, set_other, unsettled, fewer_unsettled, replicate_open}
 use Rattle.nf_graph.proofs.Offering.{nearest_offers, nearest_least, nearest_none}
-use Rattle.nf_model_laws.proofs.Networks.{IsWalk-append, transit_of-hop, transit_sum-append}
 use Rattle.nf_model_laws.proofs.OneValue.{IsLeastTransit-unique}
 
 -- ---- sums along walks

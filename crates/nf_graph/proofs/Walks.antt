@@ -1,10 +1,7 @@
 -- Walks along hops.
-use Rattle.std.proofs.Common.{◌≡◌, ◌≢◌, ℕ, zero, suc, take, ap, ◌+◌, ◌<◌, ◌≤◌, List, [], ◌∷◌, length, get_or, ⊎_elim, eqb, true, false, Bool, Some, slice_get, refl, sym, subst, arith}
-use Rattle.std.proofs.lemmas.Option.{slice_get_within, slice_get_read}
-use Rattle.std.proofs.lemmas.Bool.Decides.{eqb_tells}
-use Rattle.nf_model.specs.Entries.{Has}
-use Rattle.nf_model.specs.Walk.{Hop, IsHop, IsWalk}
-use Rattle.nf_graph.specs.Graph.{IsClosed}
+use Rattle.std.proofs.Common.{◌≡◌, ◌≢◌, ℕ, zero, suc, take, ap, ◌+◌, ◌<◌, ◌≤◌, List, [], ◌∷◌, length, get_or, ⊎_elim, eqb, true, false, Bool, Some}
+use Rattle.std.proofs.Common.{slice_get, refl, sym, subst, arith}
+use Rattle.nf_graph.proofs.Common.{slice_get_within, slice_get_read, eqb_tells, Has, Hop, IsHop, IsWalk, IsClosed}
 
 pub IsHop-unique : (hops : List Hop) (e : ℕ) (a b : Hop) → IsHop hops e a → IsHop hops e b → a ≡ b
 IsHop-unique hops e a b p q = cc

@@ -1,13 +1,8 @@
 -- Cycles along the links of zero transit.
 use Rattle.std.proofs.Common.{◌≡◌, ℕ, zero, suc, List, [], ◌∷◌, Bool, true, Option, Some, None, slice_get, option_map, map, sym, ap, subst, refl, ◌∙◌}
-use Rattle.std.proofs.lemmas.Option.{slice_get-map}
-use Rattle.nf_rational.specs.Operations.{0ℚ}
+use Rattle.nf_graph.proofs.Common.{slice_get-map, 0ℚ, Has, Hop, IsHop, IsWalk, transit_of, transit_of-hop, IsChosenCycle, IsZeroCycle}
 use Rattle.nf_frac.specs.Order.{same_ℚ}
 use Rattle.nf_frac.specs.Total.{same_decides}
-use Rattle.nf_model.specs.Entries.{Has}
-use Rattle.nf_model.specs.Walk.{Hop, IsHop, IsWalk, transit_of}
-use Rattle.nf_model_laws.proofs.Networks.{transit_of-hop}
-use Rattle.nf_graph.specs.Order.{IsChosenCycle, IsZeroCycle}
 
 abbrev pub zero_flags : List Hop → List Bool
 zero_flags hops = map (λ hop. same_ℚ hop.transit 0ℚ) hops

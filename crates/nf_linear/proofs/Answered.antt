@@ -1,16 +1,10 @@
 -- The table list: its columns, and then its values.
-use Rattle.std.proofs.Common.{◌≡◌, ℕ, List, [], length, refl, sym, ap, subst, ◌∙◌}
-use Rattle.std.specs.Prelude.{Option, Some, None, Ok}
-use Rattle.nf_rational.specs.Rational.{ℚ}
-use Rattle.nf_frac_def.specs.Passing.{Passing}
-use Rattle.nf_frac_def.specs.declared.Halt.{Halt}
+use Rattle.std.proofs.Common.{◌≡◌, ℕ, List, [], length, refl, sym, ap, subst, ◌∙◌, Option, Some, None, Ok}
+use Rattle.nf_linear.proofs.Common.{ℚ, Passing, Halt, Checked, Stops, at_part, ◌>>=◌, part_ok, Row, eliminate_from, if_some, solution_from, solution_of}
+use Rattle.nf_linear.proofs.Common.{IsSquare, IsOnlySolution, eliminated}
 use Rattle.nf_frac_def.specs.declared.Part.TheVariants as Part
-use Rattle.nf_frac_def.specs.Checked.{Checked, Stops, at_part, ◌>>=◌}
-use Rattle.nf_frac_def.proofs.AtPart.{part_ok}
-use Rattle.nf_linear_def.specs.Table.{Row, Eliminated, eliminate_from, if_some, solution_from, solution_of, table_list}
-use Rattle.nf_linear_laws.specs.Solution.{IsSquare, IsOnlySolution}
+use Rattle.nf_linear_def.specs.Table.{Eliminated, table_list}
 use Rattle.nf_linear_laws.proofs.Solutions.{one_solution, not_one_solution}
-use Rattle.nf_linear.specs.Pivots.{eliminated}
 use Rattle.nf_linear.proofs.Fronts.{stops}
 
 module _ (passes : Passing) (table : List Row) where

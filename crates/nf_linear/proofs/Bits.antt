@@ -1,13 +1,8 @@
 -- Sets of numbers in one word, read bit by bit.
 use Rattle.std.proofs.Common.{◌≡◌, ℕ, zero, suc, ◌+◌, ◌-◌, ◌*◌, ◌/◌, ◌%◌, ◌^◌, ◌<◌, ◌≤◌, min, ⊎_elim, refl, sym, ap, subst, ◌∙◌, arith, pow_pos, mod-lt}
-use Rattle.std.specs.Int.{w64, bit_at, trailing_zeros, rotate_right}
-use Rattle.std.specs.Int.RustNames.{bit_or}
-use Rattle.std.proofs.lemmas.Nat.{shr-shr, trailing_le}
-use Rattle.std.proofs.lemmas.Nat.Bits.{bit_at-zero, bit_at_or, bit_at_and, bit_at_ones, bit_at-lt, bit_at_cat_high, bit_at-trailing_zeros}
-use Rattle.std.proofs.lemmas.Nat.{and_mask, or_lt, shr_le}
-use Rattle.std.proofs.Math.Nat.{le-max_left, le-max_right, min-eq_right}
-use Rattle.std.proofs.lemmas.Bool.{cases_lt}
-use Rattle.nf_linear.specs.Marks.{IsFree, IsSubset}
+use Rattle.nf_linear.proofs.Common.{w64, bit_at, trailing_zeros, rotate_right, bit_or, bit_at-zero, bit_at_or, bit_at_and, bit_at_ones, bit_at-lt}
+use Rattle.nf_linear.proofs.Common.{bit_at_cat_high, bit_at-trailing_zeros, le-max_left, le-max_right, min-eq_right, cases_lt, IsFree, IsSubset}
+use Rattle.std.proofs.lemmas.Nat.{shr-shr, trailing_le, and_mask, or_lt, shr_le}
 
 -- ---- one set and another
 pub within_left : (a b : ℕ) → IsSubset a (bit_or a b)

@@ -1,10 +1,6 @@
 -- One number of a row is read, or changed in a row of a table.
 use Rattle.std.proofs.Common.{◌≡◌, ℕ, zero, suc, ◌<◌, List, [], ◌∷◌, length, set, get_or, map, refl, sym, ap, ◌∙◌, arith}
-use Rattle.std.proofs.Math.ListN.{length-set, length-map}
-use Rattle.nf_rational.specs.Rational.{ℚ}
-use Rattle.nf_model.specs.Entries.{number_at}
-use Rattle.nf_linear_def.specs.Table.{Row, row_at}
-use Rattle.nf_linear_laws.specs.Solution.{IsSquare}
+use Rattle.nf_linear.proofs.Common.{length-set, length-map, ℚ, number_at, Row, row_at, IsSquare}
 use Rattle.nf_linear.proofs.Clearing.{row_read}
 
 -- a value that is read means the number there

@@ -1,21 +1,9 @@
 -- Rows cleared one by one: those so far stand before what comes of the rest.
-use Rattle.std.proofs.Common.{◌≡◌, ℕ, zero, suc, ◌+◌, ◌<◌, ◌≤◌, List, [], ◌∷◌, ◌++◌, length, set, take, drop, get_or, Bool, true, false, ◌||◌, refl, sym, ap, subst, ◌∙◌, add-one, length-drop, arith}
-use Rattle.std.specs.Prelude.{◌==◌, if◌then◌else◌, Ok, Err}
-use Rattle.std.specs.List.{AllByRecursion}
-use Rattle.std.proofs.Math.ListN.{drop_of_length-le}
-use Rattle.nf_rational.specs.Rational.{ℚ}
-use Rattle.nf_frac_def.specs.Passing.{Passing}
-use Rattle.nf_frac_def.specs.declared.PassedAt.{PassedAt}
-use Rattle.nf_frac_def.specs.declared.Part.{Part}
-use Rattle.nf_frac_def.specs.Checked.{Checked, at_part, ◌>>=◌}
-use Rattle.nf_frac_def.proofs.Each.{with_front}
-use Rattle.nf_frac_def.proofs.AtPart.{part_ok}
-use Rattle.nf_model.specs.Entries.{number_at}
-use Rattle.nf_rational.specs.Signs.{is_zero}
+use Rattle.std.proofs.Common.{◌≡◌, ℕ, zero, suc, ◌+◌, ◌<◌, ◌≤◌, List, [], ◌∷◌, ◌++◌, length, set, take, drop, get_or, Bool, true, false, ◌||◌, refl, sym}
+use Rattle.std.proofs.Common.{ap, subst, ◌∙◌, add-one, length-drop, arith, ◌==◌, if◌then◌else◌, Ok, Err}
+use Rattle.nf_linear.proofs.Common.{AllByRecursion, drop_of_length-le, ℚ, Passing, PassedAt, Part, Checked, at_part, ◌>>=◌, with_front, part_ok, number_at}
+use Rattle.nf_linear.proofs.Common.{is_zero, Row, row_at, IsSquare, some_from, clear_unless, clear_each}
 use Rattle.nf_linear_def.specs.Table as Lists
-use Rattle.nf_linear_def.specs.Table.{Row, row_at}
-use Rattle.nf_linear_laws.specs.Solution.{IsSquare}
-use Rattle.nf_linear.specs.Rows.{some_from, clear_unless, clear_each}
 use Rattle.nf_linear.proofs.Fronts.{take_set, drop_set, take_whole, first_before, one_before, stopped, stopped_before}
 use Rattle.nf_linear.proofs.Sparse.{clear_row-is}
 use Rattle.nf_linear.proofs.Columns.{drop_row}

@@ -1,11 +1,7 @@
 -- The pivot of a column, found row by row; rows cleared one by one.
-use Rattle.std.proofs.Common.{◌≡◌, ℕ, zero, suc, ◌+◌, ◌<◌, ◌≤◌, List, [], ◌∷◌, length, drop, get_or, Bool, true, false, not, ◌&&◌, refl, sym, ap, ◌∙◌, add-one, arith}
-use Rattle.std.specs.Prelude.{◌==◌, if◌then◌else◌, Some, None}
-use Rattle.std.specs.List.{list_any}
-use Rattle.nf_model.specs.Entries.{number_at}
-use Rattle.nf_rational.specs.Signs.{is_zero}
-use Rattle.nf_linear_def.specs.Table.{Row, row_at, pivot_from}
-use Rattle.nf_linear.specs.Pivots.{AreTaken}
+use Rattle.std.proofs.Common.{◌≡◌, ℕ, zero, suc, ◌+◌, ◌<◌, ◌≤◌, List, [], ◌∷◌, length, drop, get_or, Bool, true, false, not, ◌&&◌, refl, sym, ap, ◌∙◌}
+use Rattle.std.proofs.Common.{add-one, arith, ◌==◌, if◌then◌else◌, Some, None}
+use Rattle.nf_linear.proofs.Common.{list_any, number_at, is_zero, Row, row_at, pivot_from, AreTaken}
 
 pub drop_row : (rows : List Row) (i : ℕ) → i < length rows → drop i rows ≡ row_at rows i ∷ drop (suc i) rows
 drop_row [] i b = absurd (omega arith)

@@ -1,22 +1,9 @@
 -- The sets of rows of each column: which numbers they tell to be 0, and how a step of the elimination changes them.
-use Rattle.std.proofs.Common.{◌≡◌, ℕ, zero, suc, ◌+◌, ◌%◌, ◌<◌, ◌≤◌, List, [], ◌∷◌, length, set, get_or, Bool, true, false, ◌||◌, ⊎_elim, refl, sym, ap, subst, ◌∙◌, length-set, arith}
-use Rattle.std.specs.Prelude.{◌==◌, Ok, Err}
-use Rattle.std.specs.Int.{bit_at}
-use Rattle.std.specs.Int.RustNames.{bit_or}
-use Rattle.std.proofs.lemmas.Bool.{cases_eq, cases_lt}
-use Rattle.std.proofs.lemmas.List.{get_or-set_same, get_or-set_other}
-use Rattle.std.proofs.Math.Nat.{eq-or-lt_of_le}
-use Rattle.nf_rational.specs.Rational.{ℚ}
-use Rattle.nf_rational.specs.Operations.{0ℚ}
-use Rattle.nf_rational_laws.proofs.Results.{same_Ok}
-use Rattle.nf_frac_def.specs.Passing.{Passing}
-use Rattle.nf_frac_def.specs.declared.Op.TheVariants.{Quotient}
-use Rattle.nf_frac_def.specs.Checked.{Checked, checked, fold_checked, ◌>>=◌}
-use Rattle.nf_model.specs.Entries.{number_at}
-use Rattle.nf_rational.specs.Signs.{is_zero}
-use Rattle.nf_linear_def.specs.Table.{Row, row_at, less_unless}
-use Rattle.nf_linear.specs.Marks.{IsFree, IsSubset, AreZeroUnless, Covers, AreSameUnless, spread}
-use Rattle.nf_linear.specs.Rows.{entry_less, clear_row, clear_unless, clear_each}
+use Rattle.std.proofs.Common.{◌≡◌, ℕ, zero, suc, ◌+◌, ◌%◌, ◌<◌, ◌≤◌, List, [], ◌∷◌, length, set, get_or, Bool, true, false, ◌||◌, ⊎_elim, refl, sym, ap}
+use Rattle.std.proofs.Common.{subst, ◌∙◌, length-set, arith, ◌==◌, Ok, Err}
+use Rattle.nf_linear.proofs.Common.{bit_at, bit_or, cases_eq, cases_lt, get_or-set_same, get_or-set_other, eq-or-lt_of_le, ℚ, 0ℚ, same_Ok, Passing}
+use Rattle.nf_linear.proofs.Common.{Quotient, Checked, checked, fold_checked, ◌>>=◌, number_at, is_zero, Row, row_at, less_unless, IsFree, IsSubset}
+use Rattle.nf_linear.proofs.Common.{AreZeroUnless, Covers, AreSameUnless, spread, entry_less, clear_row, clear_unless, clear_each}
 use Rattle.nf_linear.proofs.Skips.{set_same}
 use Rattle.nf_linear.proofs.Bits.{within_left, within_right, free_within, not_free, bit_cases}
 

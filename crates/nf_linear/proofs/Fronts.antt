@@ -1,12 +1,7 @@
 -- Lists of which a front is done: one more place, and computations that stop there or go on.
-use Rattle.std.proofs.Common.{◌≡◌, ℕ, zero, suc, ◌<◌, ◌≤◌, List, [], ◌∷◌, ◌++◌, length, set, take, drop, refl, sym, ap, append_assoc, arith}
-use Rattle.std.specs.Prelude.{Result, Ok, Err}
-use Rattle.nf_rational.specs.Rational.{ℚ}
-use Rattle.nf_frac_def.specs.declared.Halt.{Halt}
-use Rattle.nf_frac_def.specs.declared.Part.{Part}
-use Rattle.nf_frac_def.specs.declared.PassedAt.{PassedAt}
-use Rattle.nf_frac_def.specs.Checked.{Checked, Stops, at_part, seen_passed_at, ◌>>=◌}
-use Rattle.nf_frac_def.proofs.Each.{with_front}
+use Rattle.std.proofs.Common.{◌≡◌, ℕ, zero, suc, ◌<◌, ◌≤◌, List, [], ◌∷◌, ◌++◌, length, set, take, drop, refl, sym, ap, append_assoc, arith, Result, Ok}
+use Rattle.std.proofs.Common.{Err}
+use Rattle.nf_linear.proofs.Common.{ℚ, Halt, Part, PassedAt, Checked, Stops, at_part, seen_passed_at, ◌>>=◌, with_front}
 
 -- ---- one place of a list
 module _ {A : Type 0} where

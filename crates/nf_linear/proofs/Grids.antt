@@ -1,8 +1,7 @@
 -- Rows in place: a number that is read or set in one, and fronts of lists.
-use Rattle.std.proofs.Common.{◌≡◌, ℕ, zero, suc, ◌+◌, ◌<◌, ◌≤◌, List, [], ◌∷◌, ◌++◌, length, set, take, get_or, replicate, refl, sym, ap, subst, ◌∙◌, arith, length-take-le, length-append}
-use Rattle.std.proofs.lemmas.List.{take_all}
-use Rattle.nf_rational.specs.Rational.{ℚ}
-use Rattle.nf_model.specs.Entries.{number_at}
+use Rattle.std.proofs.Common.{◌≡◌, ℕ, zero, suc, ◌+◌, ◌<◌, ◌≤◌, List, [], ◌∷◌, ◌++◌, length, set, take, get_or, replicate, refl, sym, ap, subst, ◌∙◌, arith}
+use Rattle.std.proofs.Common.{length-take-le, length-append}
+use Rattle.nf_linear.proofs.Common.{take_all, ℚ, number_at}
 
 pub row_set_cell : (cells : List ℚ) (right x : ℚ) (n column : ℕ) → column < n → n ≤ length cells → take n (set cells column x) ++ right ∷ [] ≡ set (take n cells ++ right ∷ []) column x
 row_set_cell [] right x zero column b e = absurd (omega arith)

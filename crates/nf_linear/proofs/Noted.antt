@@ -1,12 +1,9 @@
 -- The pivot rows noted so far, and of each row whether it is one of them.
 use Rattle.std.proofs.Common.{◌≡◌, ℕ, ◌<◌, List, [], ◌∷◌, ◌++◌, length, set, get_or, Bool, true, false, ◌||◌, eqb, refl, sym, ap, subst, ◌∙◌, length-set}
-use Rattle.std.specs.Prelude.{◌==◌}
-use Rattle.std.specs.List.{list_any}
-use Rattle.std.proofs.lemmas.List.{get_or-set_same, get_or-set_other}
+use Rattle.std.proofs.Common.{◌==◌}
+use Rattle.nf_linear.proofs.Common.{list_any, get_or-set_same, get_or-set_other, or-true, or-false, AreTaken}
 use Rattle.std.proofs.lemmas.List.Folds.{list_any-append}
-use Rattle.std.proofs.Math.Bool.{or-true, or-false}
 use borrow.Author.Tests.{eqb-true, eq-eqb}
-use Rattle.nf_linear.specs.Pivots.{AreTaken}
 
 true_false : true ≡ false → ⊥
 true_false e = cc

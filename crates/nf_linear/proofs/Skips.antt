@@ -1,18 +1,9 @@
 -- Numbers that are 0 are passed over: rows without an entry in a column, and columns of a row.
-use Rattle.std.proofs.Common.{◌≡◌, ℕ, zero, suc, ◌+◌, ◌-◌, ◌<◌, ◌≤◌, List, [], ◌∷◌, length, set, drop, Bool, true, false, not, ◌&&◌, ◌||◌, Ok, refl, sym, ap, subst, ◌∙◌, add-zero, arith}
-use Rattle.std.specs.Prelude.{◌==◌, if◌then◌else◌}
-use Rattle.std.specs.List.{list_any}
-use Rattle.std.proofs.Math.Bool.{or-true}
-use Rattle.nf_rational.specs.Rational.{ℚ}
-use Rattle.nf_rational.specs.Operations.{0ℚ}
-use Rattle.nf_frac_def.specs.Passing.{Passing}
+use Rattle.std.proofs.Common.{◌≡◌, ℕ, zero, suc, ◌+◌, ◌-◌, ◌<◌, ◌≤◌, List, [], ◌∷◌, length, set, drop, Bool, true, false, not, ◌&&◌, ◌||◌, Ok, refl, sym}
+use Rattle.std.proofs.Common.{ap, subst, ◌∙◌, add-zero, arith, ◌==◌, if◌then◌else◌}
+use Rattle.nf_linear.proofs.Common.{list_any, or-true, ℚ, 0ℚ, Passing, at_part, number_at, is_zero, Row, row_at, pivot_from, is_zero-at, some_from}
+use Rattle.nf_linear.proofs.Common.{clear_unless}
 use Rattle.nf_frac_def.specs.declared.Part.TheVariants as Part
-use Rattle.nf_frac_def.specs.Checked.{at_part}
-use Rattle.nf_model.specs.Entries.{number_at}
-use Rattle.nf_rational.specs.Signs.{is_zero}
-use Rattle.nf_linear_def.specs.Table.{Row, row_at, pivot_from}
-use Rattle.nf_linear_laws.proofs.Pivots.{is_zero-at}
-use Rattle.nf_linear.specs.Rows.{some_from, clear_unless}
 use Rattle.nf_linear.proofs.Columns.{pivot_later}
 use Rattle.nf_linear.proofs.Clearing.{ClearedSoFar, cleared_more, row_before}
 use Rattle.nf_linear.proofs.Sparse.{drop_one}

@@ -1,13 +1,7 @@
 -- Where none of the operations of a table's list passes over small numbers, none passes over wide ones.
-use Rattle.std.proofs.Common.{◌≡◌, List, sym}
-use Rattle.std.specs.Prelude.{Option, Ok}
-use Rattle.nf_rational.specs.Rational.{ℚ}
+use Rattle.std.proofs.Common.{◌≡◌, List, sym, Option, Ok}
+use Rattle.nf_linear.proofs.Common.{ℚ, passes_Q, at_part, Row, table_list, table_list_under, part_ok}
 use Rattle.nf_frac_def.specs.declared.Part.TheVariants as Part
-use Rattle.nf_frac_def.specs.Passing.{passes_Q}
-use Rattle.nf_frac_def.specs.Checked.{at_part}
-use Rattle.nf_linear_def.specs.Table.{Row, table_list}
-use Rattle.nf_linear_laws.proofs.Exact.{table_list_under}
-use Rattle.nf_frac_def.proofs.AtPart.{part_ok}
 use Rattle.nf_frac.proofs.Passing.{short_passes_first}
 use Rattle.nf_linear.specs.SmallTables.{passes_small}
 

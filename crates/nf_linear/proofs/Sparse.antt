@@ -1,17 +1,10 @@
 -- A step of the elimination by the entries of the pivot row other than 0 does what the table list does with all of them.
-use Rattle.std.proofs.Common.{◌≡◌, ℕ, zero, suc, ◌+◌, ◌<◌, List, [], ◌∷◌, ◌++◌, length, set, take, drop, Bool, true, false, refl, sym, ap, ◌∙◌, append_assoc, length-set, length-drop, arith}
-use Rattle.std.specs.Prelude.{if◌then◌else◌, Ok, Err}
-use Rattle.nf_rational.specs.Rational.{ℚ}
-use Rattle.nf_rational.specs.Operations.{0ℚ}
-use Rattle.nf_frac_def.specs.Passing.{Passing}
-use Rattle.nf_frac_def.specs.declared.Op.TheVariants.{Quotient}
-use Rattle.nf_frac_def.specs.Checked.{Checked, checked, fold_checked, ◌>>=◌}
+use Rattle.std.proofs.Common.{◌≡◌, ℕ, zero, suc, ◌+◌, ◌<◌, List, [], ◌∷◌, ◌++◌, length, set, take, drop, Bool, true, false, refl, sym, ap, ◌∙◌}
+use Rattle.std.proofs.Common.{append_assoc, length-set, length-drop, arith, if◌then◌else◌, Ok, Err}
+use Rattle.nf_linear.proofs.Common.{ℚ, 0ℚ, Passing, Quotient, Checked, checked, fold_checked, ◌>>=◌, number_at, is_zero, Row, less_unless, entries_less}
+use Rattle.nf_linear.proofs.Common.{cleared_row, some_from, entry_less, clear_row}
 use Rattle.nf_frac_def.proofs.Binding.{bind_same}
-use Rattle.nf_model.specs.Entries.{number_at}
-use Rattle.nf_rational.specs.Signs.{is_zero}
-use Rattle.nf_linear_def.specs.Table.{Row, less_unless, entries_less, cleared_row}
 use Rattle.nf_linear.proofs.Fronts.{take_set, drop_set, take_whole}
-use Rattle.nf_linear.specs.Rows.{some_from, entry_less, clear_row}
 
 -- ---- one place of a list
 pub drop_one : (xs : List ℚ) (k : ℕ) → k < length xs → drop k xs ≡ number_at xs k ∷ drop (suc k) xs

@@ -1,24 +1,14 @@
 -- Columns cleared one by one: what is there so far, and the elimination from there on.
-use Rattle.std.proofs.Common.{◌≡◌, ◌≢◌, ℕ, suc, ◌+◌, ◌-◌, ◌<◌, ◌≤◌, List, [], ◌∷◌, ◌++◌, length, get_or, refl, sym, ap, subst, ◌∙◌, add-one, arith}
-use Rattle.std.specs.Prelude.{Option, Some, None, Ok, Err}
-use Rattle.nf_rational.specs.Rational.{ℚ}
-use Rattle.nf_rational.specs.Operations.{0ℚ}
-use Rattle.nf_frac_def.specs.Passing.{Passing}
-use Rattle.nf_frac_def.specs.declared.Halt.{Halt}
+use Rattle.std.proofs.Common.{◌≡◌, ◌≢◌, ℕ, suc, ◌+◌, ◌-◌, ◌<◌, ◌≤◌, List, [], ◌∷◌, ◌++◌, length, get_or, refl, sym, ap, subst, ◌∙◌, add-one, arith, Option}
+use Rattle.std.proofs.Common.{Some, None, Ok, Err}
+use Rattle.nf_linear.proofs.Common.{ℚ, 0ℚ, Passing, Halt, Checked, Stops, at_part, ◌>>=◌, number_at, Row, row_at, pivot_of, clear_rows, eliminate_at}
+use Rattle.nf_linear.proofs.Common.{eliminate_column, eliminate_from, if_some, never, part_ok, rows_as, IsSquare, IsPivot, is_pivot, some_tested}
+use Rattle.nf_linear.proofs.Common.{eliminated, HasPivots, same_Ok}
 use Rattle.nf_frac_def.specs.declared.Part.TheVariants as Part
-use Rattle.nf_frac_def.specs.Checked.{Checked, Stops, at_part, ◌>>=◌}
-use Rattle.nf_model.specs.Entries.{number_at}
-use Rattle.nf_linear_def.specs.Table.{Row, Eliminated, row_at, pivot_of, clear_rows, eliminate_at, eliminate_column, eliminate_from, if_some}
-use Rattle.nf_frac_def.specs.Passing.{never}
-use Rattle.nf_frac_def.proofs.AtPart.{part_ok}
-use Rattle.nf_linear_laws.proofs.Exact.{rows_as}
-use Rattle.nf_linear_laws.specs.Solution.{IsSquare}
-use Rattle.nf_linear_laws.proofs.Pivots.{IsPivot, is_pivot, some_tested}
+use Rattle.nf_linear_def.specs.Table.{Eliminated}
 use Rattle.nf_linear_laws.proofs.Rows.{rows_after, rows_exact}
 use Rattle.nf_linear_laws.proofs.Elimination.{IsCleared, next_cleared, first_cleared}
-use Rattle.nf_linear.specs.Pivots.{eliminated, HasPivots}
 use Rattle.nf_linear.proofs.Fronts.{stops}
-use Rattle.nf_rational_laws.proofs.Results.{same_Ok}
 use Rattle.std.proofs.lemmas.Option.{same_Some}
 
 -- ---- the pivot of a column

@@ -1,23 +1,10 @@
 -- Lemmas of rows: the test for 0, entries other than 0, and what the entries of a pivot row take off.
-use Rattle.std.proofs.Common.{◌≡◌, ℕ, zero, suc, ◌+◌, ◌<◌, ◌≤◌, List, [], ◌∷◌, ◌++◌, length, set, take, drop, get_or, replicate, Bool, true, false, refl, sym, ap, subst, ◌∙◌, add-one, append_assoc, length-set}
-use Rattle.std.specs.Prelude.{IsTrue, if◌then◌else◌, Ok, Err}
-use Rattle.std.specs.List.{AllByRecursion}
-use Rattle.std.proofs.Math.ListN.{drop_of_length-le, length-map}
-use Rattle.std.proofs.lemmas.List.{drop_more, append-nil, map-append, take_more_set}
-use Rattle.nf_rational.specs.Rational.{ℚ}
-use Rattle.nf_rational.specs.Operations.{0ℚ}
-use Rattle.nf_frac_def.specs.Passing.{Passing}
-use Rattle.nf_frac_def.specs.declared.Part.{Part}
-use Rattle.nf_frac_def.specs.declared.PassedAt.{PassedAt}
-use Rattle.nf_frac_def.specs.Checked.{Checked, at_part, fold_checked, ◌>>=◌}
-use Rattle.nf_frac_def.proofs.Each.{fold_ok}
-use Rattle.nf_frac_def.proofs.AtPart.{part_ok}
-use Rattle.nf_linear_def.specs.Table.{less_unless}
-use Rattle.nf_model.specs.Entries.{number_at}
-use Rattle.nf_rational.specs.Signs.{is_zero}
-use Rattle.nf_linear_laws.proofs.Pivots.{is_zero-at}
+use Rattle.std.proofs.Common.{◌≡◌, ℕ, zero, suc, ◌+◌, ◌<◌, ◌≤◌, List, [], ◌∷◌, ◌++◌, length, set, take, drop, get_or, replicate, Bool, true, false, refl}
+use Rattle.std.proofs.Common.{sym, ap, subst, ◌∙◌, add-one, append_assoc, length-set, IsTrue, if◌then◌else◌, Ok, Err}
+use Rattle.nf_linear.proofs.Common.{AllByRecursion, drop_of_length-le, length-map, drop_more, append-nil, map-append, take_more_set, ℚ, 0ℚ, Passing, Part}
+use Rattle.nf_linear.proofs.Common.{PassedAt, Checked, at_part, fold_checked, ◌>>=◌, fold_ok, part_ok, less_unless, number_at, is_zero, is_zero-at, meant}
+use Rattle.nf_linear.proofs.Common.{some_from, entry_less}
 use Rattle.nf_rational_laws.proofs.SignTests.{zero_of_test}
-use Rattle.nf_linear.specs.Rows.{meant, some_from, entry_less}
 use Rattle.nf_linear.proofs.Fronts.{stopped}
 
 by_cases : (b t : Bool) (x : ℚ) → is_zero x ≡ t → (IsTrue b → x ≡ 0ℚ) → (x ≡ 0ℚ → IsTrue b) → b ≡ t

@@ -1,19 +1,8 @@
 -- The values of the unknowns one by one: those so far stand before what comes of the rest.
-use Rattle.std.proofs.Common.{◌≡◌, ℕ, suc, ◌+◌, ◌<◌, ◌≤◌, List, [], ◌∷◌, ◌++◌, length, drop, get_or, sym, ap, subst, ◌∙◌, add-one}
-use Rattle.std.specs.Prelude.{Result, Ok, Err}
-use Rattle.std.proofs.Math.ListN.{drop_of_length-le}
-use Rattle.std.proofs.Math.Seq.{drop-cons}
-use Rattle.std.proofs.lemmas.List.{append-nil}
-use Rattle.nf_rational.specs.Rational.{ℚ}
-use Rattle.nf_frac_def.specs.Passing.{Passing}
-use Rattle.nf_frac_def.specs.declared.Op.TheVariants.{Quotient}
+use Rattle.std.proofs.Common.{◌≡◌, ℕ, suc, ◌+◌, ◌<◌, ◌≤◌, List, [], ◌∷◌, ◌++◌, length, drop, get_or, sym, ap, subst, ◌∙◌, add-one, Result, Ok, Err}
+use Rattle.nf_linear.proofs.Common.{drop_of_length-le, drop-cons, append-nil, ℚ, Passing, Quotient, PassedAt, Checked, checked, checked_at, at_part, ◌>>=◌}
+use Rattle.nf_linear.proofs.Common.{with_front, part_ok, number_at, Row, row_at, solution_from}
 use Rattle.nf_frac_def.specs.declared.Part.TheVariants as Part
-use Rattle.nf_frac_def.specs.declared.PassedAt.{PassedAt}
-use Rattle.nf_frac_def.specs.Checked.{Checked, checked, checked_at, at_part, ◌>>=◌}
-use Rattle.nf_frac_def.proofs.Each.{with_front}
-use Rattle.nf_frac_def.proofs.AtPart.{part_ok}
-use Rattle.nf_model.specs.Entries.{number_at}
-use Rattle.nf_linear_def.specs.Table.{Row, row_at, solution_from}
 use Rattle.nf_linear.proofs.Fronts.{first_before, one_before, stopped, stopped_before}
 
 module _ (passes : Passing) (rows : List Row) (pivots : List ℕ) where

@@ -1,12 +1,7 @@
 -- The rows of a grid, once those in front are written anew.
-use Rattle.std.proofs.Common.{◌≡◌, ℕ, zero, suc, ◌+◌, ◌<◌, ◌≤◌, List, ◌++◌, length, set, take, drop, replicate, refl, sym, subst, ap, ◌∙◌, arith, length-take-le}
-use Rattle.std.proofs.Math.ListN.{length-set}
-use Rattle.std.proofs.Math.Seq.{take-append_seam}
-use Rattle.std.proofs.lemmas.List.{length-replicate}
-use Rattle.nf_rational.specs.Rational.{ℚ}
-use Rattle.nf_rational.specs.Operations.{0ℚ}
-use Rattle.nf_linear_def.specs.Table.{Row, row_at}
-use Rattle.nf_linear_laws.specs.Solution.{IsSquare}
+use Rattle.std.proofs.Common.{◌≡◌, ℕ, zero, suc, ◌+◌, ◌<◌, ◌≤◌, List, ◌++◌, length, set, take, drop, replicate, refl, sym, subst, ap, ◌∙◌, arith}
+use Rattle.std.proofs.Common.{length-take-le}
+use Rattle.nf_linear.proofs.Common.{length-set, take-append_seam, length-replicate, ℚ, 0ℚ, Row, row_at, IsSquare}
 use Rattle.nf_linear.proofs.Clearing.{row_got}
 use Rattle.nf_linear.proofs.Changed.{still_square}
 

@@ -1,13 +1,7 @@
 -- Bounds of one number by forms, from above and from below. If each bound from below allows each from above, the greatest bound from below
 -- is within all. If there is no bound from below, the least bound from above is.
 use Rattle.std.proofs.Common.{◌≡◌, ℕ, ◌<◌, List, [], ◌∷◌, ◌++◌, ◌⊎◌, inl, inr, subst}
-use Rattle.nf_rational.specs.Rational.{ℚ}
-use Rattle.nf_rational.specs.Operations.{0ℚ, ◌+ℚ◌, ◌-ℚ◌}
-use Rattle.nf_rational.specs.Order.{◌≤ℚ◌, ◌<ℚ◌}
-use Rattle.nf_rational_laws.proofs.Polynomial.{reading_of}
-use Rattle.nf_rational_laws.proofs.Order.{lt_or_le_ℚ, ≤ℚ_of_lt}
-use Rattle.nf_rational_laws.proofs.Linear.{le, eq, linear_le}
-use Rattle.nf_linear_laws.specs.Systems.{form_value, AtMost, MeetsAll}
+use Rattle.nf_linear_laws.proofs.Common.{ℚ, 0ℚ, ◌+ℚ◌, ◌-ℚ◌, ◌≤ℚ◌, ◌<ℚ◌, reading_of, lt_or_le_ℚ, ≤ℚ_of_lt, le, eq, linear_le, form_value, AtMost, MeetsAll}
 use Rattle.nf_linear_laws.proofs.Forms.{form_value-append, form_value-same, Within-append}
 use Rattle.nf_linear_laws.proofs.Constraints.{AreWithin, AreWithin-append, MeetsAll-append, MeetsAll-front, MeetsAll-rest}
 

@@ -1,10 +1,6 @@
 -- The least value if one of finitely many systems must be met; and the least second objective among those with the least first one.
 use Rattle.std.proofs.Common.{ℕ, List, [], ◌∷◌, ◌⊎◌, inl, inr}
-use Rattle.nf_rational.specs.Rational.{ℚ}
-use Rattle.nf_rational.specs.Order.{◌≤ℚ◌, ◌<ℚ◌}
-use Rattle.nf_rational_laws.proofs.Order.{lt_or_le_ℚ, ≤ℚ_of_lt}
-use Rattle.nf_rational_laws.proofs.Chains.{≤ℚ_refl, ≤ℚ_trans}
-use Rattle.nf_linear_laws.specs.Systems.{Form, form_value, AtMost, MeetsAll}
+use Rattle.nf_linear_laws.proofs.Common.{ℚ, ◌≤ℚ◌, ◌<ℚ◌, lt_or_le_ℚ, ≤ℚ_of_lt, ≤ℚ_refl, ≤ℚ_trans, Form, form_value, AtMost, MeetsAll}
 use Rattle.nf_linear_laws.proofs.Projection.{Decided, decided}
 use Rattle.nf_linear_laws.proofs.Least.{Least, least_is_taken}
 

@@ -1,14 +1,8 @@
 -- Tables whose first columns are cleared: each of these columns has a pivot row, and is 0 in every other row.
-use Rattle.std.proofs.Common.{◌≡◌, ◌≢◌, ℕ, zero, suc, ◌<◌, ◌≤◌, [], ◌∷◌, ◌⊎◌, inl, inr, ⊎_elim, true, false, cond, eqb, ltb, leb, refl, sym, ap, subst, ◌∙◌, arith}
-use Rattle.std.proofs.lemmas.Bool.Decides.{eqb_tells, leb_tells}
-use Rattle.nf_rational.specs.Rational.{ℚ}
-use Rattle.nf_rational.specs.Operations.{0ℚ, 1ℚ, ◌+ℚ◌, ◌-ℚ◌, ◌*ℚ◌, ◌/ℚ◌}
-use Rattle.nf_rational_laws.proofs.Polynomial.{reading_of}
-use Rattle.nf_rational_laws.proofs.Field.{*ℚ_comm}
-use Rattle.nf_rational_laws.proofs.Signs.{times_one, times_zero}
-use Rattle.nf_rational_laws.proofs.Quotient.{/ℚ-times, /ℚ-unique}
-use Rattle.nf_rational_laws.proofs.Linear.{eq, eq_times, linear_eq}
-use Rattle.nf_rational_laws.proofs.Facts.{times_first_zero, times_second_zero}
+use Rattle.std.proofs.Common.{◌≡◌, ◌≢◌, ℕ, zero, suc, ◌<◌, ◌≤◌, [], ◌∷◌, ◌⊎◌, inl, inr, ⊎_elim, true, false, cond, eqb, ltb, leb, refl, sym, ap, subst, ◌∙◌}
+use Rattle.std.proofs.Common.{arith}
+use Rattle.nf_linear_laws.proofs.Common.{eqb_tells, leb_tells, ℚ, 0ℚ, 1ℚ, ◌+ℚ◌, ◌-ℚ◌, ◌*ℚ◌, ◌/ℚ◌, reading_of, *ℚ_comm, times_one, times_zero, /ℚ-times}
+use Rattle.nf_linear_laws.proofs.Common.{/ℚ-unique, eq, eq_times, linear_eq, times_first_zero, times_second_zero}
 use Rattle.nf_linear_laws.proofs.Totals.{total, total_zero, total_one, total_two}
 use Rattle.nf_linear_laws.proofs.Steps.{Table, Meets, IsStep, kept_row}
 

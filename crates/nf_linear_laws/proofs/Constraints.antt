@@ -1,9 +1,6 @@
 -- Systems: joined, at assignments that agree, and tested.
 use Rattle.std.proofs.Common.{◌≡◌, ℕ, suc, ◌+◌, ◌<◌, ◌≤◌, List, [], ◌∷◌, ◌++◌, ◌⊎◌, inl, inr, sym, subst, arith}
-use Rattle.nf_rational.specs.Rational.{ℚ}
-use Rattle.nf_rational.specs.Order.{◌≤ℚ◌, ◌<ℚ◌}
-use Rattle.nf_rational_laws.proofs.Order.{lt_or_le_ℚ, not_both_ℚ}
-use Rattle.nf_linear_laws.specs.Systems.{form_value, AtMost, HoldsAt, MeetsAll}
+use Rattle.nf_linear_laws.proofs.Common.{ℚ, ◌≤ℚ◌, ◌<ℚ◌, lt_or_le_ℚ, not_both_ℚ, form_value, AtMost, HoldsAt, MeetsAll}
 use Rattle.nf_linear_laws.proofs.Forms.{Within, Within-more, form_within, form_value-same, moved, form_value-moved}
 
 -- ---- joined

@@ -1,24 +1,18 @@
 -- The table operations, if no operation can pass. Each column with a pivot is cleared. A column without a pivot shows that the system does
 -- not have exactly one solution. If all columns are cleared, the pivot rows give the only solution.
-use Rattle.std.proofs.Common.{◌≡◌, ◌≢◌, ℕ, zero, suc, ◌+◌, ◌<◌, List, [], ◌∷◌, ◌++◌, length, get_or, Bool, true, false, cond, ◌||◌, eqb, refl, sym, ap, subst, ◌∙◌, arith}
-use Rattle.std.specs.Prelude.{◌==◌, Option, Some, None, Ok}
-use Rattle.std.proofs.lemmas.Bool.{eq-eqb, ne_eqb}
+use Rattle.std.proofs.Common.{◌≡◌, ◌≢◌, ℕ, zero, suc, ◌+◌, ◌<◌, List, [], ◌∷◌, ◌++◌, length, get_or, Bool, true, false, cond, ◌||◌, eqb, refl, sym, ap}
+use Rattle.std.proofs.Common.{subst, ◌∙◌, arith, ◌==◌, Option, Some, None, Ok}
+use Rattle.nf_linear_laws.proofs.Common.{eq-eqb, ne_eqb, ℚ, 0ℚ, 1ℚ, ◌-ℚ◌, ◌*ℚ◌, ◌/ℚ◌, Checked, ◌>>=◌, number_at, is_zero, Row, Eliminated, row_at, pivot_of}
+use Rattle.nf_linear_laws.proofs.Common.{eliminate_at, if_some, eliminate_from, solution_from, solution_of, never, zero_of_test, IsSquare}
 use Rattle.std.proofs.Math.Seq.{get_or-append_seam}
 use Rattle.std.proofs.lemmas.List.{get_or_append_left}
 use Rattle.std.proofs.Math.ListN.{length-append}
-use Rattle.nf_rational.specs.Rational.{ℚ}
-use Rattle.nf_rational.specs.Operations.{0ℚ, 1ℚ, ◌-ℚ◌, ◌*ℚ◌, ◌/ℚ◌}
-use Rattle.nf_frac_def.specs.Checked.{Checked, ◌>>=◌}
-use Rattle.nf_model.specs.Entries.{number_at}
-use Rattle.nf_rational.specs.Signs.{is_zero}
-use Rattle.nf_linear_def.specs.Table.{Row, Eliminated, row_at, pivot_of, eliminate_at, if_some, eliminate_from, solution_from, solution_of, table_list}
-use Rattle.nf_frac_def.specs.Passing.{never}
-use Rattle.nf_rational_laws.proofs.SignTests.{zero_of_test}
+use Rattle.nf_linear_def.specs.Table.{table_list}
 use Rattle.nf_linear_laws.proofs.Steps.{Table, Meets, IsStep, meets_after, meets_before}
 use Rattle.nf_linear_laws.proofs.Columns.{Reduced, one_more, solution, forced, met, free, free-at, homogeneous}
 use Rattle.nf_linear_laws.proofs.Pivots.{some_tested, pivot_row_of, none_is, none_any, no_pivot, IsPivot, is_pivot, every_one}
-use Rattle.nf_linear_laws.proofs.Rows.{bind_ok, rows_after, rows_exact, kept_or_less, kept_or_less-at, kept_or_less-clear, kept_or_less-length, rows_after-length, rows_after-at, quotient_exact}
-use Rattle.nf_linear_laws.specs.Solution.{IsSquare}
+use Rattle.nf_linear_laws.proofs.Rows.{bind_ok, rows_after, rows_exact, kept_or_less, kept_or_less-at, kept_or_less-clear, kept_or_less-length}
+use Rattle.nf_linear_laws.proofs.Rows.{rows_after-length, rows_after-at, quotient_exact}
 
 abbrev pub numbers : List Row → Table
 numbers rows i j = number_at (row_at rows i) j

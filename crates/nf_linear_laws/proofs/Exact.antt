@@ -1,13 +1,10 @@
 -- If no operation of the elimination of a table passes, its value is also that of the elimination in which fewer operations can pass.
-use Rattle.std.specs.Prelude.{◌==◌, ◌||◌, ℕ, zero, suc, Bool, true, false, List, [], ◌∷◌, length, Option, Some, None, Ok, drop}
-use Rattle.nf_rational.specs.Rational.{ℚ}
-use Rattle.nf_rational.specs.Signs.{is_zero}
-use Rattle.nf_frac_def.specs.declared.Op.TheVariants.{Difference, Product, Quotient}
-use Rattle.nf_frac_def.specs.Passing.{Passing, never}
-use Rattle.nf_frac_def.specs.Checked.{Checked}
+use Rattle.std.proofs.Common.{◌==◌, ◌||◌, ℕ, zero, suc, Bool, true, false, List, [], ◌∷◌, length, Option, Some, None, Ok, drop}
+use Rattle.nf_linear_laws.proofs.Common.{ℚ, is_zero, Difference, Product, Quotient, Passing, never, Checked, number_at, Row, Eliminated, row_at, pivot_of}
+use Rattle.nf_linear_laws.proofs.Common.{less_unless, entries_less, cleared_row, clear_unless, clear_rows, eliminate_at, if_some, eliminate_from}
+use Rattle.nf_linear_laws.proofs.Common.{solution_from, solution_of}
 use Rattle.nf_frac_def.proofs.Exact.{GivesAs, PassesFewer, bind, same, one, none_passes}
-use Rattle.nf_model.specs.Entries.{number_at}
-use Rattle.nf_linear_def.specs.Table.{Row, Eliminated, row_at, pivot_of, less_unless, entries_less, cleared_row, clear_unless, clear_rows, eliminate_at, if_some, eliminate_from, solution_from, solution_of, table_list}
+use Rattle.nf_linear_def.specs.Table.{table_list}
 
 module _ (passes fewer : Passing) (none_more : PassesFewer passes fewer) where
   less_as : (zero : Bool) (f p x : ℚ) → GivesAs (less_unless passes zero f p x) (less_unless fewer zero f p x)

@@ -1,15 +1,8 @@
 -- Values of forms: joined, scaled, at other assignments, and without one variable.
 use Rattle.std.proofs.Common.{◌≡◌, ◌≢◌, ℕ, suc, ◌+◌, ◌<◌, ◌≤◌, [], ◌∷◌, ◌++◌, ⊎_elim, Bool, true, false, if◌then◌else◌, eqb, refl, sym, ap, arith}
-use Rattle.std.proofs.lemmas.Bool.{eqb-true}
-use Rattle.std.proofs.lemmas.Bool.Decides.{eqb_tells}
-use Rattle.nf_rational.specs.Rational.{ℚ}
-use Rattle.nf_rational.specs.Operations.{0ℚ, 1ℚ, ◌+ℚ◌, ◌-ℚ◌, ◌*ℚ◌}
-use Rattle.nf_rational_laws.proofs.Polynomial.{reading_of}
-use Rattle.nf_rational_laws.proofs.Field.{+ℚ_idl}
-use Rattle.nf_rational_laws.proofs.Linear.{eq, linear_eq}
+use Rattle.nf_linear_laws.proofs.Common.{eqb-true, eqb_tells, ℚ, 0ℚ, 1ℚ, ◌+ℚ◌, ◌-ℚ◌, ◌*ℚ◌, reading_of, +ℚ_idl, eq, linear_eq, sum_of_sum}
+use Rattle.nf_linear_laws.proofs.Common.{zero_of_times_zero, same_terms, Form, form_value}
 use Rattle.nf_rational_laws.proofs.Results.{not_both}
-use Rattle.nf_rational_laws.proofs.Facts.{sum_of_sum, zero_of_times_zero, same_terms}
-use Rattle.nf_linear_laws.specs.Systems.{Form, form_value}
 
 -- ---- sums and multiples
 pub form_value-append : (f g : Form) (x : ℕ → ℚ) → form_value (f ++ g) x ≡ form_value f x +ℚ form_value g x

@@ -1,14 +1,8 @@
 -- The least value of an objective. It is the least value of a first variable that is at least the objective.
 -- With all other variables eliminated, it is the greatest of the bounds from below.
 use Rattle.std.proofs.Common.{◌≡◌, ℕ, zero, suc, ◌<◌, List, [], ◌∷◌, ◌⊎◌, inl, inr, sym, subst}
-use Rattle.nf_rational.specs.Rational.{ℚ}
-use Rattle.nf_rational.specs.Operations.{0ℚ, 1ℚ, ◌+ℚ◌, ◌-ℚ◌, ◌*ℚ◌}
-use Rattle.nf_rational.specs.Order.{◌≤ℚ◌, ◌<ℚ◌}
-use Rattle.nf_rational_laws.proofs.Polynomial.{reading_of}
-use Rattle.nf_rational_laws.proofs.Order.{lt_or_le_ℚ, not_both_ℚ, ≤ℚ_of_same}
-use Rattle.nf_rational_laws.proofs.Linear.{le, eq, linear_le, linear_lt}
-use Rattle.nf_rational_laws.proofs.Chains.{≤ℚ_refl, ≤ℚ_trans}
-use Rattle.nf_linear_laws.specs.Systems.{Form, form_value, AtMost, MeetsAll}
+use Rattle.nf_linear_laws.proofs.Common.{ℚ, 0ℚ, 1ℚ, ◌+ℚ◌, ◌-ℚ◌, ◌*ℚ◌, ◌≤ℚ◌, ◌<ℚ◌, reading_of, lt_or_le_ℚ, not_both_ℚ, ≤ℚ_of_same, le, eq, linear_le}
+use Rattle.nf_linear_laws.proofs.Common.{linear_lt, ≤ℚ_refl, ≤ℚ_trans, Form, form_value, AtMost, MeetsAll}
 use Rattle.nf_linear_laws.proofs.Forms.{updated, updated-here, moved, form_value-moved}
 use Rattle.nf_linear_laws.proofs.Constraints.{all_moved, all_moved-in, all_moved-out}
 use Rattle.nf_linear_laws.proofs.Bounds.{AreAbove, AreBelow, AreAbove-less, AreBelow-same, Greatest, greatest}

@@ -1,16 +1,10 @@
 -- Elimination of one variable from a system (Fourier, Motzkin). Divided by the variable's coefficient, each constraint does not contain the
 -- variable, or bounds it from above or from below. Exactly the assignments that meet the remaining system, meet the system with some value.
 use Rattle.std.proofs.Common.{◌≡◌, ℕ, suc, List, [], ◌∷◌, ◌++◌, ◌⊎◌, inl, inr, sym, subst}
-use Rattle.nf_rational.specs.Rational.{ℚ}
-use Rattle.nf_rational.specs.Operations.{0ℚ, 1ℚ, ◌+ℚ◌, ◌-ℚ◌, ◌*ℚ◌, inv_ℚ}
-use Rattle.nf_rational.specs.Order.{◌≤ℚ◌, ◌<ℚ◌}
-use Rattle.nf_rational_laws.proofs.Polynomial.{reading_of}
-use Rattle.nf_rational_laws.proofs.Order.{lt_or_le_ℚ, ≤ℚ_antisymm, ≤ℚ_of_lt}
-use Rattle.nf_rational_laws.proofs.Linear.{le, eq, le_times, eq_times, linear_le}
-use Rattle.nf_rational_laws.proofs.Quotient.{ps_inv, ps_times_inv}
-use Rattle.nf_rational_laws.proofs.Facts.{negated_ps}
-use Rattle.nf_linear_laws.specs.Systems.{form_value, AtMost, HoldsAt, MeetsAll}
-use Rattle.nf_linear_laws.proofs.Forms.{Within, Within-scaled, Within-without, scaled, form_value-scaled, updated, updated-here, updated-below, coefficient, without, form_value-apart}
+use Rattle.nf_linear_laws.proofs.Common.{ℚ, 0ℚ, 1ℚ, ◌+ℚ◌, ◌-ℚ◌, ◌*ℚ◌, inv_ℚ, ◌≤ℚ◌, ◌<ℚ◌, reading_of, lt_or_le_ℚ, ≤ℚ_antisymm, ≤ℚ_of_lt, le, eq, le_times}
+use Rattle.nf_linear_laws.proofs.Common.{eq_times, linear_le, ps_inv, ps_times_inv, negated_ps, form_value, AtMost, HoldsAt, MeetsAll}
+use Rattle.nf_linear_laws.proofs.Forms.{Within, Within-scaled, Within-without, scaled, form_value-scaled, updated, updated-here, updated-below, coefficient}
+use Rattle.nf_linear_laws.proofs.Forms.{without, form_value-apart}
 use Rattle.nf_linear_laws.proofs.Constraints.{AreWithin, AreWithin-append, MeetsAll-append, MeetsAll-front, MeetsAll-rest, MeetsAll-same}
 use Rattle.nf_linear_laws.proofs.Bounds.{AreAbove, AreBelow, AreAbove-same, AreBelow-same, pairs, pairs-within, pairs-in, between}
 

@@ -1,3 +1,4 @@
+mod Common
 pub mod Totals
 pub mod Steps
 pub mod Columns

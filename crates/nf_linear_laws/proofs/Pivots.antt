@@ -1,19 +1,12 @@
 -- The pivot of a column, and the set of pivot rows: if there are as many different ones as rows, they are all rows.
-use Rattle.std.proofs.Common.{◌≡◌, ◌≢◌, ℕ, zero, suc, ◌+◌, ◌<◌, ◌≤◌, List, [], ◌∷◌, length, get_or, ⊎_elim, Bool, true, false, not, ◌&&◌, ◌||◌, eqb, refl, sym, subst, ◌∙◌, arith}
-use Rattle.std.specs.Prelude.{◌==◌, if◌then◌else◌, Option, Some, None}
+use Rattle.std.proofs.Common.{◌≡◌, ◌≢◌, ℕ, zero, suc, ◌+◌, ◌<◌, ◌≤◌, List, [], ◌∷◌, length, get_or, ⊎_elim, Bool, true, false, not, ◌&&◌, ◌||◌, eqb, refl}
+use Rattle.std.proofs.Common.{sym, subst, ◌∙◌, arith, ◌==◌, if◌then◌else◌, Option, Some, None}
+use Rattle.nf_linear_laws.proofs.Common.{eqb_tells, eq-eqb, ne_eqb, ℚ, 0ℚ, ≤ℚ_of_same, number_at, is_zero, Row, row_at, pivot_from}
 use Rattle.std.specs.List.{list_any}
-use Rattle.std.proofs.lemmas.Bool.Decides.{eqb_tells}
 use Rattle.std.proofs.lemmas.List.Folds.{list_any_at}
-use Rattle.std.proofs.lemmas.Bool.{eq-eqb, ne_eqb}
 use Rattle.std.proofs.lemmas.Map.Keys.{IsDistinct-from_apart}
 use Rattle.std.proofs.lemmas.Map.Steps.{length-le_from_distinct_below}
-use Rattle.nf_rational.specs.Rational.{ℚ}
-use Rattle.nf_rational.specs.Operations.{0ℚ}
-use Rattle.nf_rational_laws.proofs.Order.{≤ℚ_of_same}
 use Rattle.nf_rational_laws.proofs.Tests.{test_of_le}
-use Rattle.nf_model.specs.Entries.{number_at}
-use Rattle.nf_rational.specs.Signs.{is_zero}
-use Rattle.nf_linear_def.specs.Table.{Row, row_at, pivot_from}
 use Rattle.nf_linear_laws.proofs.Columns.{place}
 use Rattle.std.proofs.lemmas.Option.{same_Some}
 use Rattle.std.proofs.lemmas.Grind.{get_or_default_zero}

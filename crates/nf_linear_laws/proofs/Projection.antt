@@ -1,9 +1,7 @@
 -- Elimination of all variables but the first, from the last one on. Without the first variable too, any assignment tests the remaining
 -- system.
 use Rattle.std.proofs.Common.{◌≡◌, ◌≢◌, ℕ, zero, suc, ◌<◌, ◌≤◌, List, ◌⊎◌, inl, inr, refl, ◌∙◌, arith}
-use Rattle.nf_rational.specs.Rational.{ℚ}
-use Rattle.nf_rational.specs.Operations.{0ℚ}
-use Rattle.nf_linear_laws.specs.Systems.{AtMost, MeetsAll}
+use Rattle.nf_linear_laws.proofs.Common.{ℚ, 0ℚ, AtMost, MeetsAll}
 use Rattle.nf_linear_laws.proofs.Forms.{updated, updated-else}
 use Rattle.nf_linear_laws.proofs.Constraints.{AreWithin, AreWithin-more, system_within, MeetsAll-same, met_or_not}
 use Rattle.nf_linear_laws.proofs.LeastElimination.{Elimination, eliminated}

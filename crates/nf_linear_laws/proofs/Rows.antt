@@ -1,19 +1,9 @@
 -- The effect of the table operations on rows, if no operation can pass.
-use Rattle.std.proofs.Common.{◌≡◌, ◌≢◌, ℕ, zero, suc, ◌+◌, ◌<◌, List, [], ◌∷◌, ◌++◌, length, take, drop, Bool, true, false, cond, ◌||◌, refl, sym, ap, ◌∙◌, arith}
-use Rattle.std.specs.Prelude.{◌==◌, Result, Ok}
-use Rattle.nf_rational.specs.Rational.{ℚ}
-use Rattle.nf_rational.specs.Operations.{0ℚ, ◌-ℚ◌, ◌*ℚ◌, ◌/ℚ◌}
-use Rattle.nf_rational_laws.proofs.Polynomial.{ring, reading, reading_of}
-use Rattle.nf_rational_laws.proofs.Field.{rationals}
-use Rattle.nf_rational_laws.proofs.Linear.{eq, eq_times, linear_eq}
-use Rattle.nf_rational_laws.proofs.Quotient.{/ℚ-times}
-use Rattle.nf_rational_laws.proofs.SignTests.{zero_of_test}
-use Rattle.nf_frac_def.specs.declared.Op.TheVariants.{Quotient}
-use Rattle.nf_frac_def.specs.Checked.{checked, ◌>>=◌}
-use Rattle.nf_model.specs.Entries.{number_at}
-use Rattle.nf_rational.specs.Signs.{is_zero}
-use Rattle.nf_linear_def.specs.Table.{Row, row_at, less_unless, entries_less, clear_unless, clear_rows}
-use Rattle.nf_frac_def.specs.Passing.{never}
+use Rattle.std.proofs.Common.{◌≡◌, ◌≢◌, ℕ, zero, suc, ◌+◌, ◌<◌, List, [], ◌∷◌, ◌++◌, length, take, drop, Bool, true, false, cond, ◌||◌, refl, sym, ap, ◌∙◌}
+use Rattle.std.proofs.Common.{arith, ◌==◌, Result, Ok}
+use Rattle.nf_linear_laws.proofs.Common.{ℚ, 0ℚ, ◌-ℚ◌, ◌*ℚ◌, ◌/ℚ◌, ring, reading, reading_of, rationals, eq, eq_times, linear_eq, /ℚ-times, zero_of_test}
+use Rattle.nf_linear_laws.proofs.Common.{Quotient, ◌>>=◌, number_at, is_zero, Row, row_at, less_unless, entries_less, clear_unless, clear_rows, never}
+use Rattle.nf_frac_def.specs.Checked.{checked}
 use Rattle.nf_linear_laws.proofs.Totals.{none_less}
 
 pub bind_ok : {A B E : Type 0} (r : Result A E) (a : A) (f : A → Result B E) (s : Result B E) → r ≡ Ok a → f a ≡ s → (r >>= f) ≡ s

@@ -1,19 +1,8 @@
 -- The value of the table operations, and the solutions of the system.
-use Rattle.std.proofs.Common.{◌≡◌, ◌≢◌, ℕ, zero, suc, ◌<◌, List, [], ◌∷◌, length, Some, None, refl, sym, ap, subst, ◌∙◌, arith}
-use Rattle.std.specs.Prelude.{Ok}
-use Rattle.nf_rational.specs.Rational.{ℚ}
-use Rattle.nf_rational.specs.Operations.{0ℚ, 1ℚ, ◌+ℚ◌, ◌-ℚ◌, ◌*ℚ◌}
-use Rattle.nf_rational_laws.proofs.Order.{ps_whole}
-use Rattle.nf_rational_laws.proofs.Polynomial.{ring, reading, reading_of}
-use Rattle.nf_rational_laws.proofs.Field.{rationals, zero-*ℚ}
-use Rattle.nf_rational_laws.proofs.Signs.{times_one}
-use Rattle.nf_rational_laws.proofs.Quotient.{ps_apart}
-use Rattle.nf_rational_laws.proofs.Linear.{eq, linear_eq}
-use Rattle.nf_frac_def.specs.Passing.{Passing}
-use Rattle.nf_model.specs.Entries.{number_at}
-use Rattle.nf_linear_def.specs.Table.{Row, row_at, table_list}
+use Rattle.std.proofs.Common.{◌≡◌, ◌≢◌, ℕ, zero, suc, ◌<◌, List, [], ◌∷◌, length, Some, None, refl, sym, ap, subst, ◌∙◌, arith, Ok}
+use Rattle.nf_linear_laws.proofs.Common.{ℚ, 0ℚ, 1ℚ, ◌+ℚ◌, ◌-ℚ◌, ◌*ℚ◌, ps_whole, ring, reading, reading_of, rationals, zero-*ℚ, times_one, ps_apart, eq}
+use Rattle.nf_linear_laws.proofs.Common.{linear_eq, Passing, number_at, Row, row_at, table_list, IsSquare, left_side, SolvesRows, IsOnlySolution}
 use Rattle.nf_linear_laws.proofs.Exact.{table_list_as}
-use Rattle.nf_linear_laws.specs.Solution.{IsSquare, left_side, SolvesRows, IsOnlySolution}
 use Rattle.nf_linear_laws.proofs.Totals.{total, total_same, total_zero, total_less}
 use Rattle.nf_linear_laws.proofs.Steps.{Meets}
 use Rattle.nf_linear_laws.proofs.Elimination.{numbers, IsSolvedBy, IsLoose, table_says}

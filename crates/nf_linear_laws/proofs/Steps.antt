@@ -1,11 +1,7 @@
 -- A multiple of one row subtracted from all other rows: the system has the same solutions before and after.
 -- A table of n rows is given by its numbers M i j, where column n is the right side.
 use Rattle.std.proofs.Common.{◌≡◌, ℕ, suc, ◌<◌, [], ◌∷◌, sym, ap, ◌∙◌, arith}
-use Rattle.nf_rational.specs.Rational.{ℚ}
-use Rattle.nf_rational.specs.Operations.{0ℚ, ◌+ℚ◌, ◌-ℚ◌, ◌*ℚ◌}
-use Rattle.nf_rational_laws.proofs.Polynomial.{ring, reading, reading_of}
-use Rattle.nf_rational_laws.proofs.Field.{rationals}
-use Rattle.nf_rational_laws.proofs.Linear.{eq_times, linear_eq}
+use Rattle.nf_linear_laws.proofs.Common.{ℚ, 0ℚ, ◌+ℚ◌, ◌-ℚ◌, ◌*ℚ◌, ring, reading, reading_of, rationals, eq_times, linear_eq}
 use Rattle.nf_linear_laws.proofs.Totals.{total, total_same, total_less}
 
 abbrev pub Table : Type 0

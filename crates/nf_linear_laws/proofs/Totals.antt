@@ -1,11 +1,6 @@
 -- Sums over the numbers below a bound.
 use Rattle.std.proofs.Common.{◌≡◌, ◌≢◌, ℕ, zero, suc, ◌<◌, [], ◌∷◌, refl, ap, ◌∙◌, arith}
-use Rattle.nf_rational.specs.Rational.{ℚ}
-use Rattle.nf_rational.specs.Operations.{0ℚ, ◌+ℚ◌, ◌-ℚ◌, ◌*ℚ◌}
-use Rattle.nf_rational_laws.proofs.Polynomial.{ring, reading}
-use Rattle.nf_rational_laws.proofs.Field.{rationals}
-use Rattle.nf_rational_laws.proofs.Facts.{both_are_zero, second_is_zero}
-use Rattle.nf_rational_laws.proofs.Signs.{first_is_zero}
+use Rattle.nf_linear_laws.proofs.Common.{ℚ, 0ℚ, ◌+ℚ◌, ◌-ℚ◌, ◌*ℚ◌, ring, reading, rationals, both_are_zero, second_is_zero, first_is_zero}
 
 abbrev pub total : ℕ → (ℕ → ℚ) → ℚ
 total zero f = 0ℚ

@@ -1,10 +1,6 @@
 -- Labels on the steps of a list.
-use Rattle.std.proofs.Common.{◌≡◌, ℕ, zero, suc, ◌<◌, List, [], ◌∷◌, ◌++◌, length, take, map, refl, sym, subst, arith}
-use Rattle.std.specs.Prelude.{Option, Some, None, slice_get}
-use Rattle.nf_rational.specs.Rational.{ℚ}
-use Rattle.nf_model.specs.Curve.{Point}
-use Rattle.nf_load.specs.Rates.{IsRate}
-use Rattle.nf_load.specs.Slopes.{flat, Along, AreKnownSlopes}
+use Rattle.std.proofs.Common.{◌≡◌, ℕ, zero, suc, ◌<◌, List, [], ◌∷◌, ◌++◌, length, take, map, refl, sym, subst, arith, Option, Some, None, slice_get}
+use Rattle.nf_load.proofs.Common.{ℚ, Point, IsRate, flat, Along, AreKnownSlopes}
 
 -- each label is on the step from one entry to the next, up to the last one
 abbrev pub Linked : {A B : Type 0} → (B → A → A → Type 0) → List A → List B → A → Type 0

@@ -1,10 +1,6 @@
 -- The exits of what enters.
-use Rattle.std.proofs.Common.{◌≡◌, ◌≢◌, Option}
-use Rattle.std.specs.Prelude.{Some}
-use Rattle.nf_rational.specs.Rational.{ℚ}
-use Rattle.nf_rational.specs.Operations.{0ℚ}
-use Rattle.nf_rational_laws.proofs.Order.{not_both_ℚ, ≤ℚ_of_same}
-use Rattle.nf_model_laws.specs.Capacity.{IsPositive}
+use Rattle.std.proofs.Common.{◌≡◌, ◌≢◌, Option, Some}
+use Rattle.nf_load.proofs.Common.{ℚ, 0ℚ, not_both_ℚ, ≤ℚ_of_same, IsPositive}
 
 -- a capacity isn't 0
 pub capacity_apart : (capacity : Option ℚ) (rate : ℚ) → IsPositive capacity → capacity ≡ Some rate → rate ≢ 0ℚ

@@ -1,10 +1,6 @@
 -- The points of the outflow, exit by exit.
 use Rattle.std.proofs.Common.{◌≡◌, ℕ, ◌+◌, ◌<◌, Bool, true, false, List, [], ◌∷◌, ◌++◌, length, get_or, drop, ap, ◌∙◌, sym, append_assoc}
-use Rattle.std.proofs.lemmas.List.{at_drop_more}
-use Rattle.nf_rational.specs.Rational.{ℚ}
-use Rattle.nf_model.specs.Curve.{Point}
-use Rattle.nf_rational.specs.Signs.{is_same}
-use Rattle.nf_load_def.specs.Loading.{Exit, outflow_from}
+use Rattle.nf_load.proofs.Common.{at_drop_more, ℚ, Point, is_same, Exit, outflow_from}
 
 module _ (all : List Exit) (i : ℕ) (one : Exit) (front whole : List Point) (last : ℚ) (below : i < length all) (is : one ≡ get_or all i one)
     (so_far : front ++ outflow_from last (drop i all) ≡ whole) where

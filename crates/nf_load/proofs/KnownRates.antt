@@ -1,26 +1,15 @@
 -- The rate of a piece is the slope of the amount that it supplies, and no operation of this slope passes.
-use Rattle.std.proofs.Common.{◌≡◌, ◌≢◌, ℕ, ◌*◌, ◌≤◌, Bool, true, false, cond, [], ◌∷◌, ℤ, pos, ◌+ℤ◌, ◌*ℤ◌, nat_abs, refl, sym, ap, subst, ◌∙◌, arith}
-use Rattle.std.specs.Prelude.{Ok, Err}
+use Rattle.std.proofs.Common.{◌≡◌, ◌≢◌, ℕ, ◌*◌, ◌≤◌, Bool, true, false, cond, [], ◌∷◌, ℤ, pos, ◌+ℤ◌, ◌*ℤ◌, nat_abs, refl, sym, ap, subst, ◌∙◌, arith, Ok}
+use Rattle.std.proofs.Common.{Err}
+use Rattle.nf_load.proofs.Common.{ℚ, 0ℚ, 1ℚ, ◌+ℚ◌, ◌*ℚ◌, neg_ℚ, inv_ℚ, ◌<ℚ◌, reading_of, combine, using, done, reading, ints_ring, abs-mul, +ℚ_idl, zero-*ℚ}
+use Rattle.nf_load.proofs.Common.{eq, linear_eq, /ℚ_is, /ℚ-unique, zero_num, zero_den, bound_of, passes_Q, is_wide, ◌>>=◌, Sum, Difference, Product}
+use Rattle.nf_load.proofs.Common.{Quotient, Piece, then_ok, checked-is, run_apart, with_piece, IsWithin, SumFits}
 use Rattle.nf_rational.specs.Gcd.{gcd}
-use Rattle.nf_rational.specs.Rational.{ℚ, ratio}
-use Rattle.nf_rational.specs.Operations.{whole, 0ℚ, 1ℚ, ◌+ℚ◌, ◌-ℚ◌, ◌*ℚ◌, neg_ℚ, inv_ℚ}
-use Rattle.nf_rational.specs.Order.{◌<ℚ◌}
-use Rattle.nf_rational_laws.proofs.Polynomial.{reading_of, combine, using, done, reading}
-use Rattle.nf_rational_laws.proofs.IntegerRing.{ints_ring}
-use Rattle.nf_rational_laws.proofs.Ints.{abs-mul}
-use Rattle.nf_rational_laws.proofs.Field.{+ℚ_idl, zero-*ℚ}
-use Rattle.nf_rational_laws.proofs.Linear.{eq, linear_eq}
-use Rattle.nf_rational_laws.proofs.Quotient.{/ℚ_is, /ℚ-unique}
-use Rattle.nf_rational_laws.proofs.Order.{zero_num, zero_den}
-use Rattle.nf_frac_def.specs.Passing.{bound_of, passes_Q, beyond, is_wide}
-use Rattle.nf_frac_def.specs.Checked.{checked, ◌>>=◌}
-use Rattle.nf_frac_def.specs.declared.Op.TheVariants.{Sum, Difference, Product, Quotient}
-use Rattle.nf_model.specs.Network.{Piece}
+use Rattle.nf_rational.specs.Rational.{ratio}
+use Rattle.nf_rational.specs.Operations.{whole, ◌-ℚ◌}
+use Rattle.nf_frac_def.specs.Passing.{beyond}
+use Rattle.nf_frac_def.specs.Checked.{checked}
 use Rattle.nf_curve_def.specs.Lines.{checked_slope}
-use Rattle.nf_curve_laws.proofs.Operations.{then_ok, checked-is}
-use Rattle.nf_curve.proofs.Pieces.{run_apart}
-use Rattle.nf_load_def.specs.Cumulative.{with_piece}
-use Rattle.nf_frac.specs.Parts.{IsWithin, SumFits}
 use Rattle.nf_frac.specs.Narrow.{narrow_out}
 use Rattle.nf_frac.proofs.Passing.{sum_out, sum_done, difference_done, quotient_done}
 use Rattle.nf_load.proofs.TakenOff.{times_one, fits_over, taken_off}

@@ -1,31 +1,13 @@
 -- The slopes of exit and outflow over a piece, and no operation of them passes.
-use Rattle.std.proofs.Common.{◌≡◌, ◌≢◌, ⊎_elim, ℕ, zero, suc, Bool, true, false, ◌&&◌, List, [], ◌∷◌, map, refl, sym, ap, subst, ◌∙◌}
-use Rattle.std.proofs.lemmas.Bool.{true≢false}
-use Rattle.nf_rational_laws.proofs.Results.{same_Ok}
-use Rattle.std.specs.Prelude.{Option, Some, None, option_map, IfSome, slice_get, Ok}
-use Rattle.nf_rational.specs.Rational.{ℚ}
-use Rattle.nf_rational.specs.Operations.{0ℚ, 1ℚ, ◌+ℚ◌, ◌-ℚ◌, ◌*ℚ◌, ◌/ℚ◌, inv_ℚ}
-use Rattle.nf_rational.specs.Signs.{is_zero}
-use Rattle.nf_rational_laws.proofs.Field.{one-*ℚ, zero-*ℚ}
-use Rattle.nf_rational_laws.proofs.Linear.{eq, eq_times, linear_eq}
-use Rattle.nf_rational_laws.proofs.Polynomial.{reading_of}
-use Rattle.nf_rational_laws.proofs.Quotient.{/ℚ_is, /ℚ-times, /ℚ-unique}
-use Rattle.nf_frac_def.specs.Passing.{passes_Q}
-use Rattle.nf_frac_def.specs.Checked.{checked, each, ◌>>=◌}
-use Rattle.nf_frac_def.specs.declared.Op.TheVariants.{Sum, Difference, Quotient}
-use Rattle.nf_model.specs.Curve.{Point}
+use Rattle.std.proofs.Common.{◌≡◌, ◌≢◌, ⊎_elim, ℕ, zero, suc, Bool, true, false, ◌&&◌, List, [], ◌∷◌, map, refl, sym, ap, subst, ◌∙◌, Option, Some, None}
+use Rattle.std.proofs.Common.{option_map, IfSome, slice_get, Ok}
+use Rattle.nf_load.proofs.Common.{true≢false, same_Ok, ℚ, 0ℚ, 1ℚ, ◌+ℚ◌, ◌-ℚ◌, ◌*ℚ◌, ◌/ℚ◌, inv_ℚ, is_zero, one-*ℚ, zero-*ℚ, eq, eq_times, linear_eq}
+use Rattle.nf_load.proofs.Common.{reading_of, /ℚ_is, /ℚ-times, /ℚ-unique, passes_Q, checked, each, ◌>>=◌, Sum, Difference, Quotient, Point, exit_of}
+use Rattle.nf_load.proofs.Common.{exit_point, then_ok, checked-is, run_apart, IsRate, Along, AreKnownSlopes, IsPace, IsPaceIf, ArePaces, moments_of}
+use Rattle.nf_load.proofs.Common.{IsLeaving, IsLeavingIf, AreLeaving, AreTwoExits, AreExitsOf, IsBusy, exit_slope_of, Pace, Leaving}
 use Rattle.nf_curve_def.specs.Lines.{checked_slope}
 use Rattle.nf_load_def.specs.Loading as lists
-use Rattle.nf_load_def.specs.Loading.{exit_after, exit_of, exit_point}
-use Rattle.nf_curve_laws.proofs.Operations.{then_ok, checked-is}
-use Rattle.nf_curve.proofs.Pieces.{run_apart}
-use Rattle.nf_load.specs.Rates.{IsRate}
-use Rattle.nf_load.specs.Slopes.{Along, AreKnownSlopes}
-use Rattle.nf_load.specs.Paces.{IsPace, IsPaceIf, ArePaces}
-use Rattle.nf_load.specs.InSteps.{moments_of}
-use Rattle.nf_load.specs.Leaving.{IsLeaving, IsLeavingIf, AreLeaving, AreTwoExits, AreExitsOf, IsBusy, exit_slope_of}
-use Rattle.nf_load.specs.declared.waits.Pace.{Pace}
-use Rattle.nf_load.specs.declared.waits.Leaving.{Leaving}
+use Rattle.nf_load_def.specs.Loading.{exit_after}
 use Rattle.nf_load.proofs.Alongs.{along_map, along_of}
 use Rattle.nf_load.proofs.KnownRates.{one_narrow, quotient_known}
 use Rattle.nf_load.proofs.Pacing.{Steps, steps}

@@ -1,3 +1,4 @@
+mod Common
 pub mod Supplying
 pub mod QueueSteps
 pub mod ExitSteps

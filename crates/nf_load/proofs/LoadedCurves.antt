@@ -1,31 +1,14 @@
 -- The curves of a link's loading, before they are brought into short form.
-use Rattle.std.proofs.Common.{◌≡◌, List, [], ◌∷◌, Option, refl, sym, ap, subst, ◌∙◌}
-use Rattle.std.specs.Prelude.{Result, Ok, Err, IfOk, map}
-use Rattle.nf_rational.specs.Rational.{ℚ}
-use Rattle.nf_rational.specs.Operations.{0ℚ, ◌+ℚ◌}
-use Rattle.nf_rational.specs.Order.{◌≤ℚ◌}
-use Rattle.nf_rational_laws.proofs.Polynomial.{reading_of}
-use Rattle.nf_rational_laws.proofs.Linear.{le, linear_le}
-use Rattle.nf_frac_def.specs.Passing.{Passing}
-use Rattle.nf_frac_def.specs.declared.Part.{Part}
+use Rattle.std.proofs.Common.{◌≡◌, List, [], ◌∷◌, Option, refl, sym, ap, subst, ◌∙◌, Result, Ok, Err, IfOk, map}
+use Rattle.nf_load.proofs.Common.{ℚ, 0ℚ, ◌+ℚ◌, ◌≤ℚ◌, reading_of, le, linear_le, Passing, Part, checked, at_part, each, Gives, Sum, Point, value, IsCurve}
+use Rattle.nf_load.proofs.Common.{NeverFalls, IsPositive, checked_cut, Waits, Exit, queue_point, exit_point, outflow_points, outflow_from, exit_of}
+use Rattle.nf_load.proofs.Common.{all_waits, checked_loading, IsLoaded, checked-is, was_ok, loaded_of, LeadsToCurves, Loaded}
 use Rattle.nf_frac_def.specs.declared.Halt.{Halt}
-use Rattle.nf_frac_def.specs.Checked.{checked, at_part, each, Gives}
-use Rattle.nf_frac_def.specs.declared.Op.TheVariants.{Sum}
-use Rattle.nf_model.specs.Curve.{Point, value, IsCurve, NeverFalls}
-use Rattle.nf_model_laws.specs.Capacity.{IsPositive}
-use Rattle.nf_curve_def.specs.Values.{checked_cut}
-use Rattle.nf_load_def.specs.Loading.{Waits, Exit, queue_point, exit_point, outflow_points, outflow_from, exit_of, all_waits, checked_loading}
-use Rattle.nf_load_def.specs.Meanings.{IsLoaded}
-use Rattle.nf_curve_laws.proofs.Operations.{checked-is}
 use Rattle.nf_curve_laws.proofs.Values.{Cut, checked_cut-is}
 use Rattle.nf_load_laws.proofs.Functions.{queue_at, exit_at, out_at}
 use Rattle.nf_load_laws.proofs.Waiting.{AllWaits, all_waits-chain}
 use Rattle.nf_load_laws.proofs.Exiting.{AllExits, exits-are, queue-follows, exit-follows, all_out-follows}
 use Rattle.nf_load_laws.proofs.Loading.{Follows, by_following, checked_loading-is}
-use Rattle.nf_curve.proofs.Exits.{was_ok}
-use Rattle.nf_load.specs.Loadings.{loaded_of}
-use Rattle.nf_load.specs.InSteps.{LeadsToCurves}
-use Rattle.nf_load.specs.declared.loading.Loaded.{Loaded}
 
 module _ (passes : Passing) (transit : ℚ) (capacity : Option ℚ) (inflow : List Point) (last : ℚ) (c : IsCurve inflow) (from_0 : 0ℚ ≤ℚ last)
     (cut : List Point) (cut_is : checked_cut passes inflow last ≡ Ok cut) (waits : List Waits) (waits_are : all_waits passes capacity cut ≡ Ok waits) where

@@ -1,18 +1,9 @@
 -- The list of a link's loading, step by step: where a step stops the whole does, and what the steps come to.
-use Rattle.std.proofs.Common.{◌≡◌, List, Option, ◌∙◌}
-use Rattle.std.specs.Prelude.{Ok, Err, map}
-use Rattle.nf_rational.specs.Rational.{ℚ}
-use Rattle.nf_frac_def.specs.Passing.{Passing}
-use Rattle.nf_frac_def.specs.declared.Part.{Part}
-use Rattle.nf_frac_def.specs.declared.PassedAt.{PassedAt}
-use Rattle.nf_frac_def.specs.Checked.{Checked, checked, at_part, each}
-use Rattle.nf_frac_def.specs.declared.Op.TheVariants.{Sum}
-use Rattle.nf_model.specs.Curve.{Point}
-use Rattle.nf_curve_def.specs.Values.{checked_cut}
-use Rattle.nf_curve_def.specs.Short.{checked_short}
-use Rattle.nf_load_def.specs.Loading.{Waits, Exit, queue_point, exit_point, outflow_points, exit_of, all_waits, checked_loading}
-use Rattle.nf_curve.proofs.Exits.{after_err, after_ok, was_ok}
-use Rattle.nf_load.specs.InSteps.{AreLoadCurves, LeadsToCurves, in_short_form, until_transit, behind_cut}
+use Rattle.std.proofs.Common.{◌≡◌, List, Option, ◌∙◌, Ok, Err, map}
+use Rattle.nf_load.proofs.Common.{ℚ, Passing, Part, PassedAt, Checked, checked, at_part, each, Sum, Point, checked_cut, checked_short, Waits, Exit}
+use Rattle.nf_load.proofs.Common.{queue_point, exit_point, outflow_points, exit_of, all_waits, after_err, after_ok, was_ok, AreLoadCurves, LeadsToCurves}
+use Rattle.nf_load_def.specs.Loading.{checked_loading}
+use Rattle.nf_load.specs.InSteps.{in_short_form, until_transit, behind_cut}
 
 module _ (passes : Passing) (part : Part) where
   -- where a step stops

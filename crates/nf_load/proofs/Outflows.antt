@@ -1,19 +1,10 @@
 -- The slopes of the outflow, point by point, and of the outflow that is cut.
-use Rattle.std.proofs.Common.{◌≡◌, ◌+◌, ◌-◌, ℕ, suc, Bool, true, false, List, [], ◌∷◌, ◌++◌, length, take, refl, sym, ap, subst, ◌∙◌, arith}
-use Rattle.std.specs.Prelude.{Option, Some, None, option_map, if◌then◌else◌, slice_get, Ok}
-use Rattle.std.proofs.lemmas.List.{length_push}
-use Rattle.nf_rational.specs.Rational.{ℚ}
-use Rattle.nf_rational.specs.Order.{lt_ℚ}
-use Rattle.nf_rational_laws.proofs.Results.{same_Ok}
-use Rattle.nf_frac_def.specs.Passing.{passes_Q}
-use Rattle.nf_model.specs.Curve.{Point}
-use Rattle.nf_curve_def.specs.Values.{checked_cut, checked_value, points_before}
+use Rattle.std.proofs.Common.{◌≡◌, ◌+◌, ◌-◌, ℕ, suc, Bool, true, false, List, [], ◌∷◌, ◌++◌, length, take, refl, sym, ap, subst, ◌∙◌, arith, Option, Some}
+use Rattle.std.proofs.Common.{None, option_map, if◌then◌else◌, slice_get, Ok}
+use Rattle.nf_load.proofs.Common.{length_push, ℚ, lt_ℚ, same_Ok, passes_Q, Point, checked_value, points_before, then_ok, IsRate, flat, AreKnownSlopes}
+use Rattle.nf_load.proofs.Common.{IsLeavingIf, AreLeaving, outflow_slope_of, Leaving}
+use Rattle.nf_curve_def.specs.Values.{checked_cut}
 use Rattle.nf_load_def.specs.Loading as lists
-use Rattle.nf_curve_laws.proofs.Operations.{then_ok}
-use Rattle.nf_load.specs.Rates.{IsRate}
-use Rattle.nf_load.specs.Slopes.{flat, AreKnownSlopes}
-use Rattle.nf_load.specs.Leaving.{IsLeavingIf, AreLeaving, outflow_slope_of}
-use Rattle.nf_load.specs.declared.waits.Leaving.{Leaving}
 use Rattle.nf_load.proofs.Alongs.{Linked, Begins, one_more, along_flat, along_begins}
 
 -- ---- the points of the outflow so far: the slope from the last of them to that of the next moment may be known

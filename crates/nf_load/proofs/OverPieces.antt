@@ -1,19 +1,8 @@
 -- What waits over a piece of the inflow, by the rate of the piece.
-use Rattle.std.proofs.Common.{◌≡◌, Bool, true, false, ◌&&◌, List, [], ◌∷◌, sym, ap, ◌∙◌}
-use Rattle.std.specs.Prelude.{Some, Result, Ok, Err}
-use Rattle.nf_rational.specs.Rational.{ℚ}
-use Rattle.nf_rational.specs.Operations.{0ℚ}
-use Rattle.nf_rational.specs.Order.{lt_ℚ, le_ℚ}
-use Rattle.nf_frac_def.specs.Passing.{Passing}
-use Rattle.nf_frac_def.specs.declared.Part.TheVariants.{Load}
+use Rattle.std.proofs.Common.{◌≡◌, Bool, true, false, ◌&&◌, List, [], ◌∷◌, sym, ap, ◌∙◌, Some, Result, Ok, Err}
+use Rattle.nf_load.proofs.Common.{ℚ, 0ℚ, lt_ℚ, le_ℚ, Passing, Load, PassedAt, at_part, Point, is_zero, is_positive, checked_slope, Waits, moves}
+use Rattle.nf_load.proofs.Common.{stays_or_moves, after_piece, after_err, after_ok}
 use Rattle.nf_frac_def.specs.declared.Passed.{Passed}
-use Rattle.nf_frac_def.specs.declared.PassedAt.{PassedAt}
-use Rattle.nf_frac_def.specs.Checked.{at_part}
-use Rattle.nf_model.specs.Curve.{Point}
-use Rattle.nf_rational.specs.Signs.{is_zero, is_positive}
-use Rattle.nf_curve_def.specs.Lines.{checked_slope}
-use Rattle.nf_load_def.specs.Loading.{Waits, moves, stays_or_moves, after_piece}
-use Rattle.nf_curve.proofs.Exits.{after_err, after_ok}
 
 module _ (passes : Passing) (capacity : ℚ) (before : Waits) (end : Point) where
   abbrev sloped : Result ℚ (Passed ℚ)

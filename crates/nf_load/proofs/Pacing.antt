@@ -1,28 +1,13 @@
 -- The slopes of amount and queue over a piece of the inflow, and no operation of them passes.
-use Rattle.std.proofs.Common.{◌≡◌, inl, inr, Bool, true, false, ◌&&◌, List, [], ◌∷◌, ◌++◌, map, refl, sym, ap, subst, ◌∙◌, append_assoc}
-use Rattle.std.specs.Prelude.{Option, Some, None, option_map, IfSome, Ok, Err}
-use Rattle.std.proofs.lemmas.Bool.{true≢false}
-use Rattle.nf_rational.specs.Rational.{ℚ}
-use Rattle.nf_rational.specs.Operations.{0ℚ, ◌-ℚ◌}
-use Rattle.nf_rational.specs.Order.{◌<ℚ◌}
-use Rattle.nf_rational.specs.Signs.{is_zero}
-use Rattle.nf_frac_def.specs.Passing.{bound_of, Passing, passes_Q, is_wide}
-use Rattle.nf_frac_def.specs.Checked.{Checked, checked, at_part, ◌>>=◌}
-use Rattle.nf_frac_def.specs.declared.Op.TheVariants.{Difference, Product, Quotient}
-use Rattle.nf_frac_def.specs.declared.Part.{Part}
-use Rattle.nf_frac_def.specs.declared.PassedAt.{PassedAt}
-use Rattle.nf_model.specs.Curve.{Point}
+use Rattle.std.proofs.Common.{◌≡◌, inl, inr, Bool, true, false, ◌&&◌, List, [], ◌∷◌, ◌++◌, map, refl, sym, ap, subst, ◌∙◌, append_assoc, Option, Some, None}
+use Rattle.std.proofs.Common.{option_map, IfSome, Ok, Err}
+use Rattle.nf_load.proofs.Common.{true≢false, ℚ, 0ℚ, ◌-ℚ◌, ◌<ℚ◌, is_zero, bound_of, Passing, passes_Q, is_wide, Checked, checked, at_part, ◌>>=◌}
+use Rattle.nf_load.proofs.Common.{Difference, Product, Quotient, Part, PassedAt, Point, queue_point, then_ok, checked-is, same_of, was_ok, after_err}
+use Rattle.nf_load.proofs.Common.{before_end, over_list, IsRate, AreKnownSlopes, IsPace, IsPaceIf, ArePaces, IsPaced, change_of, first_waits, level_over}
+use Rattle.nf_load.proofs.Common.{over_paces, paces_to, Pace, Over}
 use Rattle.nf_curve_def.specs.Lines.{checked_slope}
 use Rattle.nf_load_def.specs.Loading as lists
-use Rattle.nf_load_def.specs.Loading.{queue_point}
-use Rattle.nf_curve_laws.proofs.Operations.{then_ok, checked-is, same_of}
-use Rattle.nf_curve.proofs.Exits.{was_ok, after_err}
-use Rattle.nf_load.specs.Loadings.{before_end, over_list}
-use Rattle.nf_load.specs.Rates.{IsRate}
-use Rattle.nf_load.specs.Slopes.{AreKnownSlopes}
-use Rattle.nf_load.specs.Paces.{IsPace, IsPaceIf, ArePaces, IsPaced, change_of, first_waits, grown_by, level_over, over_paces, paces_to}
-use Rattle.nf_load.specs.declared.waits.Pace.{Pace}
-use Rattle.nf_load.specs.declared.waiting.Over.{Over}
+use Rattle.nf_load.specs.Paces.{grown_by}
 use Rattle.nf_load.proofs.Alongs.{Linked, one_more, along_map}
 use Rattle.nf_load.proofs.KnownRates.{less_zero, zero_within, zero_over, line_slope}
 

@@ -1,9 +1,6 @@
 -- The pieces of one link among those of all.
-use Rattle.std.proofs.Common.{◌≡◌, ℕ, ◌<◌, List, [], ◌∷◌, ◌++◌, length, get_or, set, refl, sym, ap, subst, ◌∙◌}
-use Rattle.std.specs.Prelude.{Option, Some, slice_get, unwrap_or}
-use Rattle.std.proofs.lemmas.Option.{slice_get_read}
-use Rattle.nf_model.specs.Network.{Piece}
-use Rattle.nf_report_def.specs.LoadsFile.{pieces_at}
+use Rattle.std.proofs.Common.{◌≡◌, ℕ, ◌<◌, List, [], ◌∷◌, ◌++◌, length, get_or, set, refl, sym, ap, subst, ◌∙◌, Option, Some, slice_get, unwrap_or}
+use Rattle.nf_load.proofs.Common.{slice_get_read, Piece, pieces_at}
 
 pub read_at : (all : List (List Piece)) (i link : ℕ) (one : List Piece) → i ≡ link → link < length all → one ≡ get_or all i one → one ≡ pieces_at all link
 read_at all i link one e lt is =

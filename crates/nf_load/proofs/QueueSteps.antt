@@ -1,27 +1,8 @@
 -- The queue, piece by piece of the inflow.
-use Rattle.std.proofs.Common.{◌≡◌, ◌≢◌, ⊎_elim, ℕ, suc, true, List, [], ◌∷◌, ◌++◌, drop, refl, sym, ap, subst, ◌∙◌}
-use Rattle.std.specs.Prelude.{Some, None, Option, slice_get, Ok, Err}
-use Rattle.std.proofs.lemmas.Bool.{true≢false}
-use Rattle.std.proofs.lemmas.Option.{none-some, same_Some}
-use Rattle.nf_rational.specs.Rational.{ℚ}
-use Rattle.nf_rational.specs.Operations.{0ℚ}
-use Rattle.nf_rational.specs.Order.{◌<ℚ◌, lt_ℚ}
-use Rattle.nf_rational_laws.proofs.Polynomial.{reading_of}
-use Rattle.nf_rational_laws.proofs.Linear.{lt, eq, linear_false}
-use Rattle.nf_rational_laws.proofs.Tests.{lt_ℚ_cases}
-use Rattle.nf_rational_laws.proofs.Entries.{drop_entry}
-use Rattle.nf_frac_def.specs.Passing.{Passing}
-use Rattle.nf_frac_def.specs.declared.Part.{Part}
-use Rattle.nf_frac_def.specs.declared.PassedAt.{PassedAt}
-use Rattle.nf_frac_def.specs.Checked.{Checked, checked, at_part, ◌>>=◌}
-use Rattle.nf_frac_def.specs.declared.Op.TheVariants.{Difference}
-use Rattle.nf_frac_def.proofs.Each.{with_front}
-use Rattle.nf_model.specs.Curve.{Point, TimesRise, IsCurve}
-use Rattle.nf_load_def.specs.Loading.{Waits, last_of, after_piece, waits_after, all_waits}
-use Rattle.nf_curve_laws.proofs.Operations.{checked-is}
-use Rattle.nf_curve.proofs.Exits.{was_ok, after_err, front_err, front_more}
-use Rattle.nf_load.specs.declared.waiting.Over.{Over}
-use Rattle.nf_load.specs.Loadings.{before_end, over_list}
+use Rattle.std.proofs.Common.{◌≡◌, ◌≢◌, ⊎_elim, ℕ, suc, true, List, [], ◌∷◌, ◌++◌, drop, refl, sym, ap, subst, ◌∙◌, Some, None, Option, slice_get, Ok, Err}
+use Rattle.nf_load.proofs.Common.{true≢false, none-some, same_Some, ℚ, 0ℚ, ◌<ℚ◌, lt_ℚ, reading_of, lt, eq, linear_false, lt_ℚ_cases, drop_entry, Passing}
+use Rattle.nf_load.proofs.Common.{Part, PassedAt, Checked, checked, at_part, ◌>>=◌, Difference, with_front, Point, TimesRise, IsCurve, Waits, last_of}
+use Rattle.nf_load.proofs.Common.{after_piece, waits_after, all_waits, checked-is, was_ok, after_err, front_err, front_more, Over, before_end, over_list}
 
 -- a rate below the capacity differs from it
 pub change_apart : (passes : Passing) (rate capacity change : ℚ) → lt_ℚ rate capacity ≡ true → checked passes Difference rate capacity ≡ Ok change → change ≢ 0ℚ

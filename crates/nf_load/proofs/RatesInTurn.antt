@@ -1,22 +1,11 @@
 -- The rates between the points of a supply, piece by piece.
-use Rattle.std.proofs.Common.{◌≡◌, ◌+◌, ⊎_elim, ◌⊎◌, inl, inr, ℕ, zero, suc, drop, Bool, true, false, List, [], ◌∷◌, ◌++◌, length, append-nil, refl, sym, ap, subst, ◌∙◌, arith}
-use Rattle.std.specs.Prelude.{Ok, Some, slice_get}
-use Rattle.nf_rational.specs.Rational.{ℚ}
-use Rattle.nf_rational.specs.Operations.{0ℚ}
-use Rattle.nf_rational.specs.Order.{◌<ℚ◌, lt_ℚ}
-use Rattle.nf_rational.specs.Signs.{is_same}
+use Rattle.std.proofs.Common.{◌≡◌, ◌+◌, ⊎_elim, ◌⊎◌, inl, inr, ℕ, zero, suc, drop, Bool, true, false, List, [], ◌∷◌, ◌++◌, length, append-nil, refl, sym}
+use Rattle.std.proofs.Common.{ap, subst, ◌∙◌, arith, Ok, Some, slice_get}
+use Rattle.nf_load.proofs.Common.{ℚ, 0ℚ, ◌<ℚ◌, lt_ℚ, is_same, ≤ℚ_of_lt, ≤ℚ_of_same, not_both_ℚ, less_of_test, not_less_of_test, drop_entry, bound_of}
+use Rattle.nf_load.proofs.Common.{passes_Q, is_wide, Point, Piece, ArePieces, checked_slope, is_same_cases, piece_end, point_after_0, point_if_after_0}
+use Rattle.nf_load.proofs.Common.{with_piece, AreRates, IsRate, rate_after_0, rate_if_after_0}
 use Rattle.nf_rational_laws.proofs.Chains.{≤_<_trans}
 use Rattle.nf_rational_laws.proofs.Extremes.{min_keeps, min_is_left, min_is_right}
-use Rattle.nf_rational_laws.proofs.Order.{≤ℚ_of_lt, ≤ℚ_of_same, not_both_ℚ}
-use Rattle.nf_rational_laws.proofs.Tests.{less_of_test, not_less_of_test}
-use Rattle.nf_rational_laws.proofs.Entries.{drop_entry}
-use Rattle.nf_frac_def.specs.Passing.{bound_of, passes_Q, is_wide}
-use Rattle.nf_model.specs.Curve.{Point}
-use Rattle.nf_model.specs.Network.{Piece, ArePieces}
-use Rattle.nf_curve_def.specs.Lines.{checked_slope}
-use Rattle.nf_curve_laws.proofs.Operations.{is_same_cases}
-use Rattle.nf_load_def.specs.Cumulative.{piece_end, point_after_0, point_if_after_0, with_piece}
-use Rattle.nf_load.specs.Rates.{AreRates, IsRate, rate_after_0, rate_if_after_0}
 use Rattle.nf_load.proofs.KnownRates.{piece_slope, zero_slope}
 
 -- ---- the rates between the points up to a last one

@@ -1,22 +1,10 @@
 -- Cumulative amounts, piece by piece.
-use Rattle.std.proofs.Common.{◌≡◌, ⊎_elim, ℕ, suc, ◌+◌, ◌<◌, ◌≤◌, arith, drop, Bool, true, false, List, [], ◌∷◌, ◌++◌, refl, sym, ap, ◌∙◌, append_assoc}
-use Rattle.std.specs.Prelude.{Ok, Err, Some, slice_get}
-use Rattle.nf_rational.specs.Rational.{ℚ}
-use Rattle.nf_rational.specs.Operations.{0ℚ}
-use Rattle.nf_rational.specs.Order.{lt_ℚ}
-use Rattle.nf_frac_def.specs.Passing.{Passing}
-use Rattle.nf_frac_def.specs.declared.Part.{Part}
-use Rattle.nf_frac_def.specs.declared.PassedAt.{PassedAt}
-use Rattle.nf_frac_def.specs.Checked.{Checked, at_part, ◌>>=◌}
-use Rattle.nf_frac_def.proofs.Each.{with_front}
-use Rattle.nf_model.specs.Curve.{Point}
-use Rattle.nf_model.specs.Network.{Piece}
-use Rattle.nf_rational.specs.Signs.{is_same}
-use Rattle.nf_load_def.specs.Cumulative.{piece_end, point_after_0, point_if_after_0, with_piece, cumulative_from, checked_cumulative}
-use Rattle.nf_rational_laws.proofs.Entries.{drop_entry}
+use Rattle.std.proofs.Common.{◌≡◌, ⊎_elim, ℕ, suc, ◌+◌, ◌<◌, ◌≤◌, arith, drop, Bool, true, false, List, [], ◌∷◌, ◌++◌, refl, sym, ap, ◌∙◌, append_assoc, Ok}
+use Rattle.std.proofs.Common.{Err, Some, slice_get}
+use Rattle.nf_load.proofs.Common.{ℚ, 0ℚ, lt_ℚ, Passing, Part, PassedAt, Checked, at_part, ◌>>=◌, with_front, Point, Piece, is_same, piece_end}
+use Rattle.nf_load.proofs.Common.{point_after_0, point_if_after_0, with_piece, cumulative_from, drop_entry, is_same_cases, was_ok, after_err, front_err}
+use Rattle.nf_load_def.specs.Cumulative.{checked_cumulative}
 use Rattle.nf_load.specs.Rates.{rate_after_0 as rate_by_test, rate_if_after_0}
-use Rattle.nf_curve_laws.proofs.Operations.{is_same_cases}
-use Rattle.nf_curve.proofs.Exits.{was_ok, after_err, front_err}
 
 -- ---- points after time 0
 pub after_0 : (t y : ℚ) → (t ≡ 0ℚ → ⊥) → point_if_after_0 t y ≡ (t, y) ∷ []

@@ -1,5 +1,7 @@
 -- What was added can be taken off again: if a sum does not pass, the difference of it and its first part does not either.
 use Rattle.std.proofs.Common.{◌≡◌, ℕ, zero, suc, ◌*◌, ◌/◌, ◌<◌, ◌≤◌, [], ◌∷◌, ℤ, pos, ◌+ℤ◌, ◌*ℤ◌, neg_ℤ, nat_abs, sym, ap, subst, ◌∙◌, arith}
+use Rattle.nf_load.proofs.Common.{ℚ, gcd_pos, part_pos, parts_reduced, ◌+ℚ◌, neg_ℚ, combine, using, done, reading, ints_ring, abs-mul, cancel, abs-neg}
+use Rattle.nf_load.proofs.Common.{SumFits}
 use mathlib.Core.Path.{ap₂}
 use Prim.Native.Nat.{◌∣◌}
 use native.Mathlib.Nat.{div-mul_cancel, dvd-mul_right, mul-pos, pos_of_dvd_of_pos}
@@ -7,15 +9,10 @@ use Rattle.std.specs.Int.{IsGcd}
 use Rattle.std.proofs.lemmas.Nat.{mul-le}
 use Rattle.std.proofs.lemmas.Nat.Gcd.{IsGcd-swap}
 use Rattle.nf_rational.specs.Gcd.{gcd, IsGcd-gcd}
-use Rattle.nf_rational.specs.Rational.{ℚ, ratio, gcd_pos, part_pos, parts_reduced}
-use Rattle.nf_rational.specs.Operations.{◌+ℚ◌, neg_ℚ}
-use Rattle.nf_rational_laws.proofs.Polynomial.{combine, using, done, reading}
-use Rattle.nf_rational_laws.proofs.IntegerRing.{ints_ring}
-use Rattle.nf_rational_laws.proofs.Ints.{abs-mul, cancel, abs-neg}
+use Rattle.nf_rational.specs.Rational.{ratio}
 use Rattle.nf_rational_laws.proofs.Lowest.{plus_over_lcm}
 use Rattle.nf_rational_laws.proofs.Products.{split_dvd}
 use Rattle.nf_rational_laws.proofs.Ratio.{quot_times}
-use Rattle.nf_frac.specs.Parts.{SumFits}
 use Rattle.nf_frac.proofs.Factors.{left_over, right_over, sum_over}
 use Rattle.nf_frac.proofs.Turned.{num-neg, den-neg}
 

@@ -1,28 +1,19 @@
 -- The network that a file stands for, from its parts.
-use Rattle.std.proofs.Common.{◌≡◌, ℕ, zero, suc, ◌≤◌, Bool, true, false, not, List, [], ◌∷◌, length, map, unwrap_or, Option, Some, refl, sym, ◌∙◌, ap, subst}
+use Rattle.std.proofs.Common.{◌≡◌, ℕ, zero, suc, ◌≤◌, Bool, true, false, not, List, [], ◌∷◌, length, map, unwrap_or, Option, Some, refl, sym, ◌∙◌, ap}
+use Rattle.std.proofs.Common.{subst}
+use Rattle.nf_net.proofs.Common.{AllZip, bytes_eq, Has, hop_of, Name, place_of, with_names, without, NamedLink, Named, numbered, ends, names_of, Draft}
+use Rattle.nf_net.proofs.Common.{source_name, sink_name, IsReached, marked, network_of, IsNamed, same_names, has_none, with_name_new, AreDivided}
+use Rattle.nf_net.proofs.Common.{AreNodesOf, AreTablesOf, net_of, ArePartsOf, IsRead, HasEnds, BreaksNone, flag_at, tail_flags, AreFlags, good_of}
+use Rattle.nf_net.proofs.Common.{source_given, sink_given, is_its_name}
 use Rattle.std.specs.Bool.{Decides}
-use Rattle.std.specs.List.{AllZip}
-use Rattle.std.specs.Str.{bytes_eq}
 use Rattle.std.proofs.lemmas.Simd.{map-map}
-use Rattle.nf_model.specs.Entries.{Has}
-use Rattle.nf_model.specs.Network.{hop_of}
-use Rattle.nf_net_def.specs.Names.{Name, place_of, with_names, without}
-use Rattle.nf_net_def.specs.Named.{NamedLink, Named, numbered, ends, names_of}
-use Rattle.nf_net_def.specs.NetLines.{Draft}
-use Rattle.nf_net_def.specs.NetClosing.{source_name, sink_name, IsReached, marked, network_of}
-use Rattle.nf_net_def.specs.WellNamed.{IsNamed}
-use Rattle.nf_net_laws.proofs.NameFacts.{same_names, has_none, with_name_new}
 use Rattle.nf_net_laws.proofs.AcceptedNamed.{is_named}
 use Rattle.nf_net.specs.declared.building.SortedLinks.{SortedLinks}
 use Rattle.nf_net.specs.declared.building.SortedNodes.{SortedNodes}
 use Rattle.nf_net.specs.declared.building.Tables.{Tables}
 use Rattle.nf_net.specs.declared.building.Parts.{Parts}
-use Rattle.nf_net.specs.Building.{AreDivided, AreNodesOf, AreTablesOf, net_of, ArePartsOf}
 use Rattle.nf_net.specs.Kept.{with_parts}
-use Rattle.nf_net_file.specs.Contents.{IsRead}
-use Rattle.nf_net_file.specs.Closing.{HasEnds, BreaksNone, flag_at, tail_flags, AreFlags}
 use Rattle.nf_net.proofs.Limits.{few_nodes}
-use Rattle.nf_net_file.proofs.FileWalks.{good_of, source_given, sink_given, is_its_name}
 
 -- ---- names put one after the other
 put_two : (s t : Name) → (s ≡ t → ⊥) → with_names [] (s ∷ t ∷ []) ≡ s ∷ t ∷ []

@@ -1,6 +1,7 @@
 -- The reading of a text from that of its lines and of the file as a whole.
 use Rattle.std.proofs.Common.{◌≡◌, ℕ, List, Option, Some, None, Result, Ok, Err, MatchResult, refl, sym, ap, subst, ◌∙◌}
-use Rattle.nf_text_def.specs.Words.{ReadLine, read_lines, content_lines}
+use Rattle.nf_net.proofs.Common.{ReadLine, read_lines, content_lines, Named, Broken, Draft, draft_from, as_rule, ReadsAs, by_bytes, Reads, IfBroken}
+use Rattle.nf_net.proofs.Common.{broken_more}
 use Rattle.nf_text_def.specs.Faults.{LineFault, NotAscii, LongLine, first_fault}
 use Rattle.nf_text.specs.declared.TextFault.{TextFault}
 use Rattle.nf_text.specs.declared.fault.FileFault.{FileFault}
@@ -8,11 +9,6 @@ use Rattle.nf_text.specs.Reading.{MatchesFault}
 use Rattle.nf_text.specs.Faults.{fault_of_text}
 use Rattle.nf_net_def.specs.declared.NetRule.{NetRule}
 use Rattle.nf_net_def.specs.declared.NetRule.TheVariants.{N1, N2}
-use Rattle.nf_net_def.specs.Named.{Named}
-use Rattle.nf_net_def.specs.NetLines.{Broken, Draft, draft_from}
-use Rattle.nf_net_def.specs.NetFile.{as_rule, ReadsAs, by_bytes, Reads}
-use Rattle.nf_net_file.specs.Contents.{IfBroken}
-use Rattle.nf_net_file.proofs.ContentLines.{broken_more}
 
 -- a line with a fault
 pub text_refused : (text : List ℕ) (fault : TextFault) (answer : FileFault NetRule) → answer ≡ fault_of_text N1 N2 fault → MatchesFault fault (first_fault text)

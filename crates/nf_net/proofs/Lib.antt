@@ -1,3 +1,4 @@
+mod Common
 pub mod Limits
 pub mod Supplied
 pub mod TextLines

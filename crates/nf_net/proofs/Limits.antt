@@ -1,16 +1,11 @@
 -- How many nodes, links and names a network has.
-use Rattle.std.proofs.Common.{◌≡◌, ℕ, ◌+◌, ◌^◌, ◌<◌, ◌≤◌, suc, List, [], ◌∷◌, length, refl, sym, ◌∙◌, ap, arith, ◌&&◌, ◌||◌, Bool, true, false, not, cond, nat_lt, is_some, None, Some, slice_get, get_or, length-append}
-use Rattle.std.specs.List.{list_all, position, position_or_len}
-use Rattle.std.specs.Str.{bytes_eq}
+use Rattle.std.proofs.Common.{◌≡◌, ℕ, ◌+◌, ◌^◌, ◌<◌, ◌≤◌, suc, List, [], ◌∷◌, length, refl, sym, ◌∙◌, ap, arith, ◌&&◌, ◌||◌, Bool, true, false, not, cond}
+use Rattle.std.proofs.Common.{nat_lt, is_some, None, Some, slice_get, get_or, length-append}
+use Rattle.nf_net.proofs.Common.{list_all, position, position_or_len, bytes_eq, slice_get-get_or, same_names, Link, hops, Name, is_name, has_name, Named}
+use Rattle.nf_net.proofs.Common.{links_by_name, active_links, names_of, IsNamed}
 use Rattle.std.proofs.lemmas.List.Quantifiers.{position-Some}
 use Rattle.std.proofs.lemmas.Bool.{lt-ltb}
-use Rattle.std.proofs.lemmas.Option.{slice_get-get_or}
-use Rattle.nf_net_laws.proofs.NameFacts.{same_names}
 use Rattle.nf_net_laws.proofs.LinesBack.{list_all-left}
-use Rattle.nf_model.specs.Network.{Link, hops}
-use Rattle.nf_net_def.specs.Names.{Name, is_name, has_name}
-use Rattle.nf_net_def.specs.Named.{Named, links_by_name, active_links, names_of}
-use Rattle.nf_net_def.specs.WellNamed.{IsNamed}
 use Rattle.nf_graph.proofs.NetworkHops.{hops_length}
 
 pub few_nodes : (n : Named) → IsNamed n → length n.node_names ≤ 64

@@ -1,11 +1,8 @@
 -- The line of a link, pushed word by word.
-use Rattle.std.proofs.Common.{◌≡◌, ℕ, List, [], ◌∷◌, ◌++◌, ap, append_assoc}
-use Rattle.std.specs.Prelude.{codes, Option}
-use Rattle.nf_rational.specs.Rational.{ℚ}
+use Rattle.std.proofs.Common.{◌≡◌, ℕ, List, [], ◌∷◌, ◌++◌, ap, append_assoc, codes, Option}
+use Rattle.nf_net.proofs.Common.{ℚ, line_of_words, link_words}
 use Rattle.nf_frac_words.specs.Printed.{printed}
-use Rattle.nf_text_def.specs.Words.{line_of_words}
 use Rattle.nf_net_def.specs.Numbers.{capacity_word}
-use Rattle.nf_net_def.specs.NetText.{link_words}
 use Rattle.nf_net.proofs.TextLines.{more_words}
 
 pub link_line : (old name tail head : List ℕ) (transit : ℚ) (capacity : Option ℚ) (a b c d e f new : List ℕ)

@@ -1,21 +1,12 @@
 -- The labels of departure 0.
-use Rattle.std.proofs.Common.{◌≡◌, ℕ, zero, suc, ◌<◌, List, [], ◌∷◌, length, map, slice_get, Option, Some, None, refl, sym, ◌∙◌, ap, subst, arith}
-use Rattle.std.proofs.lemmas.List.{length-map}
-use Rattle.std.proofs.lemmas.Option.{slice_get_within}
-use Rattle.nf_rational.specs.Rational.{ℚ}
-use Rattle.nf_rational.specs.Operations.{0ℚ}
-use Rattle.nf_rational.specs.Order.{◌≤ℚ◌}
-use Rattle.nf_model.specs.Entries.{number_at}
+use Rattle.std.proofs.Common.{◌≡◌, ℕ, zero, suc, ◌<◌, List, [], ◌∷◌, length, map, slice_get, Option, Some, None, refl, sym, ◌∙◌, ap, subst, arith, Result}
+use Rattle.std.proofs.Common.{Ok, Err, IfOk, Vec}
+use Rattle.nf_net.proofs.Common.{length-map, slice_get_within, ℚ, 0ℚ, ◌≤ℚ◌, number_at, hop_of, hops, NoNegativeTransit, AreDistances, Named, IsNamed}
 use Rattle.nf_model.specs.Walk.{Hop, IsHop, IsWalk, IsLeastTransit}
-use Rattle.nf_model.specs.Network.{hop_of, hops}
 use Rattle.nf_model.specs.Phases.{AreStartLabels}
-use Rattle.std.specs.Prelude.{Result, Ok, Err, IfOk, Vec}
 use Rattle.std.specs.declared.alloc.AllocError.{AllocError}
 use Rattle.std.specs.declared.alloc.Global.{Global}
 use Rattle.nf_graph.specs.Graph.{AreBelow}
-use Rattle.nf_graph.specs.Distances.{NoNegativeTransit, AreDistances}
-use Rattle.nf_net_def.specs.Named.{Named}
-use Rattle.nf_net_def.specs.WellNamed.{IsNamed}
 use Rattle.nf_net_laws.proofs.WalkFacts.{CameFrom, came_from}
 
 module _ (n : Named) (h : IsNamed n) (kept : List Hop) (are : kept ≡ hops n.net) where

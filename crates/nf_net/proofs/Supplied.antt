@@ -1,9 +1,7 @@
 -- The computed supply is that of the model.
-use Rattle.std.proofs.Common.{◌≡◌, ℕ, suc, ◌⊎◌, ⊎_elim, Bool, true, false, cond, List, [], ◌∷◌, Some, slice_get, Ok, Err, refl, sym, ◌∙◌, ap}
-use Rattle.std.specs.Prelude.{IfOk}
-use Rattle.nf_rational.specs.Rational.{ℚ}
-use Rattle.nf_rational.specs.Operations.{0ℚ, ◌+ℚ◌, ◌-ℚ◌, ◌*ℚ◌}
-use Rattle.nf_rational.specs.Order.{◌≤ℚ◌, ◌<ℚ◌, lt_ℚ, min_ℚ}
+use Rattle.std.proofs.Common.{◌≡◌, ℕ, suc, ◌⊎◌, ⊎_elim, Bool, true, false, cond, List, [], ◌∷◌, Some, slice_get, Ok, Err, refl, sym, ◌∙◌, ap, IfOk}
+use Rattle.nf_net.proofs.Common.{ℚ, 0ℚ, ◌+ℚ◌, ◌-ℚ◌, ◌*ℚ◌, ◌≤ℚ◌, ◌<ℚ◌, lt_ℚ, min_ℚ, Passing, Piece, ArePieces, time_in, supplied, end_before, plus_piece}
+use Rattle.nf_net.proofs.Common.{supplied_after}
 use Rattle.nf_rational_laws.proofs.Polynomial.{reading_of}
 use Rattle.nf_rational_laws.proofs.Linear.{le, eq, linear_eq}
 use Rattle.nf_rational_laws.proofs.Order.{less_ps, ≤ℚ_of_lt}
@@ -11,10 +9,7 @@ use Rattle.nf_rational_laws.proofs.Tests.{lt_ℚ_cases, max0_none, max0_of}
 use Rattle.nf_rational_laws.proofs.Extremes.{min_left, min_keeps}
 use Rattle.nf_rational_laws.proofs.Chains.{≤ℚ_trans}
 use Rattle.nf_frac_def.specs.declared.Op.TheVariants.{Sum, Difference, Product}
-use Rattle.nf_frac_def.specs.Passing.{Passing}
 use Rattle.nf_frac_def.specs.Checked.{Checked, checked, ◌>>=◌}
-use Rattle.nf_model.specs.Network.{Piece, ArePieces, time_in, supplied}
-use Rattle.nf_net.specs.Supply.{end_before, plus_piece, supplied_after}
 use Rattle.nf_frac_def.proofs.Binding.{bind_ok}
 use Rattle.nf_rational_laws.proofs.Results.{same_Ok}
 use Rattle.nf_frac_def.proofs.Exact.{checked-is}

@@ -1,14 +1,8 @@
 -- Lines of a text, piece by piece.
-use Rattle.std.proofs.Common.{◌≡◌, ℕ, zero, suc, ◌+◌, ◌≤◌, List, [], ◌∷◌, ◌++◌, length, append-nil, map, drop, slice_get, Option, Some, sym, ◌∙◌, ap, arith, append_assoc}
-use Rattle.nf_text_def.specs.Words.{line_of_words}
-use Rattle.std.specs.List.{flat_map}
-use Rattle.std.proofs.lemmas.List.{drop_all}
-use Rattle.nf_model.specs.Network.{Link, IsLink}
-use Rattle.nf_net_def.specs.Names.{Name, name_at}
-use Rattle.nf_net_def.specs.Named.{NamedLink, Named, link_by_name, links_by_name, active_links}
-use Rattle.nf_net_def.specs.NetText.{link_words}
-use Rattle.nf_net_def.specs.WellNamed.{IsNamed}
-use Rattle.nf_net.specs.Printing.{PushesLink}
+use Rattle.std.proofs.Common.{◌≡◌, ℕ, zero, suc, ◌+◌, ◌≤◌, List, [], ◌∷◌, ◌++◌, length, append-nil, map, drop, slice_get, Option, Some, sym, ◌∙◌, ap, arith}
+use Rattle.std.proofs.Common.{append_assoc}
+use Rattle.nf_net.proofs.Common.{line_of_words, flat_map, drop_all, Link, IsLink, Name, name_at, NamedLink, Named, link_by_name, links_by_name}
+use Rattle.nf_net.proofs.Common.{active_links, link_words, IsNamed, PushesLink}
 use Rattle.nf_net.proofs.Limits.{length-links_by_name}
 
 -- ---- texts put behind each other

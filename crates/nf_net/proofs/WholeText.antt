@@ -1,14 +1,8 @@
 -- The text of a network, put together.
 use Rattle.std.proofs.Common.{◌≡◌, ℕ, List, [], ◌∷◌, ◌++◌, map, ap, ◌∙◌, codes, append_assoc, append-nil}
-use Rattle.std.specs.List.{flat_map}
+use Rattle.nf_net.proofs.Common.{flat_map, Piece, digits_of, line_of_words, name_at, NamedLink, Named, active_links, link_words, inflow_words, canonical}
+use Rattle.nf_net.proofs.Common.{head_text}
 use Rattle.std.proofs.lemmas.List.Concat.{flat_map-append}
-use Rattle.nf_model.specs.Network.{Piece}
-use Rattle.nf_frac_words.specs.Digits.{digits_of}
-use Rattle.nf_text_def.specs.Words.{line_of_words}
-use Rattle.nf_net_def.specs.Names.{name_at}
-use Rattle.nf_net_def.specs.Named.{NamedLink, Named, active_links}
-use Rattle.nf_net_def.specs.NetText.{link_words, inflow_words, canonical}
-use Rattle.nf_net.specs.Printing.{head_text}
 
 -- three lines, three lists of lines and one line
 joined : {X : Type 0} (f : X → List ℕ) (a b c : X) (xs ys zs : List X) (e : X)

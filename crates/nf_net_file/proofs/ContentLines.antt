@@ -1,15 +1,13 @@
 -- The lines of a network file, one after the other.
-use Rattle.std.proofs.Common.{◌≡◌, ℕ, ◌+◌, ◌-◌, ◌<◌, ◌≤◌, List, [], ◌∷◌, length, take, drop, get_or, Option, Some, None, Result, Ok, Err, refl, sym, ap, subst, ◌∙◌, arith}
-use Rattle.std.proofs.lemmas.List.{at_drop_more, take_rest}
+use Rattle.std.proofs.Common.{◌≡◌, ℕ, ◌+◌, ◌-◌, ◌<◌, ◌≤◌, List, [], ◌∷◌, length, take, drop, get_or, Option, Some, None, Result, Ok, Err, refl, sym, ap}
+use Rattle.std.proofs.Common.{subst, ◌∙◌, arith}
+use Rattle.nf_net_file.proofs.Common.{at_drop_more, take_rest, NetRule, N3, Broken, Draft, empty_draft, add_line, add_lines, in_line, version_of}
+use Rattle.nf_net_file.proofs.Common.{draft_after, draft_from, IfBroken}
 use Rattle.nf_frac_def.specs.Checked.{◌>>=◌}
 use Rattle.nf_text_def.specs.Words.{ReadLine}
 use Rattle.nf_text.specs.declared.fault.FileFault.{FileFault}
 use Rattle.nf_text.specs.declared.fault.LineFault.{LineFault}
 use Rattle.nf_text.specs.Faults.{IfRule, fault_in_line}
-use Rattle.nf_net_def.specs.declared.NetRule.{NetRule}
-use Rattle.nf_net_def.specs.declared.NetRule.TheVariants.{N3}
-use Rattle.nf_net_def.specs.NetLines.{Broken, Draft, empty_draft, add_line, add_lines, in_line, version_of, draft_after, draft_from}
-use Rattle.nf_net_file.specs.Contents.{IfBroken}
 
 -- what follows for a broken rule
 pub broken_more : (fault : FileFault NetRule) (P Q : Broken → Type 0) → ((broken : Broken) → P broken → Q broken) → IfBroken fault P → IfBroken fault Q

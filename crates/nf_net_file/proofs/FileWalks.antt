@@ -1,36 +1,25 @@
 -- Walks along the links of a file.
-use Rattle.std.proofs.Common.{◌≡◌, ℕ, zero, suc, ◌<◌, ◌≤◌, Bool, true, false, not, ◌||◌, ◌&&◌, ◌==◌, cond, List, [], ◌∷◌, length, slice_get, unwrap_or, Option, Some, None, MatchBool, refl, sym, ◌∙◌, ap, subst, arith}
-use Rattle.std.proofs.lemmas.List.{length-map}
-use Rattle.std.specs.Prelude.{is_none, is_some, Result, Ok, Err, IfOk, IfSome, IsNone, Vec, ◌↔◌}
+use Rattle.std.proofs.Common.{◌≡◌, ℕ, zero, suc, ◌<◌, ◌≤◌, Bool, true, false, not, ◌||◌, ◌&&◌, ◌==◌, cond, List, [], ◌∷◌, length, slice_get, unwrap_or}
+use Rattle.std.proofs.Common.{Option, Some, None, MatchBool, refl, sym, ◌∙◌, ap, subst, arith, is_none, is_some, Result, Ok, Err, IfOk, IfSome, IsNone, Vec}
+use Rattle.std.proofs.Common.{◌↔◌}
+use Rattle.nf_net_file.proofs.Common.{length-map, AllByRecursion, list_all, list_any, ℚ, 0ℚ, Hop, IsHop, IsWalk, transit_of, hop_of, AreBelow, Name}
+use Rattle.nf_net_file.proofs.Common.{has_name, place_of, greatest, NamedLink, numbered, ends, Draft, draft_hops, source_name, sink_name, source_place}
+use Rattle.nf_net_file.proofs.Common.{IsReached, LeavesUnreached, HasZeroCycle, HasPassingSum, place_below, IsRead, HasEnds, flag_at, some_unreached}
+use Rattle.nf_net_file.proofs.Common.{AreFlags, HasFraction, and_parts, not-false}
 use Rattle.std.specs.declared.alloc.Global.{Global}
 use Rattle.std.specs.declared.alloc.AllocError.{AllocError}
 use Rattle.nf_graph.specs.declared.distance.DistanceFault.{DistanceFault}
 use Rattle.nf_graph.specs.declared.distance.DistanceFault.TheVariants.{Passed, Memory}
 use Rattle.nf_graph.specs.Steps.{ForPassed}
-use Rattle.std.specs.List.{AllByRecursion, list_all, list_any}
-use Rattle.nf_rational.specs.Rational.{ℚ}
-use Rattle.nf_rational.specs.Operations.{0ℚ}
 use Rattle.nf_frac_def.specs.Passing.{is_wide, passes_Q}
 use Rattle.nf_frac_def.specs.declared.Op.TheVariants.{Sum}
 use Rattle.nf_model.specs.Entries.{Has}
-use Rattle.nf_model.specs.Walk.{Hop, IsHop, IsWalk, transit_of}
-use Rattle.nf_model.specs.Network.{hop_of}
-use Rattle.nf_graph.specs.Graph.{AreBelow}
 use Rattle.nf_graph.specs.Order.{IsZeroCycle}
 use Rattle.nf_graph.specs.Distances.{NoNegativeTransit, PassesAt}
 use Rattle.nf_graph.proofs.Flags.{Has-not_unset}
-use Rattle.nf_net_def.specs.Names.{Name, has_name, place_of}
-use Rattle.nf_net_def.specs.Numbers.{greatest}
-use Rattle.nf_net_def.specs.Named.{NamedLink, numbered, ends}
-use Rattle.nf_net_def.specs.NetLines.{Draft}
-use Rattle.nf_net_def.specs.NetClosing.{draft_hops, source_name, sink_name, source_place, IsReached, LeavesUnreached, HasZeroCycle, HasPassingSum}
-use Rattle.nf_net_laws.proofs.NameFacts.{place_below}
 use Rattle.nf_net_laws.proofs.WalkFacts.{CameFrom, came_from, entry_all}
 use Rattle.nf_net_laws.proofs.DraftKept.{IsGoodDraft, draft_kept}
 use Rattle.nf_net_laws.proofs.AcceptedWalks.{file_transits}
-use Rattle.nf_net_file.specs.Contents.{IsRead}
-use Rattle.nf_net_file.specs.Closing.{HasEnds, flag_at, some_unreached, AreFlags, HasFraction}
-use Rattle.std.proofs.lemmas.Bool.{and_parts, not-false}
 
 pub good_of : (draft : Draft) → IsRead draft → IsGoodDraft draft
 good_of draft h = draft_kept h.lines draft h.read

@@ -1,6 +1,6 @@
 -- Loops that fill a list from another, entry by entry.
 use Rattle.std.proofs.Common.{◌≡◌, ℕ, suc, ◌+◌, ◌<◌, ◌≤◌, List, [], ◌∷◌, ◌++◌, length, get_or, drop, sym, ◌∙◌, ap, append_assoc, add-one, drop-cons}
-use Rattle.std.proofs.lemmas.List.{append-nil, at_drop_all}
+use Rattle.nf_net_file.proofs.Common.{append-nil, at_drop_all}
 
 -- from this entry on
 pub at_entry : {A : Type 0} (xs : List A) (i : ℕ) (x : A) → i < length xs → x ≡ get_or xs i x → drop i xs ≡ x ∷ drop (i + 1) xs

@@ -1,10 +1,7 @@
 -- The first rule that a file as a whole breaks.
-use Rattle.std.proofs.Common.{◌≡◌, true, false, ◌||◌, refl, inl, inr}
-use Rattle.std.specs.Prelude.{is_none}
-use Rattle.nf_net_def.specs.declared.NetRule.TheVariants.{N17, N18, N19, N20, N21, N22}
-use Rattle.nf_net_def.specs.NetLines.{Draft}
-use Rattle.nf_net_def.specs.NetClosing.{LeavesUnreached, HasZeroCycle, HasPassingSum}
-use Rattle.nf_net_file.specs.Closing.{HasEnds, BreaksNone, BreaksFirstAtEnd}
+use Rattle.std.proofs.Common.{◌≡◌, true, false, ◌||◌, refl, inl, inr, is_none}
+use Rattle.nf_net_file.proofs.Common.{N17, N18, N19, N20, N21, N22, Draft, LeavesUnreached, HasZeroCycle, HasPassingSum, HasEnds, BreaksNone}
+use Rattle.nf_net_file.proofs.Common.{BreaksFirstAtEnd}
 
 module _ (draft : Draft) where
   pub first_ended : draft.ended ≡ false → BreaksFirstAtEnd draft N17

@@ -1,7 +1,6 @@
 -- The words of the first line.
 use Rattle.std.proofs.Common.{◌≡◌, ◌≢◌, ℕ, cond, ◌&&◌, List, [], ◌∷◌, length, Some, None, refl, arith, codes, bytes_eq}
-use Rattle.nf_net_def.specs.NetLines.{version_of}
-use Rattle.nf_text.specs.Within.{word_at}
+use Rattle.nf_net_file.proofs.Common.{version_of, word_at}
 
 pub head_count_wrong : (words : List (List ℕ)) → length words ≢ 2 → version_of words ≡ None
 head_count_wrong [] n = refl

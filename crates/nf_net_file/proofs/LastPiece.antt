@@ -1,11 +1,6 @@
 -- The last piece.
 use Rattle.std.proofs.Common.{◌≡◌, ℕ, zero, suc, ◌-◌, ◌<◌, true, false, eqb, List, [], ◌∷◌, length, get_or, Option, Some, None, refl, sym, ◌∙◌, ap, arith}
-use Rattle.std.proofs.lemmas.Bool.Decides.{nat_tests}
-use Rattle.std.specs.List.{last_or}
-use Rattle.nf_rational.specs.Rational.{ℚ}
-use Rattle.nf_rational.specs.Order.{le_ℚ}
-use Rattle.nf_model.specs.Network.{Piece}
-use Rattle.nf_net_def.specs.NetLines.{is_not_after}
+use Rattle.nf_net_file.proofs.Common.{nat_tests, last_or, ℚ, le_ℚ, Piece, is_not_after}
 
 last_is : (o : Option Piece) (pieces : List Piece) (n : ℕ) (d : Piece) → length pieces ≡ suc n → last_or o pieces ≡ Some (get_or pieces n d)
 last_is o [] n d e = absurd (omega arith)

@@ -1,3 +1,4 @@
+mod Common
 pub mod NameText
 pub mod LineWords
 pub mod NodeCounts

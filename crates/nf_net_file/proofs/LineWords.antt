@@ -1,15 +1,9 @@
 -- The words of a line, by their number.
 use Rattle.std.proofs.Common.{◌≡◌, ◌≢◌, ℕ, ◌<◌, Bool, true, false, cond, ◌&&◌, List, [], ◌∷◌, length, drop, Result, Ok, Err, refl, sym, ◌∙◌, ap, arith}
-use Rattle.std.specs.Prelude.{codes, MatchResult, Some, None}
-use Rattle.std.specs.Str.{bytes_eq}
-use Rattle.std.proofs.lemmas.Bool.{cond-true, cond-false}
-use Rattle.nf_net_def.specs.declared.NetRule.{NetRule}
-use Rattle.nf_net_def.specs.declared.NetRule.TheVariants.{N5, N6, N7, N8}
-use Rattle.nf_net_def.specs.Names.{Name, is_name}
-use Rattle.nf_net_def.specs.Numbers.{number_in, capacity_in}
-use Rattle.nf_net_def.specs.NetLines.{Entry, node_line, link_entry, link_line, inflow_entry, inflow_line, end_line, entry_of, Sink, End}
+use Rattle.std.proofs.Common.{codes, MatchResult, Some, None}
+use Rattle.nf_net_file.proofs.Common.{bytes_eq, cond-true, cond-false, NetRule, N5, N6, N7, N8, Name, is_name, number_in, capacity_in, Entry, node_line}
+use Rattle.nf_net_file.proofs.Common.{link_entry, link_line, inflow_entry, inflow_line, end_line, entry_of, Sink, End, word_at}
 use Rattle.nf_net_file.specs.Reading.{said_by}
-use Rattle.nf_text.specs.Within.{word_at}
 
 -- ---- a wrong number of words
 pub node_count_wrong : (make : Name → Entry) (words : List (List ℕ)) → 0 < length words → length words ≢ 2 → node_line make (drop 1 words) ≡ Err N6

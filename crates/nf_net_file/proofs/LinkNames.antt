@@ -1,8 +1,6 @@
 -- Whether a link has a name, link by link.
 use Rattle.std.proofs.Common.{◌≡◌, ℕ, ◌+◌, ◌<◌, Bool, true, false, ◌||◌, List, length, get_or, drop, sym, ◌∙◌, ap, bytes_eq}
-use Rattle.std.proofs.lemmas.List.{at_drop_more}
-use Rattle.nf_net_def.specs.Names.{Name, has_name}
-use Rattle.nf_net_def.specs.Named.{NamedLink, names_of}
+use Rattle.nf_net_file.proofs.Common.{at_drop_more, Name, has_name, NamedLink, names_of}
 
 module _ (links : List NamedLink) (name : Name) (i : ℕ) (link : NamedLink) (lt : i < length links) (is : link ≡ get_or links i link) where
   at_link : has_name (names_of (drop i links)) name ≡ (bytes_eq name link.name || has_name (names_of (drop (i + 1) links)) name)

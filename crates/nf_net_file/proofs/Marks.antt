@@ -1,11 +1,6 @@
 -- Lists with some entries left out.
 use Rattle.std.proofs.Common.{◌≡◌, ◌≢◌, ℕ, zero, suc, Bool, true, false, cond, not, eqb, List, [], ◌∷◌, get_or, refl, ap, arith}
-use Rattle.std.proofs.lemmas.Bool.Decides.{nat_tests}
-use Rattle.std.specs.List.{list_any}
-use Rattle.nf_net_def.specs.Names.{Name, has_name, without}
-use Rattle.nf_net_def.specs.Named.{NamedLink}
-use Rattle.nf_net_def.specs.NetClosing.{marked}
-use Rattle.nf_net_file.specs.Closing.{flag_at, some_unreached}
+use Rattle.nf_net_file.proofs.Common.{nat_tests, list_any, Name, has_name, without, NamedLink, marked, flag_at, some_unreached}
 
 pub marked_with : (flag : Bool) (flags : List Bool) (l : NamedLink) (links : List NamedLink) → flag ≡ true → marked (flag ∷ flags) (l ∷ links) ≡ l ∷ marked flags links
 marked_with true flags l links e = refl

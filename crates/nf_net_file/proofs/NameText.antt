@@ -1,17 +1,10 @@
 -- Names are text.
-use Rattle.std.proofs.Common.{◌≡◌, ℕ, ◌<◌, true, List, Result, Ok, Err, MatchResult, arith}
-use Rattle.std.specs.Prelude.{IsOk}
-use Rattle.std.specs.List.{list_all}
-use Rattle.std.specs.Str.{IsAscii, IsUtf8}
+use Rattle.std.proofs.Common.{◌≡◌, ℕ, ◌<◌, true, List, Result, Ok, Err, MatchResult, arith, IsOk, [], ◌∷◌, ◌++◌, ◌∙◌, ◌≤◌, ◌&&◌, refl, ap, take, nat_le}
+use Rattle.std.proofs.Common.{length}
+use Rattle.nf_net_file.proofs.Common.{list_all, IsAscii, IsUtf8, nat_tests, is_name, is_name_byte, longest_name, take_at, and_parts}
 use Rattle.std.proofs.lemmas.Str.{IsUtf8-from_ascii}
 use Rattle.std.proofs.lemmas.Str.Ascii.{IsAscii-nil, IsAscii-cons}
-use Rattle.std.proofs.lemmas.Bool.Decides.{nat_tests}
-use Rattle.nf_net_def.specs.Names.{is_name, is_name_byte}
-use Rattle.nf_net_def.specs.Limits.{longest_name}
 use Rattle.nf_net_file.specs.Names.{IsKeptName}
-use Rattle.std.proofs.Common.{[], ◌∷◌, ◌++◌, ◌∙◌, ◌≤◌, ◌&&◌, refl, ap, take, nat_le, length}
-use Rattle.std.proofs.lemmas.List.{take_at}
-use Rattle.std.proofs.lemmas.Bool.{and_parts}
 
 small_byte : (b : ℕ) → is_name_byte b ≡ true → b < 128
 small_byte b e = grind (arith, nat_tests)

@@ -1,11 +1,8 @@
 -- How many names there are with some more.
 use Rattle.std.proofs.Common.{◌≡◌, ℕ, ◌+◌, ◌-◌, ◌≤◌, ltb, Bool, true, false, ◌||◌, List, [], ◌∷◌, length, refl, ◌∙◌, ap, arith, bytes_eq, length-append}
-use Rattle.std.proofs.lemmas.Bool.Decides.{nat_tests}
+use Rattle.nf_net_file.proofs.Common.{nat_tests, most_nodes, Name, has_name, with_name, with_names, has_name-append, same_names, with_name_there}
+use Rattle.nf_net_file.proofs.Common.{with_name_new, one_unless}
 use Rattle.std.proofs.Math.Bool.{or-false}
-use Rattle.nf_net_def.specs.Limits.{most_nodes}
-use Rattle.nf_net_def.specs.Names.{Name, has_name, with_name, with_names}
-use Rattle.nf_net_laws.proofs.NameFacts.{has_name-append, same_names, with_name_there, with_name_new}
-use Rattle.nf_net_file.specs.Drafts.{one_unless}
 
 one : (names : List Name) (x : Name) (b : Bool) → has_name names x ≡ b → length (with_name names x) ≡ length names + one_unless b
 one names x true e = ap length (with_name_there names x e) ∙ omega arith

@@ -1,9 +1,6 @@
 -- The rate of the supply, and when it changes, piece by piece.
 use Rattle.std.proofs.Common.{◌≡◌, ℕ, ◌+◌, ◌<◌, Bool, true, false, cond, List, ◌∷◌, length, get_or, drop, Some, sym, ◌∙◌, ap}
-use Rattle.std.proofs.lemmas.List.{at_drop_more}
-use Rattle.nf_rational.specs.Rational.{ℚ}
-use Rattle.nf_rational.specs.Order.{le_ℚ, lt_ℚ}
-use Rattle.nf_model.specs.Network.{Piece, rate_from, first_start}
+use Rattle.nf_net_file.proofs.Common.{at_drop_more, ℚ, le_ℚ, lt_ℚ, Piece, rate_from, first_start}
 
 module _ (pieces : List Piece) (time : ℚ) (i : ℕ) (piece : Piece) (lt : i < length pieces) (is : piece ≡ get_or pieces i piece) where
   rate_at_piece : (before : ℚ) → rate_from before (drop i pieces) time ≡ rate_from before (piece ∷ drop (i + 1) pieces) time

@@ -1,18 +1,21 @@
 -- The network of an accepted file is well formed.
-use Rattle.std.proofs.Common.{◌≡◌, ℕ, zero, suc, ◌<◌, ◌≤◌, ◌==◌, ◌&&◌, Bool, true, false, not, List, [], ◌∷◌, ◌++◌, length, map, slice_get, Option, Some, None, Result, Ok, Err, unwrap_or, refl, sym, ◌∙◌, ap, subst, arith, bytes_eq, length-append}
+use Rattle.std.proofs.Common.{◌≡◌, ℕ, zero, suc, ◌<◌, ◌≤◌, ◌==◌, ◌&&◌, Bool, true, false, not, List, [], ◌∷◌, ◌++◌, length, map, slice_get, Option, Some}
+use Rattle.std.proofs.Common.{None, Result, Ok, Err, unwrap_or, refl, sym, ◌∙◌, ap, subst, arith, bytes_eq, length-append}
 use Rattle.nf_net_laws.proofs.Common.{MatchBool, ℚ, 0ℚ, ◌≤ℚ◌, ◌<ℚ◌, lt_of_test, passes_Q, Sum, Hop, IsHop, IsWalk, transit_sum, IsLeastTransit, Link, Piece}
 use Rattle.nf_net_laws.proofs.Common.{IsLink, IsPiece, ArePieces, IsNetwork, hop_of, hops, Name, is_name, has_name, place_of, name_at, with_names, without}
 use Rattle.nf_net_laws.proofs.Common.{AreNames, NamedLink, Named, numbered, hops_among, links_by_name, active_links, all_hops, ends, names_of, read_lines}
 use Rattle.nf_net_laws.proofs.Common.{content_lines, LineFault, first_fault, Broken, Draft, draft_from, ReadsAs, by_lines, by_bytes, Reads, draft_hops}
-use Rattle.nf_net_laws.proofs.Common.{source_name, sink_name, source_place, IsReached, HasPassingSum, BreaksRule, closing_rules, marked, network_of, AreActive}
-use Rattle.nf_net_laws.proofs.Common.{IsFraction, IsCapacity, IsNamedLink, IsWithinLimits, IsNumbered, SumsFit, IsNamed, slice_get-image}
-use Rattle.std.specs.List.{AllByRecursion, IsDistinct, list_all}
+use Rattle.nf_net_laws.proofs.Common.{source_name, sink_name, source_place, IsReached, HasPassingSum, BreaksRule, closing_rules, marked, network_of}
+use Rattle.nf_net_laws.proofs.Common.{AreActive, IsFraction, IsCapacity, IsNamedLink, IsWithinLimits, IsNumbered, SumsFit, IsNamed, slice_get-image}
+use Rattle.nf_net_laws.proofs.Common.{AllByRecursion, list_all}
+use Rattle.std.specs.List.{IsDistinct}
 use Rattle.nf_net_laws.proofs.NameFacts.{same_names, has_at, place_below, name_at-place, place_at, with_names-split}
 use Rattle.nf_net_laws.proofs.WalkFacts.{entry_all, IsIn, in_first, in_second, which, CameFrom, came_from, Corresponds, Carried, carried}
 use Rattle.nf_net_laws.proofs.LinesBack.{Rises, AreNotNegative, length-with_names}
 use Rattle.nf_net_laws.proofs.DraftKept.{IsGoodDraft, draft_kept, distinct_with_names, still_there, now_there, all_with_names, all_pushed}
 use Rattle.nf_net_laws.proofs.MarkedFacts.{Entry, from_marked, in_marked, others_lack, length_split, marked_all, distinct_split, no_more, has_all, has_every}
-use Rattle.nf_net_laws.proofs.AcceptedNodes.{both_all, all_entries, all_implied, ends_among, s_there, t_there, two_nodes, there, reached_on, IsReachedName, nodes_reached}
+use Rattle.nf_net_laws.proofs.AcceptedNodes.{both_all, all_entries, all_implied, ends_among, s_there, t_there, two_nodes, there, reached_on, IsReachedName}
+use Rattle.nf_net_laws.proofs.AcceptedNodes.{nodes_reached}
 use Rattle.nf_net_laws.proofs.AcceptedWalks.{AreOfFile, walk_to_file, circles}
 
 -- ---- lists

@@ -1,8 +1,9 @@
 -- Reached nodes of an accepted file, and walks by the numbers of the file and of its network.
-use Rattle.std.proofs.Common.{◌≡◌, ℕ, zero, suc, ◌<◌, ◌==◌, ◌||◌, Bool, true, false, List, [], ◌∷◌, ◌++◌, length, map, slice_get, Option, Some, None, is_none, unwrap_or, refl, sym, ◌∙◌, ap, subst, inl, inr, bytes_eq}
-use Rattle.nf_net_laws.proofs.Common.{MatchBool, AllByRecursion, list_all, and_parts, or_left, or_right, Hop, IsHop, IsWalk, hop_of, Name, has_name, place_of}
-use Rattle.nf_net_laws.proofs.Common.{name_at, with_names, NamedLink, numbered, ends, Draft, draft_hops, source_name, sink_name, source_place, IsReached}
-use Rattle.nf_net_laws.proofs.Common.{LeavesUnreached, BreaksRule, closing_rules, marked, AreActive, slice_get-image, true_or_false}
+use Rattle.std.proofs.Common.{◌≡◌, ℕ, zero, suc, ◌<◌, ◌==◌, ◌||◌, Bool, true, false, List, [], ◌∷◌, ◌++◌, length, map, slice_get, Option, Some, None}
+use Rattle.std.proofs.Common.{is_none, unwrap_or, refl, sym, ◌∙◌, ap, subst, inl, inr, bytes_eq}
+use Rattle.nf_net_laws.proofs.Common.{MatchBool, AllByRecursion, list_all, and_parts, or_left, or_right, Hop, IsHop, IsWalk, hop_of, Name, has_name}
+use Rattle.nf_net_laws.proofs.Common.{place_of, name_at, with_names, NamedLink, numbered, ends, Draft, draft_hops, source_name, sink_name, source_place}
+use Rattle.nf_net_laws.proofs.Common.{IsReached, LeavesUnreached, BreaksRule, closing_rules, marked, AreActive, slice_get-image, true_or_false}
 use Rattle.nf_net_laws.proofs.NameFacts.{bytes_eq-self, place_below, name_at-place}
 use Rattle.nf_net_laws.proofs.WalkFacts.{entry_all, CameFrom, came_from, walk_push, LastHop, last_hop}
 use Rattle.nf_net_laws.proofs.DraftKept.{IsGoodDraft}

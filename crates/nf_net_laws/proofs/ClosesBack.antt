@@ -1,13 +1,15 @@
 -- The lines of a canonical text stand for the network whose text it is.
-use Rattle.std.proofs.Common.{◌≡◌, ℕ, ◌<◌, ◌≤◌, ◌==◌, Bool, true, false, List, [], ◌∷◌, ◌++◌, length, map, slice_get, Some, refl, sym, ◌∙◌, ap, subst, inl, inr, arith, append-nil, map-id, bytes_eq, Ok}
+use Rattle.std.proofs.Common.{◌≡◌, ℕ, ◌<◌, ◌≤◌, ◌==◌, Bool, true, false, List, [], ◌∷◌, ◌++◌, length, map, slice_get, Some, refl, sym, ◌∙◌, ap, subst, inl}
+use Rattle.std.proofs.Common.{inr, arith, append-nil, map-id, bytes_eq, Ok}
 use Rattle.nf_net_laws.proofs.Common.{MatchBool, Decides, AllByRecursion, IsDistinct, 0ℚ, ◌≤ℚ◌, reading_of, eq, linear_eq, Hop, IsHop, IsWalk, transit_of}
-use Rattle.nf_net_laws.proofs.Common.{transit_sum, IsLeastTransit, Link, hop_of, hops, N19, Name, has_name, place_of, name_at, with_names, without, NamedLink}
-use Rattle.nf_net_laws.proofs.Common.{Named, numbered, hops_among, active_links, all_links, all_nodes, all_hops, ends, names_of, Draft, IsReached}
-use Rattle.nf_net_laws.proofs.Common.{LeavesUnreached, HasZeroCycle, HasPassingSum, BreaksRule, network_of, AreActive, ReadsAs, IsNamed}
-use Rattle.nf_rational_laws.proofs.Facts.{zero_not_above}
+use Rattle.nf_net_laws.proofs.Common.{transit_sum, IsLeastTransit, Link, hop_of, hops, N19, Name, has_name, place_of, name_at, with_names, without}
+use Rattle.nf_net_laws.proofs.Common.{NamedLink, Named, numbered, hops_among, active_links, all_links, all_nodes, all_hops, ends, names_of, Draft}
+use Rattle.nf_net_laws.proofs.Common.{IsReached, LeavesUnreached, HasZeroCycle, HasPassingSum, BreaksRule, network_of, AreActive, ReadsAs, IsNamed}
+use Rattle.nf_net_laws.proofs.Common.{zero_not_above}
 use Rattle.nf_net_laws.proofs.NameFacts.{place_right}
 use Rattle.nf_net_laws.proofs.WalkFacts.{slice_get-left, IsIn, in_first, in_second, which, entry_all, CameFrom, came_from, Corresponds, Carried, carried}
-use Rattle.nf_net_laws.proofs.LinkFacts.{distinct_left, map-append, names_of-links_by_name, named_all, EndsBelow, place_again, map_numbered, first_marked, marked-first, marked-others, flags_hold}
+use Rattle.nf_net_laws.proofs.LinkFacts.{distinct_left, map-append, names_of-links_by_name, named_all, EndsBelow, place_again, map_numbered, first_marked}
+use Rattle.nf_net_laws.proofs.LinkFacts.{marked-first, marked-others, flags_hold}
 
 -- the parser state after the lines of its canonical text
 abbrev pub draft_of : Named → Draft

@@ -1,20 +1,19 @@
 -- Properties of the parser state, line by line.
-use Rattle.std.proofs.Common.{◌≡◌, ℕ, ◌+◌, ◌<◌, ◌≤◌, ◌⊎◌, ◌&&◌, ◌||◌, Bool, true, false, if◌then◌else◌, List, [], ◌∷◌, ◌++◌, length, nat_le, refl, sym, ◌∙◌, ap, subst, inl, inr, arith, bytes_eq, length-append, codes, Option, Some, None, Result, Ok, Err, is_some, unwrap_or}
-use Rattle.std.specs.List.{AllByRecursion, IsDistinct, last_or, list_all}
-use Rattle.nf_rational_laws.proofs.Entries.{all_push}
-use Rattle.nf_net_laws.proofs.Common.{and_parts, or_parts, leb-false, ltb-false, or_left, or_right, not-false, ℚ, 0ℚ, le_of_test, lt_of_test, Piece, ReadLine}
-use Rattle.nf_net_laws.proofs.Common.{NetRule, N4, N5, N7, N9, N10, N11, N12, N13, N14, N15, N16, Name, is_name, has_name, with_name, with_names, number_in}
-use Rattle.nf_net_laws.proofs.Common.{capacity_in, NamedLink, ends, names_of, Entry, Source, Sink, LinkLine, InflowLine, End, node_line, link_entry, link_line}
-use Rattle.nf_net_laws.proofs.Common.{inflow_entry, inflow_line, end_line, entry_of, Draft, empty_draft, after, first_rule, too_many_nodes, is_negative}
-use Rattle.nf_net_laws.proofs.Common.{is_no_capacity, is_not_after, broken_rule, unless, add_line, in_line, add_lines, version_of, draft_after, draft_from}
-use Rattle.nf_net_laws.proofs.Common.{IsFraction, IsCapacity, IsNamedLink, IsFractionPiece, same_Ok}
-use Rattle.nf_rational.specs.Order.{◌≤ℚ◌, le_ℚ, lt_ℚ}
-use Rattle.nf_frac_def.specs.Checked.{◌>>=◌}
+use Rattle.std.proofs.Common.{◌≡◌, ℕ, ◌+◌, ◌<◌, ◌≤◌, ◌⊎◌, ◌&&◌, ◌||◌, Bool, true, false, if◌then◌else◌, List, [], ◌∷◌, ◌++◌, length, nat_le, refl, sym, ◌∙◌}
+use Rattle.std.proofs.Common.{ap, subst, inl, inr, arith, bytes_eq, length-append, codes, Option, Some, None, Result, Ok, Err, is_some, unwrap_or}
+use Rattle.nf_net_laws.proofs.Common.{AllByRecursion, last_or, list_all, all_push, and_parts, or_parts, leb-false, ltb-false, or_left, or_right, not-false}
+use Rattle.nf_net_laws.proofs.Common.{ℚ, 0ℚ, le_of_test, lt_of_test, Piece, ReadLine, NetRule, N4, N5, N7, N9, N10, N11, N12, N13, N14, N15, N16, Name}
+use Rattle.nf_net_laws.proofs.Common.{is_name, has_name, with_name, with_names, number_in, capacity_in, NamedLink, ends, names_of, Entry, Source, Sink}
+use Rattle.nf_net_laws.proofs.Common.{LinkLine, InflowLine, End, node_line, link_entry, link_line, inflow_entry, inflow_line, end_line, entry_of, Draft}
+use Rattle.nf_net_laws.proofs.Common.{empty_draft, after, first_rule, too_many_nodes, is_negative, is_no_capacity, is_not_after, broken_rule, unless}
+use Rattle.nf_net_laws.proofs.Common.{add_line, in_line, add_lines, version_of, draft_after, draft_from, IsFraction, IsCapacity, IsNamedLink}
+use Rattle.nf_net_laws.proofs.Common.{IsFractionPiece, same_Ok, ◌≤ℚ◌, le_ℚ, ◌>>=◌, same_Some}
+use Rattle.std.specs.List.{IsDistinct}
+use Rattle.nf_rational.specs.Order.{lt_ℚ}
 use Rattle.nf_net_laws.proofs.NameFacts.{has_name-append, with_name_there, with_name_new, bytes_eq-turned, same_names, bytes_eq-self}
 use Rattle.nf_net_laws.proofs.LinkFacts.{ends-append, map-append}
 use Rattle.nf_net_laws.proofs.LinesBack.{Rises, AreNotNegative}
 use Rattle.nf_net_laws.proofs.NumbersKept.{IsReadCapacity, number_kept, capacity_kept}
-use Rattle.std.proofs.lemmas.Option.{same_Some}
 
 -- ---- lists of names with some behind
 distinct_push : (xs : List Name) (y : Name) → IsDistinct bytes_eq xs → has_name xs y ≡ false → IsDistinct bytes_eq (xs ++ y ∷ [])

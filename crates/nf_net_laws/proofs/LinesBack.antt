@@ -1,19 +1,19 @@
 -- Read line by line, the lines of a canonical text say what they are printed from.
-use Rattle.std.proofs.Common.{◌≡◌, ℕ, zero, suc, ◌+◌, ◌<◌, ◌≤◌, ◌⊎◌, ◌==◌, ◌&&◌, ◌||◌, Bool, true, false, not, if◌then◌else◌, List, [], ◌∷◌, ◌++◌, length, map, nat_lt, nat_le, nat_abs, refl, sym, ◌∙◌, ap, subst, inl, inr, arith, append_assoc, append-nil, bytes_eq, length-append, codes, Option, Some, None, Result, Ok, Err, option_map}
-use Rattle.std.specs.List.{AllByRecursion, IsDistinct, last_or, list_all}
-use Rattle.std.specs.Result.{result_ok}
-use Rattle.nf_net_laws.proofs.Common.{le-ltb, lt-leb, ltb-false, or_from, or_parts, and_right, ℚ, 0ℚ, test_of_le, test_of_lt, Piece, IsPiece, ArePieces}
-use Rattle.nf_net_laws.proofs.Common.{printed, NetRule, N4, N7, N9, N10, N11, N12, N13, N14, N15, N16, ReadLine, Name, is_name, has_name, name_at, with_name}
-use Rattle.nf_net_laws.proofs.Common.{with_names, greatest, number_in, capacity_in, capacity_word, NamedLink, Named, ends, names_of, active_links, all_links}
-use Rattle.nf_net_laws.proofs.Common.{all_nodes, Entry, Source, Sink, LinkLine, InflowLine, node_line, link_entry, inflow_entry, entry_of, Draft, empty_draft}
-use Rattle.nf_net_laws.proofs.Common.{after, first_rule, too_many_nodes, is_negative, is_no_capacity, is_not_after, broken_rule, unless, add_line, in_line}
-use Rattle.nf_net_laws.proofs.Common.{add_lines, version_of, draft_after, draft_from, link_words, inflow_words, canonical_lines, IsFraction, IsCapacity}
-use Rattle.nf_net_laws.proofs.Common.{IsNamedLink, IsFractionPiece, IsNamed, last-append}
-use Rattle.nf_rational.specs.Order.{◌≤ℚ◌, ◌<ℚ◌, lt_ℚ}
-use Rattle.nf_frac_def.specs.Checked.{◌>>=◌}
-use Rattle.nf_frac_words.specs.declared.NumberFault.{NumberFault}
+use Rattle.std.proofs.Common.{◌≡◌, ℕ, zero, suc, ◌+◌, ◌<◌, ◌≤◌, ◌⊎◌, ◌==◌, ◌&&◌, ◌||◌, Bool, true, false, not, if◌then◌else◌, List, [], ◌∷◌, ◌++◌, length}
+use Rattle.std.proofs.Common.{map, nat_lt, nat_le, nat_abs, refl, sym, ◌∙◌, ap, subst, inl, inr, arith, append_assoc, append-nil, bytes_eq, length-append}
+use Rattle.std.proofs.Common.{codes, Option, Some, None, Result, Ok, Err, option_map}
+use Rattle.nf_net_laws.proofs.Common.{AllByRecursion, last_or, list_all, result_ok, le-ltb, lt-leb, ltb-false, or_from, or_parts, and_right, ℚ, 0ℚ}
+use Rattle.nf_net_laws.proofs.Common.{test_of_le, test_of_lt, Piece, IsPiece, ArePieces, printed, NetRule, N4, N7, N9, N10, N11, N12, N13, N14, N15, N16}
+use Rattle.nf_net_laws.proofs.Common.{ReadLine, Name, is_name, has_name, name_at, with_name, with_names, greatest, number_in, capacity_in, capacity_word}
+use Rattle.nf_net_laws.proofs.Common.{NamedLink, Named, ends, names_of, active_links, all_links, all_nodes, Entry, Source, Sink, LinkLine, InflowLine}
+use Rattle.nf_net_laws.proofs.Common.{node_line, link_entry, inflow_entry, entry_of, Draft, empty_draft, after, first_rule, too_many_nodes, is_negative}
+use Rattle.nf_net_laws.proofs.Common.{is_no_capacity, is_not_after, broken_rule, unless, add_line, in_line, add_lines, version_of, draft_after, draft_from}
+use Rattle.nf_net_laws.proofs.Common.{link_words, inflow_words, canonical_lines, IsFraction, IsCapacity, IsNamedLink, IsFractionPiece, IsNamed, last-append}
+use Rattle.nf_net_laws.proofs.Common.{◌≤ℚ◌, ◌<ℚ◌, ◌>>=◌, NumberFault, decimal_of}
+use Rattle.std.specs.List.{IsDistinct}
+use Rattle.nf_rational.specs.Order.{lt_ℚ}
 use Rattle.nf_frac_words.specs.Digits.{digits_of}
-use Rattle.nf_frac_words.specs.Numbers.{number_of, decimal_of, parts_of}
+use Rattle.nf_frac_words.specs.Numbers.{number_of, parts_of}
 use Rattle.nf_frac_words.proofs.ReadBack.{number_read, number_read_as_decimal}
 use Rattle.nf_net_laws.proofs.NameFacts.{bytes_eq-turned, same_names, with_name_new, with_names-append, with_names-split}
 use Rattle.nf_net_laws.proofs.LinkFacts.{ends-append, map-append, names_of-links_by_name}

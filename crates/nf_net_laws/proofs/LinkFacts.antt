@@ -1,7 +1,8 @@
 -- Links by names and by numbers.
 use Rattle.std.proofs.Common.{◌≡◌, ℕ, suc, ◌<◌, Bool, true, false, not, List, [], ◌∷◌, ◌++◌, length, map, slice_get, Some, refl, ◌∙◌, ap, arith, bytes_eq}
-use Rattle.std.specs.List.{AllByRecursion, AllZip, IsDistinct}
-use Rattle.nf_net_laws.proofs.Common.{Link, Name, place_of, name_at, NamedLink, numbered, link_by_name, links_by_name, ends, names_of, marked}
+use Rattle.nf_net_laws.proofs.Common.{AllByRecursion, AllZip, Link, Name, place_of, name_at, NamedLink, numbered, link_by_name, links_by_name, ends}
+use Rattle.nf_net_laws.proofs.Common.{names_of, marked}
+use Rattle.std.specs.List.{IsDistinct}
 use Rattle.nf_net_laws.proofs.NameFacts.{has_at, place_at, place_left}
 
 -- ---- distinct names

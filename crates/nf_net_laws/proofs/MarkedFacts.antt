@@ -1,7 +1,9 @@
 -- Links that flags mark, and the others.
-use Rattle.std.proofs.Common.{◌≡◌, ℕ, zero, suc, ◌+◌, ◌≤◌, ◌||◌, ◌&&◌, Bool, true, false, not, if◌then◌else◌, List, [], ◌∷◌, ◌++◌, length, map, slice_get, Some, refl, sym, ◌∙◌, ap, subst, arith, bytes_eq}
+use Rattle.std.proofs.Common.{◌≡◌, ℕ, zero, suc, ◌+◌, ◌≤◌, ◌||◌, ◌&&◌, Bool, true, false, not, if◌then◌else◌, List, [], ◌∷◌, ◌++◌, length, map, slice_get}
+use Rattle.std.proofs.Common.{Some, refl, sym, ◌∙◌, ap, subst, arith, bytes_eq}
 use Rattle.nf_net_laws.proofs.Common.{Decides, and_parts, or_left, or_right, Name, has_name, with_name, with_names, NamedLink, names_of, marked}
-use Rattle.std.specs.List.{AllByRecursion, AllZip, IsDistinct, list_all}
+use Rattle.nf_net_laws.proofs.Common.{AllByRecursion, AllZip, list_all}
+use Rattle.std.specs.List.{IsDistinct}
 use Rattle.nf_net_laws.proofs.NameFacts.{same_names, bytes_eq-self, bytes_eq-turned, with_name_there, with_name_new}
 
 -- ---- entries

@@ -1,10 +1,10 @@
 -- Names among others: whether one is there, its place, and names put behind others.
-use Rattle.std.proofs.Common.{◌≡◌, ℕ, zero, suc, ◌+◌, ◌<◌, ◌≤◌, Bool, true, false, cond, not, ◌||◌, List, [], ◌∷◌, ◌++◌, length, filter, refl, sym, ◌∙◌, ap, subst, arith, append_assoc, append-nil, bytes_eq}
-use Rattle.std.specs.List.{AllByRecursion, IsDistinct}
+use Rattle.std.proofs.Common.{◌≡◌, ℕ, zero, suc, ◌+◌, ◌<◌, ◌≤◌, Bool, true, false, cond, not, ◌||◌, List, [], ◌∷◌, ◌++◌, length, filter, refl, sym, ◌∙◌, ap}
+use Rattle.std.proofs.Common.{subst, arith, append_assoc, append-nil, bytes_eq}
+use Rattle.nf_net_laws.proofs.Common.{AllByRecursion, or_left, or_right, Name, has_name, place_of, name_at, with_name, with_names, without, filter-append}
+use Rattle.std.specs.List.{IsDistinct}
 use Rattle.std.proofs.lemmas.Slice.Eq.{bytes_eq-Decides}
 use Rattle.std.proofs.lemmas.List.Folds.{list_any-append}
-use Rattle.nf_net_laws.proofs.Common.{or_left, or_right, Name, has_name, place_of, name_at, with_name, with_names, without}
-use Rattle.std.proofs.lemmas.List.Elements.{filter-append}
 
 -- ---- equal names
 pub same_names : (a b : Name) → bytes_eq a b ≡ true → a ≡ b

@@ -1,12 +1,14 @@
 -- A number that a word writes has no part beyond the greatest.
-use Rattle.std.proofs.Common.{◌≡◌, ◌≢◌, ℕ, zero, suc, ◌+◌, ◌*◌, ◌^◌, ◌/◌, ◌≤◌, ◌==◌, ◌&&◌, ◌||◌, Bool, true, false, not, if◌then◌else◌, List, length, nat_lt, nat_abs, ℤ, refl, sym, ap, subst, arith, div-le_self, codes, bytes_eq, Option, Some, None, Result, Ok, Err, option_map, unwrap_or, lit≤}
-use Rattle.std.specs.Result.{result_ok}
-use Rattle.nf_net_laws.proofs.Common.{le-ltb, ltb-false, or_parts, or_from, are_digits, value_of, greatest, number_in, capacity_in, IsFraction, same_Ok}
+use Rattle.std.proofs.Common.{◌≡◌, ◌≢◌, ℕ, zero, suc, ◌+◌, ◌*◌, ◌^◌, ◌/◌, ◌≤◌, ◌==◌, ◌&&◌, ◌||◌, Bool, true, false, not, if◌then◌else◌, List, length}
+use Rattle.std.proofs.Common.{nat_lt, nat_abs, ℤ, refl, sym, ap, subst, arith, div-le_self, codes, bytes_eq, Option, Some, None, Result, Ok, Err}
+use Rattle.std.proofs.Common.{option_map, unwrap_or, lit≤}
+use Rattle.nf_net_laws.proofs.Common.{result_ok, le-ltb, ltb-false, or_parts, or_from, are_digits, value_of, greatest, number_in, capacity_in, IsFraction}
+use Rattle.nf_net_laws.proofs.Common.{same_Ok, ℚ, abs_quot, NumberFault, slash, point, before, bytes_after, unsigned, signed_by, denominator, is_decimal}
+use Rattle.nf_net_laws.proofs.Common.{parts_or_fault, as_ratio}
 use Rattle.nf_rational.specs.Gcd.{gcd}
-use Rattle.nf_rational.specs.Rational.{ℚ, ratio, abs_quot}
-use Rattle.nf_frac_words.specs.declared.NumberFault.{NumberFault}
+use Rattle.nf_rational.specs.Rational.{ratio}
 use Rattle.nf_frac_words.specs.declared.NumberFault.TheVariants.{Empty, BadDigit, TooWide, ZeroDenominator}
-use Rattle.nf_frac_words.specs.Numbers.{slash, point, before, bytes_after, unsigned, signed_by, denominator, is_decimal, parts_or_fault, parts_of, decimal_parts_of, as_ratio, number_of, decimal_of}
+use Rattle.nf_frac_words.specs.Numbers.{parts_of, decimal_parts_of, number_of, decimal_of}
 
 -- parts that are within the bound, the second above 0
 pub record FitParts (bound : ℕ) (p : ℤ × ℕ) : Type 0 where

@@ -1,8 +1,8 @@
 -- A text has at most one reading.
 use Rattle.std.proofs.Common.{◌≡◌, ℕ, List, [], ◌∷◌, Bool, not, refl, sym, ◌∙◌, ap, inl, inr, map, Option, Some, None, Result, Ok, Err}
 use Rattle.nf_net_laws.proofs.Common.{Decides, one_answer, AllByRecursion, AllZip, NetRule, read_lines, content_lines, LineFault, first_fault, place_of}
-use Rattle.nf_net_laws.proofs.Common.{NamedLink, Named, Broken, Draft, draft_from, IsReached, BreaksRule, closing_rules, IsFirst, marked, network_of, StandsFor}
-use Rattle.nf_net_laws.proofs.Common.{ReadsAs, by_lines, by_bytes, Reads}
+use Rattle.nf_net_laws.proofs.Common.{NamedLink, Named, Broken, Draft, draft_from, IsReached, BreaksRule, closing_rules, IsFirst, marked, network_of}
+use Rattle.nf_net_laws.proofs.Common.{StandsFor, ReadsAs, by_lines, by_bytes, Reads}
 
 module _ (P : NetRule → Type 0) where
   pub first_once : (rules : List NetRule) (a b : NetRule) → IsFirst P rules a → IsFirst P rules b → a ≡ b

@@ -1,5 +1,6 @@
 -- The lines of a canonical text are made of plain words, and are short.
-use Rattle.std.proofs.Common.{◌≡◌, ℕ, ◌*◌, ◌<◌, ◌≤◌, ◌⊎◌, true, List, [], ◌∷◌, ◌++◌, length, map, refl, sym, subst, inl, inr, arith, codes, Option, Some, None}
+use Rattle.std.proofs.Common.{◌≡◌, ℕ, ◌*◌, ◌<◌, ◌≤◌, ◌⊎◌, true, List, [], ◌∷◌, ◌++◌, length, map, refl, sym, subst, inl, inr, arith, codes, Option, Some}
+use Rattle.std.proofs.Common.{None}
 use Rattle.nf_net_laws.proofs.Common.{AllByRecursion, join_with_byte, ℚ, Piece, Name, is_name, name_at, capacity_word, NamedLink, Named, active_links}
 use Rattle.nf_net_laws.proofs.Common.{all_links, link_words, inflow_words, canonical_lines, IsCapacity, IsNamedLink, IsFractionPiece, IsNamed}
 use Rattle.nf_frac_words.specs.Digits.{digits_of}

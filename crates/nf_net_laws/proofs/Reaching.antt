@@ -1,9 +1,9 @@
 -- Which nodes walks lead to is decided: the nodes found so far grow along hops until no hop leads out of them.
-use Rattle.std.proofs.Common.{◌≡◌, ℕ, zero, suc, ◌+◌, ◌<◌, ◌≤◌, ◌++◌, ◌==◌, ◌&&◌, ◌||◌, Bool, true, false, not, List, [], ◌∷◌, length, slice_get, Some, refl, sym, ◌∙◌, ap, subst, inl, inr, arith}
-use Rattle.nf_net_laws.proofs.Common.{Decides, AllByRecursion, list_all, list_any, and_parts, or_cases, eqb-true, eq-eqb, or_left, or_right, true_or_false, Hop}
-use Rattle.nf_net_laws.proofs.Common.{IsWalk}
+use Rattle.std.proofs.Common.{◌≡◌, ℕ, zero, suc, ◌+◌, ◌<◌, ◌≤◌, ◌++◌, ◌==◌, ◌&&◌, ◌||◌, Bool, true, false, not, List, [], ◌∷◌, length, slice_get, Some}
+use Rattle.std.proofs.Common.{refl, sym, ◌∙◌, ap, subst, inl, inr, arith}
+use Rattle.nf_net_laws.proofs.Common.{Decides, AllByRecursion, list_all, list_any, and_parts, or_cases, eqb-true, eq-eqb, or_left, or_right, true_or_false}
+use Rattle.nf_net_laws.proofs.Common.{Hop, IsWalk, any_passes_from_place}
 use Rattle.nf_net_laws.proofs.WalkFacts.{walk_push, entry_all}
-use Rattle.std.proofs.lemmas.Map.Keys.{any_passes_from_place}
 
 -- an entry that passes a test
 pub record FoundEntry {X : Type 0} (test : X → Bool) (xs : List X) : Type 0 where

@@ -1,16 +1,14 @@
 -- Plain lines read back.
-use Rattle.nf_net_laws.proofs.Common.{◌≡◌, ℕ, ◌+◌, ◌-◌, ◌<◌, ◌≤◌, ◌==◌, Bool, true, false, not, ◌&&◌, ◌||◌, nat_le, nat_lt, List, [], ◌∷◌, ◌++◌, length, take}
-use Rattle.nf_net_laws.proofs.Common.{map, All, None, Some, refl, flat_map, slice_split, join_with_byte, list_all, AllByRecursion, position_or_len, ne_eqb}
-use Rattle.nf_net_laws.proofs.Common.{leb-true, le-leb, le-ltb, not-true, read_line, is_blank, words, without_comment, parts_with_bytes, line_of_words}
-use Rattle.nf_net_laws.proofs.Common.{NotAscii, LongLine, is_allowed, line_fault, first_fault_of, longest_line, is_word_byte, IsWord, plain_from, AreWords}
-use Rattle.nf_net_laws.proofs.Common.{AreShort}
-use Rattle.std.proofs.Common.{arith, ◌∙◌, ap, cond, get_or, append_assoc, take_all, bytes_eq}
+use Rattle.std.proofs.Common.{◌≡◌, ℕ, ◌+◌, ◌-◌, ◌<◌, ◌≤◌, ◌==◌, Bool, true, false, not, ◌&&◌, ◌||◌, nat_le, nat_lt, List, [], ◌∷◌, ◌++◌, length, take, map}
+use Rattle.std.proofs.Common.{All, None, Some, refl, arith, ◌∙◌, ap, cond, get_or, append_assoc, take_all, bytes_eq}
+use Rattle.nf_net_laws.proofs.Common.{flat_map, slice_split, join_with_byte, list_all, AllByRecursion, position_or_len, ne_eqb, leb-true, le-leb, le-ltb}
+use Rattle.nf_net_laws.proofs.Common.{not-true, read_line, is_blank, words, without_comment, parts_with_bytes, line_of_words, NotAscii, LongLine}
+use Rattle.nf_net_laws.proofs.Common.{is_allowed, line_fault, first_fault_of, longest_line, is_word_byte, IsWord, plain_from, AreWords, AreShort}
+use Rattle.nf_net_laws.proofs.Common.{All-from_recursion, slice_split_at, slice_split_none, length-slice_split, TextLine, lines_from, lines_of_parts}
+use Rattle.nf_net_laws.proofs.Common.{ended_line}
 use Rattle.std.specs.Option.{option_or}
 use Rattle.std.specs.Cmp.{first_so, second_so}
-use Rattle.std.proofs.lemmas.List.Elements.{All-from_recursion}
-use Rattle.std.proofs.lemmas.List.Splits.{slice_split_at, slice_split_none, length-slice_split}
 use Rattle.std.proofs.lemmas.List.Sums.{position_or_len_is}
-use Rattle.nf_text_def.specs.Lines.{TextLine, lines_from, lines_of_parts, ended_line}
 use Rattle.nf_text_def.proofs.LineParts.{lines_of_parts-more}
 use Rattle.nf_net_laws.proofs.AcceptedNamed.{every_append}
 use Rattle.nf_net_laws.proofs.NameFacts.{bytes_eq-self}

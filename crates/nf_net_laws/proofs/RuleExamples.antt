@@ -1,13 +1,14 @@
 -- For each rule a file that breaks it first, but for those that other examples have; and files that break none.
-use Rattle.std.proofs.Common.{map, ◌≡◌, ℕ, zero, suc, ◌<◌, Bool, true, false, List, [], ◌∷◌, ◌++◌, replicate, refl, sym, ◌∙◌, ap, subst, ◌⊎◌, inl, inr, arith, flat_map, codes, pos, Ok, Err, Option, Some, None, unwrap_or, bytes_eq, lit<}
+use Rattle.std.proofs.Common.{map, ◌≡◌, ℕ, zero, suc, ◌<◌, Bool, true, false, List, [], ◌∷◌, ◌++◌, replicate, refl, sym, ◌∙◌, ap, subst, ◌⊎◌, inl, inr}
+use Rattle.std.proofs.Common.{arith, flat_map, codes, pos, Ok, Err, Option, Some, None, unwrap_or, bytes_eq, lit<}
 use Rattle.nf_net_laws.proofs.Common.{range_with_len, AllByRecursion, ≤ℚ_of_same, ≤ℚ_antisymm, le_of_test, Sum, Hop, IsHop, IsWalk, transit_of, transit_sum}
-use Rattle.nf_net_laws.proofs.Common.{IsLeastTransit, NetRule, N1, N2, N3, N4, N5, N6, N7, N8, N9, N10, N11, N12, N13, N14, N15, N16, N18, N19, N20, N21, N22}
-use Rattle.nf_net_laws.proofs.Common.{Named, Reads, canonical, IsNamed, transit_of-hop}
-use Rattle.nf_rational.specs.Rational.{ℚ, ratio}
+use Rattle.nf_net_laws.proofs.Common.{IsLeastTransit, NetRule, N1, N2, N3, N4, N5, N6, N7, N8, N9, N10, N11, N12, N13, N14, N15, N16, N18, N19, N20, N21}
+use Rattle.nf_net_laws.proofs.Common.{N22, Named, Reads, canonical, IsNamed, transit_of-hop, ℚ, 0ℚ, ◌≤ℚ◌, passes_Q, same_Some}
+use Rattle.nf_rational.specs.Rational.{ratio}
 use Rattle.nf_rational.specs.Gcd.{gcd}
-use Rattle.nf_rational.specs.Operations.{0ℚ, whole, ◌+ℚ◌}
-use Rattle.nf_rational.specs.Order.{◌≤ℚ◌, le_ℚ, lt_ℚ}
-use Rattle.nf_frac_def.specs.Passing.{beyond, passes_Q}
+use Rattle.nf_rational.specs.Operations.{whole, ◌+ℚ◌}
+use Rattle.nf_rational.specs.Order.{le_ℚ, lt_ℚ}
+use Rattle.nf_frac_def.specs.Passing.{beyond}
 use Rattle.nf_frac_words.specs.Digits.{digits_of}
 use Rattle.nf_frac_words.specs.Numbers.{number_of, decimal_of, parts_of, decimal_parts_of}
 use Rattle.nf_frac_words.specs.Printed.{printed, printed_parts}
@@ -15,7 +16,6 @@ use Rattle.nf_net_laws.proofs.NameFacts.{bytes_eq-self}
 use Rattle.nf_net_laws.proofs.WalkFacts.{entry_all, transit_sum_nn}
 use Rattle.nf_net_laws.proofs.CanonicalBack.{canonical_back}
 use Rattle.nf_net_laws.proofs.AcceptedNamed.{accepted_named}
-use Rattle.std.proofs.lemmas.Option.{same_Some}
 
 -- lines with LF
 abbrev text : List (List ℕ) → List ℕ

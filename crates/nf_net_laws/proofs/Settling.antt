@@ -1,5 +1,6 @@
 -- Least transit sums exist: nodes are settled one by one, each time at the cheapest hop that leads out of the settled ones.
-use Rattle.std.proofs.Common.{◌≡◌, ℕ, zero, suc, ◌+◌, ◌<◌, ◌≤◌, ◌⊎◌, ◌==◌, ◌&&◌, ◌||◌, ◌++◌, Bool, true, false, not, if◌then◌else◌, List, [], ◌∷◌, length, slice_get, Some, refl, sym, ◌∙◌, ap, subst, inl, inr, arith}
+use Rattle.std.proofs.Common.{◌≡◌, ℕ, zero, suc, ◌+◌, ◌<◌, ◌≤◌, ◌⊎◌, ◌==◌, ◌&&◌, ◌||◌, ◌++◌, Bool, true, false, not, if◌then◌else◌, List, [], ◌∷◌, length}
+use Rattle.std.proofs.Common.{slice_get, Some, refl, sym, ◌∙◌, ap, subst, inl, inr, arith}
 use Rattle.nf_net_laws.proofs.Common.{AllByRecursion, list_all, and_parts, eqb-true, eq-eqb, or_left, or_right, ℚ, 0ℚ, ◌+ℚ◌, ◌≤ℚ◌, reading_of, lt_or_le_ℚ}
 use Rattle.nf_net_laws.proofs.Common.{≤ℚ_of_lt, ≤ℚ_of_same, le, eq, linear_le, linear_eq, Hop, IsHop, IsWalk, transit_of, transit_sum, IsLeastTransit}
 use Rattle.nf_net_laws.proofs.Common.{transit_of-hop}

@@ -1,10 +1,11 @@
 -- Words of lines that are written: plain, and of at most 80 bytes, as printed numbers, names and the words of a format are.
-use Rattle.std.proofs.Common.{◌≡◌, ◌≢◌, ℕ, zero, suc, ◌+◌, ◌*◌, ◌/◌, ◌%◌, ◌^◌, ◌<◌, ◌≤◌, ◌==◌, ◌&&◌, ◌||◌, true, not, List, [], ◌∷◌, ◌++◌, length, nat_lt, nat_le, nat_abs, ℤ, pos, negsuc, refl, inl, inr, arith, length-append, lit<, lit≤, pow-suc, le-leb, ne_eqb}
-use Rattle.nf_net_laws.proofs.Common.{AllByRecursion, list_all, join_with_byte, and_parts, or_cases, leb-true, ltb-true, eqb-true, ℚ, digits_of, slash, Name}
-use Rattle.nf_net_laws.proofs.Common.{is_name_byte, is_name, greatest, IsFraction, is_word_byte, IsWord}
+use Rattle.std.proofs.Common.{◌≡◌, ◌≢◌, ℕ, zero, suc, ◌+◌, ◌*◌, ◌/◌, ◌%◌, ◌^◌, ◌<◌, ◌≤◌, ◌==◌, ◌&&◌, ◌||◌, true, not, List, [], ◌∷◌, ◌++◌, length, nat_lt}
+use Rattle.std.proofs.Common.{nat_le, nat_abs, ℤ, pos, negsuc, refl, inl, inr, arith, length-append, lit<, lit≤, pow-suc, le-leb, ne_eqb}
+use Rattle.nf_net_laws.proofs.Common.{AllByRecursion, list_all, join_with_byte, and_parts, or_cases, leb-true, ltb-true, eqb-true, ℚ, digits_of, slash}
+use Rattle.nf_net_laws.proofs.Common.{Name, is_name_byte, is_name, greatest, IsFraction, is_word_byte, IsWord, signed_digits_of}
 use Rattle.std.specs.Char.{is_ascii_alphanumeric}
 use Rattle.std.specs.Int.{is_in_range}
-use Rattle.nf_frac_words.specs.Printed.{signed_digits_of, printed}
+use Rattle.nf_frac_words.specs.Printed.{printed}
 use Rattle.nf_frac_words.proofs.Digits.{by_steps}
 use Rattle.nf_frac_words.proofs.Bytes.{IsNumberByte, printed_bytes, some_printed, printed_either}
 use Rattle.nf_net_laws.proofs.LinesBack.{within}

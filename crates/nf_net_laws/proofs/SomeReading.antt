@@ -1,11 +1,13 @@
 -- Each text has a reading.
-use Rattle.std.proofs.Common.{◌≡◌, ◌≢◌, ℕ, zero, suc, ◌<◌, ◌⊎◌, ◌==◌, ◌&&◌, ◌||◌, Bool, true, false, not, if◌then◌else◌, List, [], ◌∷◌, length, map, Option, Some, None, Result, Ok, Err, is_none, unwrap_or, refl, sym, ◌∙◌, ap, subst, inl, inr, arith, bytes_eq}
+use Rattle.std.proofs.Common.{◌≡◌, ◌≢◌, ℕ, zero, suc, ◌<◌, ◌⊎◌, ◌==◌, ◌&&◌, ◌||◌, Bool, true, false, not, if◌then◌else◌, List, [], ◌∷◌, length, map, Option}
+use Rattle.std.proofs.Common.{Some, None, Result, Ok, Err, is_none, unwrap_or, refl, sym, ◌∙◌, ap, subst, inl, inr, arith, bytes_eq}
 use Rattle.nf_net_laws.proofs.Common.{MatchBool, Decides, AllByRecursion, AllZip, list_any, and_parts, eqb-true, eqb-false, not-true, ℚ, 0ℚ, ◌≤ℚ◌, le_ℚ}
-use Rattle.nf_net_laws.proofs.Common.{≤ℚ_antisymm, ≤ℚ_of_same, le_of_test, test_of_le, is_wide, passes_Q, Sum, Hop, IsHop, IsWalk, transit_of, IsLeastTransit}
-use Rattle.nf_net_laws.proofs.Common.{hop_of, read_lines, content_lines, LineFault, first_fault, NetRule, N17, N18, N19, N20, N21, N22, Name, has_name}
-use Rattle.nf_net_laws.proofs.Common.{place_of, greatest, NamedLink, Named, numbered, Broken, Draft, draft_from, draft_hops, sink_name, source_place, IsReached}
-use Rattle.nf_net_laws.proofs.Common.{LeavesUnreached, HasZeroCycle, HasPassingSum, BreaksRule, closing_rules, IsFirst, marked, network_of, as_rule, ReadsAs}
-use Rattle.nf_net_laws.proofs.Common.{by_lines, by_bytes, Reads, slice_get-image, true_or_false, transit_of-hop}
+use Rattle.nf_net_laws.proofs.Common.{≤ℚ_antisymm, ≤ℚ_of_same, le_of_test, test_of_le, is_wide, passes_Q, Sum, Hop, IsHop, IsWalk, transit_of}
+use Rattle.nf_net_laws.proofs.Common.{IsLeastTransit, hop_of, read_lines, content_lines, LineFault, first_fault, NetRule, N17, N18, N19, N20, N21, N22}
+use Rattle.nf_net_laws.proofs.Common.{Name, has_name, place_of, greatest, NamedLink, Named, numbered, Broken, Draft, draft_from, draft_hops, sink_name}
+use Rattle.nf_net_laws.proofs.Common.{source_place, IsReached, LeavesUnreached, HasZeroCycle, HasPassingSum, BreaksRule, closing_rules, IsFirst, marked}
+use Rattle.nf_net_laws.proofs.Common.{network_of, as_rule, ReadsAs, by_lines, by_bytes, Reads, slice_get-image, true_or_false, transit_of-hop}
+use Rattle.nf_net_laws.proofs.Common.{any_passes_from_place}
 use Rattle.nf_net_laws.proofs.NameFacts.{same_names, bytes_eq-self, place_below}
 use Rattle.nf_net_laws.proofs.WalkFacts.{CameFrom, came_from, entry_all}
 use Rattle.nf_net_laws.proofs.DraftKept.{IsGoodDraft, draft_kept}
@@ -13,7 +15,6 @@ use Rattle.nf_net_laws.proofs.AcceptedNodes.{ends_of_each}
 use Rattle.nf_net_laws.proofs.AcceptedWalks.{file_transits}
 use Rattle.nf_net_laws.proofs.Reaching.{FoundEntry, found, stays_closed, closure, reaching}
 use Rattle.nf_net_laws.proofs.Settling.{AllSettled, all_settled}
-use Rattle.std.proofs.lemmas.Map.Keys.{any_passes_from_place}
 
 -- ---- the first of some rules that are decided
 decide_first : (P : NetRule → Type 0) → ((rule : NetRule) → P rule ⊎ (¬ P rule)) → (rules : List NetRule)

@@ -1,8 +1,7 @@
 -- Walks along hops that correspond to those of another list.
 use Rattle.std.proofs.Common.{◌≡◌, ℕ, zero, suc, ◌+◌, List, [], ◌∷◌, ◌++◌, length, map, slice_get, Some, refl, sym, ◌∙◌, ap, subst, arith}
 use Rattle.nf_net_laws.proofs.Common.{AllByRecursion, ℚ, 0ℚ, ◌+ℚ◌, ◌≤ℚ◌, reading_of, ≤ℚ_of_same, ≤ℚ_antisymm, nn_plus, le, linear_le, Hop, IsHop, IsWalk}
-use Rattle.nf_net_laws.proofs.Common.{transit_of, transit_sum, transit_of-hop}
-use Rattle.nf_rational_laws.proofs.Facts.{same_sums}
+use Rattle.nf_net_laws.proofs.Common.{transit_of, transit_sum, transit_of-hop, same_sums}
 
 -- ---- entries of joined lists
 module _ {X : Type 0} where

@@ -1,10 +1,9 @@
 -- A text is its lines, each with its ending.
-use Rattle.nf_net_laws.proofs.Common.{◌≡◌, ℕ, ◌+◌, ◌-◌, ◌==◌, Bool, true, false, List, [], ◌∷◌, ◌++◌, length, take, map, slice_index, refl, flat_map}
-use Rattle.nf_net_laws.proofs.Common.{slice_split, join_with_byte, eqb-true, ne_eqb, whole_line, numbers_from}
-use Rattle.std.proofs.Common.{arith, suc, ◌∙◌, sym, ap, cond, get_or, append_assoc, append-nil, take_all, true≢false}
+use Rattle.std.proofs.Common.{◌≡◌, ℕ, ◌+◌, ◌-◌, ◌==◌, Bool, true, false, List, [], ◌∷◌, ◌++◌, length, take, map, slice_index, refl, arith, suc, ◌∙◌, sym}
+use Rattle.std.proofs.Common.{ap, cond, get_or, append_assoc, append-nil, take_all, true≢false}
+use Rattle.nf_net_laws.proofs.Common.{flat_map, slice_split, join_with_byte, eqb-true, ne_eqb, whole_line, numbers_from, join_with_byte-slice_split}
+use Rattle.nf_net_laws.proofs.Common.{TextLine, lines, lines_of_parts, ended_line}
 use Rattle.std.proofs.lemmas.List.{take_more}
-use Rattle.std.proofs.lemmas.List.Splits.{join_with_byte-slice_split}
-use Rattle.nf_text_def.specs.Lines.{TextLine, lines, lines_of_parts, ended_line}
 
 -- ---- one line
 abbrev ends_with_cr : List ℕ → Bool

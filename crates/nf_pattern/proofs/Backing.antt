@@ -1,15 +1,8 @@
 -- Removal of the last link from the stack of Tight links.
-use Rattle.std.proofs.Common.{◌≡◌, ◌≢◌, ℕ, suc, ◌<◌, ⊎_elim, Bool, true, false, eqb, refl, List, length, Option, Some, get_or, slice_get, slice_set, sym, ap, subst, ◌∙◌, arith}
-use Rattle.std.specs.Prelude.{None, MatchBool}
-use Rattle.std.proofs.Math.ListN.{length-set}
-use Rattle.std.proofs.lemmas.Option.{none-some, same_Some, slice_get-get_or, slice_get_read}
-use Rattle.nf_model.specs.declared.State.TheVariants.{Tight}
-use Rattle.nf_model.specs.Walk.{Hop, IsHop}
-use Rattle.nf_model.specs.Pattern.{Pattern, HasState}
-use Rattle.nf_graph.specs.Graph.{AreBelow}
-use Rattle.nf_graph.proofs.Walks.{same_from_test, apart_from_test}
-use Rattle.nf_pattern.specs.Forest.{AreJoined, TightBefore}
-use Rattle.nf_pattern.specs.Walking.{last_at, ends_at, other_end, IsWalkable}
+use Rattle.std.proofs.Common.{◌≡◌, ◌≢◌, ℕ, suc, ◌<◌, ⊎_elim, Bool, true, false, eqb, refl, List, length, Option, Some, get_or, slice_get, slice_set, sym}
+use Rattle.std.proofs.Common.{ap, subst, ◌∙◌, arith, None, MatchBool}
+use Rattle.nf_pattern.proofs.Common.{length-set, none-some, same_Some, slice_get-get_or, slice_get_read, Tight, Hop, IsHop, Pattern, HasState, AreBelow}
+use Rattle.nf_pattern.proofs.Common.{same_from_test, apart_from_test, AreJoined, TightBefore, last_at, ends_at, other_end, IsWalkable}
 use Rattle.nf_pattern.proofs.Setting.{set_same, set_other, tell}
 use Rattle.nf_pattern.proofs.Deciding.{decide_state}
 use Rattle.nf_pattern.proofs.Wall.{last_still, last_new}

@@ -1,14 +1,7 @@
 -- Prefixes without listed completion: the states of the first links rule out every listed pattern.
-use Rattle.std.proofs.Common.{◌≡◌, ◌≢◌, ℕ, suc, ◌+◌, ◌<◌, Bool, List, take, Some, inl, inr, sym, ◌∙◌, arith}
-use Rattle.std.specs.Prelude.{slice_get}
-use Rattle.std.proofs.lemmas.Option.{slice_get_within}
-use Rattle.nf_model.specs.declared.State.TheVariants.{Tight, Full}
-use Rattle.nf_model.specs.Walk.{Hop, IsHop}
-use Rattle.nf_model.specs.Pattern.{Pattern, HasState, IsForest}
-use Rattle.nf_pattern.specs.Forest.{TightBefore, Closes}
-use Rattle.nf_pattern.specs.Entered.{MayCarry, CanCarry, IsEntered, AreEnds, Strands}
-use Rattle.nf_pattern.specs.Successor.{IsAssignment}
-use Rattle.nf_pattern.specs.Given.{Question, IsQuestion, IsListedBy, IsBarren}
+use Rattle.std.proofs.Common.{◌≡◌, ◌≢◌, ℕ, suc, ◌+◌, ◌<◌, Bool, List, take, Some, inl, inr, sym, ◌∙◌, arith, slice_get}
+use Rattle.nf_pattern.proofs.Common.{slice_get_within, Tight, Full, Hop, IsHop, Pattern, HasState, IsForest, TightBefore, Closes, MayCarry, CanCarry}
+use Rattle.nf_pattern.proofs.Common.{IsEntered, AreEnds, Strands, IsAssignment, Question, IsQuestion, IsListedBy, IsBarren}
 use Rattle.nf_pattern.proofs.Forests.{no_forest}
 use Rattle.nf_pattern.proofs.Trails.{trail_by}
 use Rattle.nf_pattern.proofs.Choosing.{pattern_of, same_front_at}

@@ -1,14 +1,8 @@
 -- Flags of jointly acyclic links, when a link is added or removed.
-use Rattle.std.proofs.Common.{◌≡◌, ◌≢◌, ℕ, suc, ◌+◌, ◌<◌, ◌≤◌, ⊎_elim, Bool, true, false, List, length, take, Some, sym, ap, subst, ◌∙◌, arith}
-use Rattle.std.specs.Prelude.{slice_get, slice_set, MatchBool}
-use Rattle.std.proofs.lemmas.Option.{same_Some}
-use Rattle.nf_model.specs.declared.State.TheVariants.{Tight}
-use Rattle.nf_model.specs.Entries.{Has}
-use Rattle.nf_model.specs.Walk.{Hop}
-use Rattle.nf_model.specs.Pattern.{Pattern, HasState}
-use Rattle.nf_pattern.specs.declared.firm.FirmLinks.{FirmLinks}
-use Rattle.nf_pattern.specs.Forest.{TightBefore, LeadsBack, NoneCloses}
-use Rattle.nf_pattern.specs.Firm.{FirmBefore, AreJointlyAcyclic, AreCalm}
+use Rattle.std.proofs.Common.{◌≡◌, ◌≢◌, ℕ, suc, ◌+◌, ◌<◌, ◌≤◌, ⊎_elim, Bool, true, false, List, length, take, Some, sym, ap, subst, ◌∙◌, arith, slice_get}
+use Rattle.std.proofs.Common.{slice_set, MatchBool}
+use Rattle.nf_pattern.proofs.Common.{same_Some, Tight, Has, Hop, Pattern, HasState, FirmLinks, TightBefore, LeadsBack, NoneCloses, FirmBefore}
+use Rattle.nf_pattern.proofs.Common.{AreJointlyAcyclic, AreCalm}
 use Rattle.nf_pattern.proofs.Choosing.{same_front_at}
 use Rattle.nf_pattern.proofs.Setting.{set_same, set_other, tell}
 use Rattle.nf_pattern.proofs.Trails.{joined_by}

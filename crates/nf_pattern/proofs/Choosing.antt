@@ -1,12 +1,8 @@
 -- Patterns of the model and assignments of choices: with a pattern as base they are the same.
-use Rattle.std.proofs.Common.{◌≡◌, ℕ, zero, suc, ◌<◌, Bool, true, false, List, [], ◌∷◌, length, take, inl, inr, Option, Some, None, slice_get, refl, sym, ap, subst, ◌∙◌, arith}
-use Rattle.std.proofs.lemmas.Option.{none-some, same_Some, slice_get_within, slice_get-get_or}
-use Rattle.nf_model.specs.declared.State.{State}
-use Rattle.nf_model.specs.declared.State.TheVariants.{Tight, Full, Zero}
-use Rattle.nf_model.specs.ThinFlow.{Sets}
-use Rattle.nf_model.specs.Pattern.{Pattern, HasState, IsPattern}
-use Rattle.nf_pattern.specs.Successor.{choices, IsIn, IsAssignment, first_good}
-use Rattle.std.specs.Prelude.{is_some}
+use Rattle.std.proofs.Common.{◌≡◌, ℕ, zero, suc, ◌<◌, Bool, true, false, List, [], ◌∷◌, length, take, inl, inr, Option, Some, None, slice_get, refl, sym}
+use Rattle.std.proofs.Common.{ap, subst, ◌∙◌, arith, is_some}
+use Rattle.nf_pattern.proofs.Common.{none-some, same_Some, slice_get_within, slice_get-get_or, State, Tight, Full, Zero, Sets, Pattern, HasState, IsPattern}
+use Rattle.nf_pattern.proofs.Common.{choices, IsIn, IsAssignment, first_good}
 
 -- ---- link by link
 abbrev pub HasEntry : {A : Type 0} → List A → ℕ → A → Type 0

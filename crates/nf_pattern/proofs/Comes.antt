@@ -1,16 +1,9 @@
 -- The forest traversal reaches each node that Tight links join with its start.
-use Rattle.std.proofs.Common.{◌≡◌, ◌≢◌, ℕ, zero, suc, inl, inr, ◌⊎◌, ⊎_elim, Bool, true, false, ◌&&◌, ◌||◌, eqb, List, [], ◌∷◌, Option, Some, None, slice_get, refl, sym, ap, subst, ◌∙◌, arith}
-use Rattle.std.specs.Prelude.{if◌then◌else◌}
-use Rattle.std.proofs.lemmas.Bool.Decides.{eqb_tells}
-use Rattle.std.proofs.lemmas.Bool.{ne_eqb}
+use Rattle.std.proofs.Common.{◌≡◌, ◌≢◌, ℕ, zero, suc, inl, inr, ◌⊎◌, ⊎_elim, Bool, true, false, ◌&&◌, ◌||◌, eqb, List, [], ◌∷◌, Option, Some, None}
+use Rattle.std.proofs.Common.{slice_get, refl, sym, ap, subst, ◌∙◌, arith, if◌then◌else◌}
+use Rattle.nf_pattern.proofs.Common.{eqb_tells, ne_eqb, State, Tight, Full, Zero, Hop, IsHop, Pattern, HasState, IsTrail, IsHop-unique, AreJoined}
+use Rattle.nf_pattern.proofs.Common.{TightBefore, NoneCloses, last_at, Path, is_tight, ends_by, ends_at, across, other_end}
 use Rattle.std.proofs.Math.Bool.{or-true}
-use Rattle.nf_model.specs.declared.State.{State}
-use Rattle.nf_model.specs.declared.State.TheVariants.{Tight, Full, Zero}
-use Rattle.nf_model.specs.Walk.{Hop, IsHop}
-use Rattle.nf_model.specs.Pattern.{Pattern, HasState, IsTrail}
-use Rattle.nf_graph.proofs.Walks.{IsHop-unique}
-use Rattle.nf_pattern.specs.Forest.{AreJoined, TightBefore, NoneCloses}
-use Rattle.nf_pattern.specs.Walking.{last_at, Path, is_tight, ends_by, ends_at, across, other_end}
 use Rattle.nf_pattern.proofs.Trails.{Steps, joined_on, joined_by, joined_turned, joined_along}
 use Rattle.nf_pattern.proofs.Deciding.{decide_state, hop_at, joins_over, decide_joined}
 use Rattle.nf_pattern.proofs.Wall.{idle, same_side, other_side}

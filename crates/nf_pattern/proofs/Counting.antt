@@ -1,10 +1,8 @@
 -- The number of links that differ from a base, and that may differ, link by link; and which numbers of changes have an assignment.
-use Rattle.std.proofs.Common.{◌≡◌, ℕ, suc, ◌+◌, ◌<◌, ◌≤◌, Bool, List, [], ◌∷◌, length, get_or, drop, drop-cons, add-one, refl, ap, ◌∙◌, arith}
-use Rattle.std.specs.Prelude.{Option, Some, None}
-use Rattle.std.proofs.Math.ListN.{drop_of_length-le}
-use Rattle.nf_model.specs.Pattern.{Pattern, changes}
-use Rattle.nf_thin_laws.proofs.ForcedOrder.{changes_first}
-use Rattle.nf_pattern.specs.Successor.{IsAssignment, free, change, earliest, later, or_else, next_assignment}
+use Rattle.std.proofs.Common.{◌≡◌, ℕ, suc, ◌+◌, ◌<◌, ◌≤◌, Bool, List, [], ◌∷◌, length, get_or, drop, drop-cons, add-one, refl, ap, ◌∙◌, arith, Option, Some}
+use Rattle.std.proofs.Common.{None}
+use Rattle.nf_pattern.proofs.Common.{drop_of_length-le, Pattern, changes, changes_first, IsAssignment, free, change, earliest, later, or_else}
+use Rattle.nf_pattern.proofs.Common.{next_assignment}
 use Rattle.nf_pattern.proofs.Filling.{free_first}
 use Rattle.nf_pattern.proofs.Successors.{change_small, changes_few, earliest_is}
 

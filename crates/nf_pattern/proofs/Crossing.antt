@@ -1,9 +1,6 @@
 -- Crossing of a link from one of its ends, and the next link to cross.
 use Rattle.std.proofs.Common.{◌≡◌, ℕ, ◌<◌, Bool, true, false, cond, eqb, List, length, get_or, Option, sym, ap, subst, ◌∙◌}
-use Rattle.nf_model.specs.declared.State.TheVariants.{Tight}
-use Rattle.nf_model.specs.Walk.{Hop, IsHop}
-use Rattle.nf_model.specs.Pattern.{Pattern, HasState}
-use Rattle.nf_pattern.specs.Walking.{last_at, ends_at, other_end, across, IsWalkable}
+use Rattle.nf_pattern.proofs.Common.{Tight, Hop, IsHop, Pattern, HasState, last_at, ends_at, other_end, across, IsWalkable}
 use Rattle.nf_pattern.proofs.Each.{entry_read}
 
 module _ (hops : List Hop) (e v : ℕ) (hop : Hop) (here : IsHop hops e hop) where

@@ -1,22 +1,10 @@
 -- Whether an assignment is listed is decided, so every question has a listing.
-use Rattle.std.proofs.Common.{◌≡◌, ◌≢◌, ℕ, zero, suc, ◌<◌, Bool, true, false, List, [], ◌∷◌, ◌++◌, length, inl, inr, ◌⊎◌, ⊎_elim, eqb, Option, Some, None, refl, sym, ap, subst, ◌∙◌, arith}
-use Rattle.std.specs.Prelude.{Contains}
-use Rattle.std.proofs.lemmas.Bool.Decides.{eqb_tells}
-use Rattle.std.proofs.lemmas.Option.{none-some, same_Some, slice_get_within}
-use Rattle.std.proofs.lemmas.Bool.{cases_eq}
-use Rattle.nf_model.specs.declared.State.{State}
-use Rattle.nf_model.specs.declared.State.TheVariants.{Tight, Full, Zero}
-use Rattle.nf_model.specs.Entries.{Has}
-use Rattle.nf_model.specs.Walk.{Hop, IsHop}
-use Rattle.nf_model.specs.Pattern.{Pattern, HasState, IsTrail, AllDiffer, IsBefore}
-use Rattle.nf_thin_laws.proofs.Sorted.{StandsIn, InOrder}
-use Rattle.nf_thin_laws.proofs.Listings.{IsBefore-transitive, ordered_by_place}
-use Rattle.nf_thin_laws.proofs.Bases.{has_or_not}
-use Rattle.nf_graph.proofs.Walks.{IsHop-unique}
-use Rattle.nf_pattern.specs.Forest.{AreJoined, TightBefore, LeadsBack, Closes}
-use Rattle.nf_pattern.specs.Entered.{MayCarry, IsEntered, EntersBy}
-use Rattle.nf_pattern.specs.Successor.{IsAssignment, Spares, next_assignment}
-use Rattle.nf_pattern.specs.Given.{Question, IsQuestion, IsListedBy, IsFrom}
+use Rattle.std.proofs.Common.{◌≡◌, ◌≢◌, ℕ, zero, suc, ◌<◌, Bool, true, false, List, [], ◌∷◌, ◌++◌, length, inl, inr, ◌⊎◌, ⊎_elim, eqb, Option, Some, None}
+use Rattle.std.proofs.Common.{refl, sym, ap, subst, ◌∙◌, arith, Contains}
+use Rattle.nf_pattern.proofs.Common.{eqb_tells, none-some, same_Some, slice_get_within, cases_eq, State, Tight, Full, Zero, Has, Hop, IsHop, Pattern}
+use Rattle.nf_pattern.proofs.Common.{HasState, IsTrail, AllDiffer, IsBefore, StandsIn, InOrder, IsBefore-transitive, ordered_by_place, has_or_not}
+use Rattle.nf_pattern.proofs.Common.{IsHop-unique, AreJoined, TightBefore, LeadsBack, Closes, MayCarry, IsEntered, EntersBy, IsAssignment, Spares}
+use Rattle.nf_pattern.proofs.Common.{next_assignment, Question, IsQuestion, IsListedBy, IsFrom, IsListingOf}
 use Rattle.nf_pattern.proofs.Trails.{Steps, numbers, start_of, end_of, find_step, differ_front, differ_back, trail_append, trail_split, trail_by, shorten}
 use Rattle.nf_pattern.proofs.Forests.{is_forest, no_forest, closing_below}
 use Rattle.nf_pattern.proofs.Barren.{listed_by}
@@ -24,7 +12,6 @@ use Rattle.nf_pattern.proofs.Choosing.{assigned_length}
 use Rattle.nf_pattern.proofs.Sparing.{unflagged, none_flagged}
 use Rattle.nf_pattern.proofs.Seeking.{valid, listed_assigned, advances_by, none_advances_by, step_fewer, from_next, none_after, all_from_base}
 use Rattle.nf_pattern.proofs.Ranging.{left_after}
-use Rattle.nf_pattern.specs.Front.{IsListingOf}
 use Rattle.nf_pattern.proofs.Fronts.{stands_cases}
 
 abbrev pub Decided : Type 0 → Type 0

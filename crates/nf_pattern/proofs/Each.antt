@@ -1,8 +1,7 @@
 -- Properties of each entry of a list, by index.
-use Rattle.std.proofs.Common.{◌≡◌, ◌⊎◌, Vec, Global, ℕ, zero, suc, ◌+◌, ◌-◌, ◌<◌, List, [], ◌∷◌, ◌++◌, length, length-append, length-drop, get_or, take, drop, add-one, inl, inr, ⊎_elim, refl, sym, ap, subst, ◌∙◌, arith}
-use Rattle.std.specs.Prelude.{Some, slice_get}
-use Rattle.std.proofs.lemmas.Option.{none-some, same_Some, slice_get-get_or}
-use Rattle.std.proofs.lemmas.List.{take_rest}
+use Rattle.std.proofs.Common.{◌≡◌, ◌⊎◌, Vec, Global, ℕ, zero, suc, ◌+◌, ◌-◌, ◌<◌, List, [], ◌∷◌, ◌++◌, length, length-append, length-drop, get_or, take}
+use Rattle.std.proofs.Common.{drop, add-one, inl, inr, ⊎_elim, refl, sym, ap, subst, ◌∙◌, arith, Some, slice_get}
+use Rattle.nf_pattern.proofs.Common.{none-some, same_Some, slice_get-get_or, take_rest}
 
 abbrev pub EachEntry : {A : Type 0} → (ℕ → A → Type 0) → List A → Type 0
 EachEntry {A = A} P xs = (k : ℕ) (x : A) → slice_get xs k ≡ Some x → P k x

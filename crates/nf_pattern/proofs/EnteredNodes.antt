@@ -1,17 +1,8 @@
 -- Flags of the nodes that chosen links enter.
-use Rattle.std.proofs.Common.{◌≡◌, ◌⊎◌, ◌+◌, ℕ, ◌<◌, ◌≤◌, List, Bool, length, get_or, set, replicate, true, false, if◌then◌else◌, refl, sym, subst, ap, ◌∙◌, inl, inr, ⊎_elim, arith, length-set}
-use Rattle.std.proofs.lemmas.List.{length-replicate}
-use Rattle.std.specs.Prelude.{Some, slice_get}
-use Rattle.std.proofs.lemmas.Option.{slice_get_within, slice_get-get_or, same_Some}
-use Rattle.nf_rational_laws.proofs.Naturals.{before_or_at}
-use Rattle.nf_rational.specs.Operations.{0ℚ}
-use Rattle.nf_model.specs.Entries.{Has}
-use Rattle.nf_model.specs.Walk.{Hop, IsHop}
-use Rattle.nf_model.specs.ThinFlow.{Sets}
-use Rattle.nf_graph.specs.Graph.{AreBelow}
-use Rattle.nf_graph.proofs.Flags.{Has-set_same, Has-set_other, Has-set_cases, Has-replicate}
-use Rattle.nf_graph.proofs.Walks.{IsHop-unique}
-use Rattle.nf_pattern.specs.Base.{Bars, AreEntered, AreBarred}
+use Rattle.std.proofs.Common.{◌≡◌, ◌⊎◌, ◌+◌, ℕ, ◌<◌, ◌≤◌, List, Bool, length, get_or, set, replicate, true, false, if◌then◌else◌, refl, sym, subst, ap, ◌∙◌}
+use Rattle.std.proofs.Common.{inl, inr, ⊎_elim, arith, length-set, Some, slice_get}
+use Rattle.nf_pattern.proofs.Common.{length-replicate, slice_get_within, slice_get-get_or, same_Some, before_or_at, 0ℚ, Has, Hop, IsHop, Sets, AreBelow}
+use Rattle.nf_pattern.proofs.Common.{Has-set_same, Has-set_other, Has-set_cases, Has-replicate, IsHop-unique, Bars, AreEntered, AreBarred}
 
 module _ (nodes : ℕ) (hops : List Hop) where
   -- no link is chosen

@@ -1,15 +1,10 @@
 -- The links into each node, backward from the last one; and the last link that can enter the node.
-use Rattle.std.proofs.Common.{◌≡◌, ◌≢◌, ℕ, zero, suc, ◌+◌, ◌<◌, ◌≤◌, Bool, true, false, not, List, length, get_or, replicate, slice_set, inl, inr, ◌⊎◌, ⊎_elim, Option, Some, None, refl, sym, ap, subst, ◌∙◌, arith}
-use Rattle.std.specs.Prelude.{slice_get, MatchBool, is_some}
-use Rattle.std.proofs.lemmas.Option.{same_Some, none-some}
-use Rattle.nf_model.specs.Walk.{Hop, IsHop}
-use Rattle.nf_model.specs.Pattern.{Pattern, HasState}
-use Rattle.nf_graph.proofs.Walks.{IsHop-unique, IsHop-read}
-use Rattle.nf_pattern.specs.Entered.{MayCarry, EntersBy, EnteredBefore, LeadsTo, IsLastInto, AreLastInto, AreChained, CanCarry, IsEndBefore, AreEndsBefore, Strands, KeepsEntered}
+use Rattle.std.proofs.Common.{◌≡◌, ◌≢◌, ℕ, zero, suc, ◌+◌, ◌<◌, ◌≤◌, Bool, true, false, not, List, length, get_or, replicate, slice_set, inl, inr, ◌⊎◌}
+use Rattle.std.proofs.Common.{⊎_elim, Option, Some, None, refl, sym, ap, subst, ◌∙◌, arith, slice_get, MatchBool, is_some}
+use Rattle.nf_pattern.proofs.Common.{same_Some, none-some, Hop, IsHop, Pattern, HasState, IsHop-unique, IsHop-read, MayCarry, EntersBy, EnteredBefore}
+use Rattle.nf_pattern.proofs.Common.{LeadsTo, IsLastInto, AreLastInto, AreChained, CanCarry, IsEndBefore, AreEndsBefore, Strands, KeepsEntered}
+use Rattle.nf_pattern.proofs.Common.{before_or_at, Has, State}
 use Rattle.nf_pattern.proofs.Setting.{set_same, set_other, tell}
-use Rattle.nf_rational_laws.proofs.Naturals.{before_or_at}
-use Rattle.nf_model.specs.Entries.{Has}
-use Rattle.nf_model.specs.declared.State.{State}
 
 apart_or_same : (e k : ℕ) → (e < k) ⊎ ((k < e) ⊎ (e ≡ k))
 apart_or_same e k = grind arith

@@ -1,16 +1,10 @@
 -- The earliest assignment, one link after the other.
-use Rattle.std.proofs.Common.{◌≡◌, ℕ, suc, ◌+◌, ◌-◌, ◌<◌, ◌≤◌, Bool, true, false, List, [], ◌∷◌, ◌++◌, length, get_or, take, drop, set, drop-cons, append_assoc, eqb, ⊎_elim, refl, sym, ap, subst, ◌∙◌, arith}
-use Rattle.std.specs.Prelude.{Option, Some, None, if◌then◌else◌}
+use Rattle.std.proofs.Common.{◌≡◌, ℕ, suc, ◌+◌, ◌-◌, ◌<◌, ◌≤◌, Bool, true, false, List, [], ◌∷◌, ◌++◌, length, get_or, take, drop, set, drop-cons}
+use Rattle.std.proofs.Common.{append_assoc, eqb, ⊎_elim, refl, sym, ap, subst, ◌∙◌, arith, Option, Some, None, if◌then◌else◌}
+use Rattle.nf_pattern.proofs.Common.{length-set, drop_of_length-le, append-nil, take_all, apart_from_test, State, Tight, Full, Zero, Pattern, rank}
+use Rattle.nf_pattern.proofs.Common.{same_rank, take_set, choices, IsIn, IsAssignment, free, change, fits_count, first_good, before_all, with_rest}
+use Rattle.nf_pattern.proofs.Common.{earliest, raised}
 use Rattle.std.specs.Option.{is_some}
-use Rattle.std.proofs.Math.ListN.{length-set, drop_of_length-le}
-use Rattle.std.proofs.lemmas.List.{append-nil, take_all}
-use Rattle.nf_graph.proofs.Walks.{apart_from_test}
-use Rattle.nf_model.specs.declared.State.{State}
-use Rattle.nf_model.specs.declared.State.TheVariants.{Tight, Full, Zero}
-use Rattle.nf_model.specs.Pattern.{Pattern, rank}
-use Rattle.nf_thin_laws.proofs.Unranking.{same_rank}
-use Rattle.nf_rational_laws.proofs.Entries.{take_set}
-use Rattle.nf_pattern.specs.Successor.{choices, IsIn, IsAssignment, free, change, fits_count, first_good, before_all, with_rest, earliest, raised}
 use Rattle.nf_pattern.proofs.Successors.{no_change, good_some, good_none, good_choice, fits_in, fits_out, higher, higher_out}
 
 pub free_first : (b : Option State) (base : Pattern) → free (b ∷ base) ≡ change None b + free base

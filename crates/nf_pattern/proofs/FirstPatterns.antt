@@ -1,16 +1,8 @@
 -- Base patterns, link by link.
 use Rattle.std.proofs.Common.{◌≡◌, ℕ, zero, suc, ◌<◌, List, Bool, length, get_or, replicate, true, false, refl, ap, ◌∙◌, arith, inl, inr, subst, sym}
-use Rattle.std.specs.Prelude.{Option, Some, None, slice_get}
-use Rattle.std.proofs.lemmas.Option.{slice_get_within, slice_get-get_or, same_Some}
-use Rattle.nf_rational.specs.Operations.{0ℚ}
-use Rattle.nf_model.specs.declared.State.{State}
-use Rattle.nf_model.specs.declared.State.TheVariants.{Tight, Full, Zero}
-use Rattle.nf_model.specs.Entries.{Has}
-use Rattle.nf_model.specs.Walk.{Hop, IsHop}
-use Rattle.nf_model.specs.ThinFlow.{Sets}
-use Rattle.nf_model.specs.Pattern.{Pattern, HasState, NeedsState, IsPattern, IsFirstInto, IsBase}
-use Rattle.nf_graph.proofs.Walks.{IsHop-unique}
-use Rattle.nf_pattern.specs.Base.{Bars, AreBarred, IsBaseState}
+use Rattle.std.proofs.Common.{Option, Some, None, slice_get}
+use Rattle.nf_pattern.proofs.Common.{slice_get_within, slice_get-get_or, same_Some, 0ℚ, State, Tight, Full, Zero, Has, Hop, IsHop, Sets, Pattern, HasState}
+use Rattle.nf_pattern.proofs.Common.{NeedsState, IsPattern, IsFirstInto, IsBase, IsHop-unique, Bars, AreBarred, IsBaseState}
 use Rattle.nf_pattern.proofs.Each.{EachEntry}
 
 module _ (hops : List Hop) (sets : Sets) where

@@ -1,15 +1,8 @@
 -- The examined prefix of a pattern, when a link is added or removed.
 use Rattle.std.proofs.Common.{◌≡◌, ℕ, zero, suc, ◌<◌, Bool, List, length, ⊎_elim, Option, Some, slice_get, refl, sym, ap, subst, ◌∙◌, arith}
-use Rattle.nf_model.specs.Walk.{Hop}
-use Rattle.nf_model.specs.Pattern.{Pattern}
-use Rattle.nf_pattern.specs.declared.trail.Trail.{Trail}
-use Rattle.nf_pattern.specs.Forest.{NoneCloses}
-use Rattle.nf_pattern.specs.Walking.{IsTightStack}
-use Rattle.nf_pattern.specs.Entered.{EnteredBefore, AreChained, AreEnds, KeepsEntered}
-use Rattle.nf_pattern.specs.Trail.{Follows, IsOnWay}
-use Rattle.nf_pattern.specs.Firm.{AreCalm}
+use Rattle.nf_pattern.proofs.Common.{Hop, Pattern, Trail, NoneCloses, IsTightStack, EnteredBefore, AreChained, AreEnds, KeepsEntered, Follows, IsOnWay}
+use Rattle.nf_pattern.proofs.Common.{AreCalm, before_or_at}
 use Rattle.nf_pattern.proofs.Calming.{calm_fewer}
-use Rattle.nf_rational_laws.proofs.Naturals.{before_or_at}
 
 module _ (source : ℕ) (hops : List Hop) (resetting : List Bool) (p : Pattern) where
   -- one link more

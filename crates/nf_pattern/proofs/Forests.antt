@@ -1,12 +1,8 @@
 -- Tight links form a forest exactly where none of them closes a cycle with those before it.
-use Rattle.std.proofs.Common.{◌≡◌, ◌≢◌, ℕ, zero, suc, ◌<◌, Bool, true, false, List, ◌∷◌, ◌++◌, length, ⊎_elim, Some, refl, subst, arith}
-use Rattle.std.specs.Prelude.{Contains}
-use Rattle.std.proofs.lemmas.Option.{slice_get_within}
-use Rattle.nf_model.specs.declared.State.TheVariants.{Tight}
-use Rattle.nf_model.specs.Walk.{Hop, IsHop}
-use Rattle.nf_model.specs.Pattern.{Pattern, HasState, IsTrail, AllDiffer, IsForest}
-use Rattle.nf_pattern.specs.Forest.{AreJoined, TightBefore, Closes}
-use Rattle.nf_pattern.proofs.Trails.{Steps, numbers, start_of, end_of, find_step, differ_front, differ_back, trail_append, trail_split, trail_allows, trail_by, joined_back, shorten}
+use Rattle.std.proofs.Common.{◌≡◌, ◌≢◌, ℕ, zero, suc, ◌<◌, Bool, true, false, List, ◌∷◌, ◌++◌, length, ⊎_elim, Some, refl, subst, arith, Contains}
+use Rattle.nf_pattern.proofs.Common.{slice_get_within, Tight, Hop, IsHop, Pattern, HasState, IsTrail, AllDiffer, IsForest, AreJoined, TightBefore, Closes}
+use Rattle.nf_pattern.proofs.Trails.{Steps, numbers, start_of, end_of, find_step, differ_front, differ_back, trail_append, trail_split, trail_allows}
+use Rattle.nf_pattern.proofs.Trails.{trail_by, joined_back, shorten}
 
 module _ (hops : List Hop) where
   -- one allowed hop more

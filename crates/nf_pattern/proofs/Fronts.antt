@@ -1,11 +1,9 @@
 -- The enumerated patterns are a prefix of the listing, and the whole listing if none is left.
-use Rattle.std.proofs.Common.{◌≡◌, ℕ, zero, suc, ◌+◌, ◌-◌, ◌^◌, min, List, [], ◌∷◌, ◌++◌, length, length-append, inl, inr, ◌⊎◌, ⊎_elim, Some, slice_get, refl, sym, ap, subst, ◌∙◌, arith}
-use Rattle.std.proofs.lemmas.Option.{none-some, same_Some, slice_get_within}
-use Rattle.nf_model.specs.Pattern.{Pattern, IsBefore}
-use Rattle.nf_thin_laws.proofs.Listings.{IsBefore-asymmetric, IsBefore-transitive, ordered_by_place}
-use Rattle.nf_thin_laws.proofs.Sorted.{StandsIn, InOrder}
-use Rattle.nf_pattern.specs.Given.{Question, IsListedBy, Given, AtStart, UpTo, IsNext, NoneLeft, Enumerates, next_place}
-use Rattle.nf_pattern.specs.Front.{IsListingOf, AreGiven, GivenAreFronts}
+use Rattle.std.proofs.Common.{◌≡◌, ℕ, zero, suc, ◌+◌, ◌-◌, ◌^◌, min, List, [], ◌∷◌, ◌++◌, length, length-append, inl, inr, ◌⊎◌, ⊎_elim, Some, slice_get}
+use Rattle.std.proofs.Common.{refl, sym, ap, subst, ◌∙◌, arith}
+use Rattle.nf_pattern.proofs.Common.{none-some, same_Some, slice_get_within, Pattern, IsBefore, IsBefore-asymmetric, IsBefore-transitive, ordered_by_place}
+use Rattle.nf_pattern.proofs.Common.{StandsIn, InOrder, Question, IsListedBy, Given, AtStart, UpTo, IsNext, NoneLeft, Enumerates, next_place, IsListingOf}
+use Rattle.nf_pattern.proofs.Common.{AreGiven, GivenAreFronts}
 use Rattle.nf_pattern.proofs.Each.{entry_pushed}
 use Rattle.nf_pattern.proofs.Ranging.{before_or}
 

@@ -1,18 +1,9 @@
 -- The stack of Tight links: of no link, of one more link, and of patterns with the same first states.
-use Rattle.std.proofs.Common.{◌≡◌, ◌≢◌, ℕ, zero, suc, ◌<◌, ◌≤◌, ⊎_elim, true, false, ◌&&◌, List, length, replicate, take, Option, Some, None, slice_get, slice_set, refl, sym, ap, subst, ◌∙◌, arith}
-use Rattle.std.specs.Prelude.{if◌then◌else◌}
-use Rattle.std.proofs.Math.ListN.{length-set}
-use Rattle.std.proofs.lemmas.List.{length-replicate}
-use Rattle.std.proofs.lemmas.Option.{slice_get_within}
-use Rattle.nf_model.specs.declared.State.{State}
-use Rattle.nf_model.specs.declared.State.TheVariants.{Tight}
-use Rattle.nf_model.specs.Walk.{Hop, IsHop}
-use Rattle.nf_model.specs.Pattern.{Pattern, HasState}
-use Rattle.nf_graph.specs.Graph.{AreBelow}
-use Rattle.nf_graph.proofs.Walks.{IsHop-unique}
-use Rattle.nf_rational_laws.proofs.Entries.{slice_get-replicate}
-use Rattle.nf_pattern.specs.Forest.{AreJoined, TightBefore, LeadsBack, Closes, NoneCloses}
-use Rattle.nf_pattern.specs.Walking.{last_at, is_tight, ends_by, ends_at, other_end, IsWalkable}
+use Rattle.std.proofs.Common.{◌≡◌, ◌≢◌, ℕ, zero, suc, ◌<◌, ◌≤◌, ⊎_elim, true, false, ◌&&◌, List, length, replicate, take, Option, Some, None, slice_get}
+use Rattle.std.proofs.Common.{slice_set, refl, sym, ap, subst, ◌∙◌, arith, if◌then◌else◌}
+use Rattle.nf_pattern.proofs.Common.{length-set, length-replicate, slice_get_within, State, Tight, Hop, IsHop, Pattern, HasState, AreBelow, IsHop-unique}
+use Rattle.nf_pattern.proofs.Common.{slice_get-replicate, AreJoined, TightBefore, LeadsBack, Closes, NoneCloses, last_at, is_tight, ends_by, ends_at}
+use Rattle.nf_pattern.proofs.Common.{other_end, IsWalkable}
 use Rattle.nf_pattern.proofs.Setting.{set_same, set_other, tell}
 use Rattle.nf_pattern.proofs.Choosing.{same_front_at}
 use Rattle.nf_pattern.proofs.Barren.{closes_same}

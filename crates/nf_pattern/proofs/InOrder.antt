@@ -1,8 +1,6 @@
 -- The order of assignments. The base is the first. The next assignment that differs at one of the first links is the least of those later.
-use Rattle.std.proofs.Common.{◌≡◌, ℕ, suc, take, Bool, List, inl, inr, ⊎_elim, sym, ◌∙◌, arith}
-use Rattle.std.specs.Prelude.{Some, None}
-use Rattle.nf_model.specs.Pattern.{Pattern, changes, IsBefore}
-use Rattle.nf_pattern.specs.Successor.{IsAssignment, Spares, earliest, later, next_assignment}
+use Rattle.std.proofs.Common.{◌≡◌, ℕ, suc, take, Bool, List, inl, inr, ⊎_elim, sym, ◌∙◌, arith, Some, None}
+use Rattle.nf_pattern.proofs.Common.{Pattern, changes, IsBefore, IsAssignment, Spares, earliest, later, next_assignment}
 use Rattle.nf_pattern.proofs.Successors.{changes_few, earliest_is, earliest_first, earliest_exists, else_given, else_none}
 use Rattle.nf_pattern.proofs.Later.{later_is, later_none, later_next}
 

@@ -1,11 +1,10 @@
 -- The next assignment with equally many changes that differs at one of the first links: it is later, and nothing is between.
-use Rattle.std.proofs.Common.{◌≡◌, ◌⊎◌, ℕ, zero, suc, take, ◌+◌, ◌-◌, ◌<◌, ◌≤◌, Bool, true, List, [], ◌∷◌, inl, inr, ⊎_elim, refl, sym, ap, subst, ◌∙◌, arith}
-use Rattle.std.specs.Prelude.{Option, Some, None}
-use Rattle.nf_model.specs.declared.State.{State}
-use Rattle.nf_model.specs.Pattern.{Pattern, rank, changes, IsEarlier}
-use Rattle.nf_thin_laws.proofs.ForcedOrder.{changes_first}
-use Rattle.nf_pattern.specs.Successor.{choices, IsAssignment, Spares, free, change, first_good, before_all, earliest, may_raise, raised, later}
-use Rattle.nf_pattern.proofs.Successors.{compared, good_some, good_none, choices_ascend, fits_out, within, rest_given, rest_none, earliest_is, earliest_first, earliest_exists, else_given, else_none, before_given, before_none, higher, higher_in, higher_out}
+use Rattle.std.proofs.Common.{◌≡◌, ◌⊎◌, ℕ, zero, suc, take, ◌+◌, ◌-◌, ◌<◌, ◌≤◌, Bool, true, List, [], ◌∷◌, inl, inr, ⊎_elim, refl, sym, ap, subst, ◌∙◌}
+use Rattle.std.proofs.Common.{arith, Option, Some, None}
+use Rattle.nf_pattern.proofs.Common.{State, Pattern, rank, changes, IsEarlier, changes_first, choices, IsAssignment, Spares, free, change, first_good}
+use Rattle.nf_pattern.proofs.Common.{before_all, earliest, may_raise, raised, later}
+use Rattle.nf_pattern.proofs.Successors.{compared, good_some, good_none, choices_ascend, fits_out, within, rest_given, rest_none, earliest_is, earliest_first}
+use Rattle.nf_pattern.proofs.Successors.{earliest_exists, else_given, else_none, before_given, before_none, higher, higher_in, higher_out}
 
 module _ (b : Option State) (u z : Bool) (base : Pattern) (us zs : List Bool) (a : Option State) (p : Pattern) where
   abbrev pub n : ℕ

@@ -1,3 +1,4 @@
+mod Common
 pub mod Each
 pub mod EnteredNodes
 pub mod FirstPatterns

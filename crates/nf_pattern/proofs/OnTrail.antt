@@ -1,18 +1,9 @@
 -- What a trail decides: its pattern is listed, or no pattern with the same first links is.
-use Rattle.std.proofs.Common.{◌≡◌, ◌≢◌, ℕ, zero, suc, ◌+◌, ◌^◌, ◌<◌, ◌≤◌, ◌⊎◌, ⊎_elim, Bool, true, false, List, length, take, Some, sym, ap, subst, ◌∙◌, arith}
-use Rattle.std.specs.Prelude.{slice_get, get_or, Result, Ok, Err, IfOk}
-use Rattle.std.proofs.lemmas.Option.{slice_get-get_or, slice_get_within}
-use Rattle.std.proofs.lemmas.List.{take-take}
-use Rattle.nf_model.specs.Walk.{Hop}
-use Rattle.nf_model.specs.Pattern.{Pattern}
-use Rattle.nf_pattern.specs.declared.trail.Trail.{Trail}
-use Rattle.nf_pattern.specs.Forest.{Closes}
-use Rattle.nf_pattern.specs.Entered.{IsEntered, EnteredBefore, AreEnds, IsLost, Strands}
-use Rattle.nf_pattern.specs.Trail.{Follows, IsLeftBy, IsTrailOf, IsOnWay}
-use Rattle.nf_pattern.specs.Stated.{AreStated}
-use Rattle.nf_pattern.specs.declared.stated.StatedLinks.{StatedLinks}
-use Rattle.nf_pattern.specs.Successor.{IsAssignment}
-use Rattle.nf_pattern.specs.Given.{Question, IsQuestion, IsListedBy, IsBarren}
+use Rattle.std.proofs.Common.{◌≡◌, ◌≢◌, ℕ, zero, suc, ◌+◌, ◌^◌, ◌<◌, ◌≤◌, ◌⊎◌, ⊎_elim, Bool, true, false, List, length, take, Some, sym, ap, subst, ◌∙◌}
+use Rattle.std.proofs.Common.{arith, slice_get, get_or, Result, Ok, Err, IfOk}
+use Rattle.nf_pattern.proofs.Common.{slice_get-get_or, slice_get_within, take-take, Hop, Pattern, Trail, Closes, IsEntered, EnteredBefore, AreEnds, IsLost}
+use Rattle.nf_pattern.proofs.Common.{Strands, Follows, IsLeftBy, IsTrailOf, IsOnWay, AreStated, StatedLinks, IsAssignment, Question, IsQuestion, IsListedBy}
+use Rattle.nf_pattern.proofs.Common.{IsBarren}
 use Rattle.nf_pattern.proofs.Choosing.{assigned_length}
 use Rattle.nf_pattern.proofs.Seeking.{valid}
 use Rattle.nf_pattern.proofs.Forests.{is_forest, closing_below}

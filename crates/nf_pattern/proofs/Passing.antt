@@ -1,16 +1,7 @@
 -- Links without a state are skipped when a trail is extended or shortened.
 use Rattle.std.proofs.Common.{◌≡◌, ℕ, zero, suc, ◌+◌, ◌≤◌, Bool, List, length, inl, inr, ⊎_elim, Some, None, slice_get, refl, subst, arith}
-use Rattle.nf_model.specs.declared.State.{State}
-use Rattle.nf_model.specs.declared.State.TheVariants.{Tight}
-use Rattle.nf_model.specs.Entries.{Has}
-use Rattle.nf_model.specs.Walk.{Hop}
-use Rattle.nf_model.specs.Pattern.{Pattern, HasState}
-use Rattle.nf_pattern.specs.declared.trail.Trail.{Trail}
-use Rattle.nf_pattern.specs.Stated.{AreIdle}
-use Rattle.nf_pattern.specs.Walking.{IsTightStack}
-use Rattle.nf_pattern.specs.Entered.{AreEnds, DoEndsCarry, KeepsEntered}
-use Rattle.nf_pattern.specs.Successor.{IsAssignment}
-use Rattle.nf_pattern.specs.Trail.{Follows}
+use Rattle.nf_pattern.proofs.Common.{State, Tight, Has, Hop, Pattern, HasState, Trail, AreIdle, IsTightStack, AreEnds, DoEndsCarry, KeepsEntered}
+use Rattle.nf_pattern.proofs.Common.{IsAssignment, Follows}
 use Rattle.nf_pattern.proofs.Choosing.{some_too}
 use Rattle.nf_pattern.proofs.Tests.{no_state}
 use Rattle.nf_pattern.proofs.Entries.{carries_keeps}

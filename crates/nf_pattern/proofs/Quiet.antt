@@ -1,14 +1,9 @@
 -- The unchanged suffix of an assignment.
 use Rattle.std.proofs.Common.{◌≡◌, ℕ, zero, suc, ◌+◌, ◌-◌, ◌≤◌, List, [], ◌∷◌, ◌++◌, length, length-drop, take, drop, refl, sym, ap, subst, ◌∙◌, arith}
-use Rattle.std.specs.Prelude.{Option, Some, None, MatchOption, Bool}
+use Rattle.std.proofs.Common.{Option, Some, None, MatchOption, Bool}
+use Rattle.nf_pattern.proofs.Common.{drop-drop, length-take-le, Pattern, changes, changes_first, changes-self, Quiet, IsSameBefore, IsQuiet, free, later}
 use Rattle.std.proofs.Math.Seq.{drop-append-add, drop-append_seam}
-use Rattle.std.proofs.lemmas.List.{drop-drop, length-take-le}
-use Rattle.nf_model.specs.Pattern.{Pattern, changes}
-use Rattle.nf_thin_laws.proofs.ForcedOrder.{changes_first}
-use Rattle.nf_thin_laws.proofs.BaseFirst.{changes-self}
-use Rattle.nf_pattern.specs.declared.assignments.Quiet.{Quiet}
 use Rattle.nf_pattern.specs.declared.assignments.Raised.{Raised}
-use Rattle.nf_pattern.specs.Successor.{IsSameBefore, IsQuiet, free, later}
 use Rattle.nf_pattern.proofs.Filling.{free_first}
 use Rattle.nf_pattern.proofs.Counting.{changes_end, free_end}
 use Rattle.nf_pattern.proofs.Raising.{later_up_to}

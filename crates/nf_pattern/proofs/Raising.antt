@@ -1,13 +1,10 @@
 -- The next assignment with equally many changes, found from the last link backward.
+use Rattle.std.proofs.Common.{◌≡◌, ℕ, zero, suc, ◌+◌, ◌-◌, ◌<◌, ◌≤◌, Bool, false, List, [], ◌∷◌, ◌++◌, length, get_or, set, take, drop, drop-cons}
+use Rattle.std.proofs.Common.{take-suc-set, take_all, append_assoc, append-nil, add-one, length-drop, refl, sym, ap, subst, ◌∙◌, zero-add, arith, Option}
+use Rattle.std.proofs.Common.{Some, None}
+use Rattle.nf_pattern.proofs.Common.{drop_of_length-le, State, Pattern, changes, changes_first, choices, IsAssignment, free, change, first_good, before_all}
+use Rattle.nf_pattern.proofs.Common.{with_rest, earliest, or_else, raised, raised_at, RaisesAt, IsSameBefore, later, IsLastTo}
 use borrow.Rule.Slice.PartMut.{put_mid}
-use Rattle.std.proofs.Common.{◌≡◌, ℕ, zero, suc, ◌+◌, ◌-◌, ◌<◌, ◌≤◌, Bool, false, List, [], ◌∷◌, ◌++◌, length, get_or, set, take, drop, drop-cons, take-suc-set, take_all, append_assoc, append-nil, add-one, length-drop, refl, sym, ap, subst, ◌∙◌, zero-add, arith}
-use Rattle.std.specs.Prelude.{Option, Some, None}
-use Rattle.std.proofs.Math.ListN.{drop_of_length-le}
-use Rattle.nf_model.specs.declared.State.{State}
-use Rattle.nf_model.specs.Pattern.{Pattern, changes}
-use Rattle.nf_thin_laws.proofs.ForcedOrder.{changes_first}
-use Rattle.nf_pattern.specs.Successor.{choices, IsAssignment, free, change, first_good, before_all, with_rest, earliest, or_else, raised, raised_at, RaisesAt, IsSameBefore, later}
-use Rattle.nf_pattern.specs.Stated.{IsLastTo}
 use Rattle.nf_pattern.proofs.Choosing.{assigned_length, none_too}
 use Rattle.nf_pattern.proofs.Stating.{idle_there}
 use Rattle.nf_pattern.proofs.Filling.{free_first, none_raised}

@@ -1,11 +1,6 @@
 -- The order of patterns is total, and each step in it leaves fewer patterns behind.
 use Rattle.std.proofs.Common.{◌≡◌, ℕ, zero, suc, ◌+◌, ◌-◌, ◌<◌, ◌≤◌, [], ◌∷◌, length, inl, inr, ◌⊎◌, Option, Some, None, refl, sym, ap, ◌∙◌, arith}
-use Rattle.nf_model.specs.declared.State.{State}
-use Rattle.nf_model.specs.declared.State.TheVariants.{Tight, Full, Zero}
-use Rattle.nf_model.specs.Pattern.{Pattern, rank, changes, IsEarlier, IsBefore}
-use Rattle.nf_thin_laws.proofs.Unranking.{same_rank}
-use Rattle.nf_pattern.specs.Successor.{free}
-use Rattle.nf_rational_laws.proofs.Naturals.{compared}
+use Rattle.nf_pattern.proofs.Common.{State, Tight, Full, Zero, Pattern, rank, changes, IsEarlier, IsBefore, same_rank, free, compared}
 
 abbrev pub Trio : Pattern → Pattern → Type 0
 Trio p q = IsEarlier p q ⊎ ((p ≡ q) ⊎ IsEarlier q p)

@@ -1,26 +1,17 @@
 -- The first listed pattern from an assignment on, found by advancing over assignments that are not listed.
 use Rattle.std.proofs.Common.{◌≡◌, ℕ, ◌<◌, ◌≤◌, Bool, List, length, take, take_all, inl, inr, ◌⊎◌, ⊎_elim, Some, None, refl, sym, ap, subst, ◌∙◌, arith}
-use Rattle.std.specs.Prelude.{MatchBool, true, false}
-use Rattle.nf_model.specs.Pattern.{Pattern, IsBefore}
-use Rattle.nf_thin_laws.proofs.Listings.{IsBefore-asymmetric, IsBefore-transitive}
-use Rattle.nf_thin_laws.proofs.BaseFirst.{none_before}
-use Rattle.nf_pattern.specs.Successor.{IsAssignment, Spares, next_assignment}
+use Rattle.std.proofs.Common.{MatchBool, true, false}
+use Rattle.nf_pattern.proofs.Common.{Pattern, IsBefore, IsBefore-asymmetric, IsBefore-transitive, none_before, IsAssignment, Spares, next_assignment}
+use Rattle.nf_pattern.proofs.Common.{Question, IsQuestion, IsListedBy, IsBarren, IsFrom, IsFirstFrom, NoneFrom, Last, AtStart, UpTo, IsNext, NoneLeft}
+use Rattle.nf_pattern.proofs.Common.{Given, next_place, Start, Listed, End, Quiet, Trail, IsTrailOf, IsStanding, last_of, AreSpared, Hop}
 use Rattle.nf_pattern.specs.Advancing.{Advances, NoneAdvances}
-use Rattle.nf_pattern.specs.Given.{Question, IsQuestion, IsListedBy, IsBarren, IsFrom, IsFirstFrom, NoneFrom, Last, AtStart, UpTo, IsNext, NoneLeft, Given, next_place}
 use Rattle.nf_pattern.specs.declared.question.Stand.{Stand}
-use Rattle.nf_pattern.specs.declared.question.Stand.TheVariants.{Start, Listed, End}
-use Rattle.nf_pattern.specs.declared.assignments.Quiet.{Quiet}
-use Rattle.nf_pattern.specs.declared.trail.Trail.{Trail}
-use Rattle.nf_pattern.specs.Trail.{IsTrailOf}
-use Rattle.nf_pattern.specs.Stands.{IsStanding, last_of}
-use Rattle.nf_pattern.specs.Sole.{AreSpared}
 use Rattle.nf_pattern.proofs.Choosing.{assigned_length, assignment_of}
 use Rattle.nf_pattern.proofs.Sparing.{spared_by}
 use Rattle.nf_pattern.proofs.Successors.{changes_few}
 use Rattle.nf_pattern.proofs.InOrder.{next_is, next_none, next_least}
 use Rattle.nf_pattern.proofs.Quiet.{quiet_end}
 use Rattle.nf_pattern.proofs.Ranging.{before_or, left_after, fewer_left}
-use Rattle.nf_model.specs.Walk.{Hop}
 
 -- of the same values
 pub same_question : (nodes source : ℕ) {hops hops' : List Hop} {active active' resetting resetting' unbounded unbounded' : List Bool} {base base' : Pattern}

@@ -1,6 +1,7 @@
 -- One entry of a list that is set.
-use Rattle.std.proofs.Common.{◌≡◌, ◌≢◌, ℕ, zero, suc, ◌<◌, true, false, List, [], ◌∷◌, length, inl, inr, ◌⊎◌, ⊎_elim, eqb, Some, slice_get, slice_set, refl, ap, arith}
-use Rattle.std.proofs.lemmas.Bool.Decides.{eqb_tells}
+use Rattle.std.proofs.Common.{◌≡◌, ◌≢◌, ℕ, zero, suc, ◌<◌, true, false, List, [], ◌∷◌, length, inl, inr, ◌⊎◌, ⊎_elim, eqb, Some, slice_get, slice_set, refl}
+use Rattle.std.proofs.Common.{ap, arith}
+use Rattle.nf_pattern.proofs.Common.{eqb_tells}
 
 pub set_same : {A : Type 0} (xs : List A) (i : ℕ) (x : A) → i < length xs → slice_get (slice_set xs i x) i ≡ Some x
 set_same [] i x h = absurd (omega arith)

@@ -1,18 +1,9 @@
 -- Flags of links that no listed pattern has Zero.
-use Rattle.std.proofs.Common.{◌≡◌, ◌≢◌, ℕ, suc, ◌<◌, Bool, true, false, List, [], ◌∷◌, length, inl, inr, ⊎_elim, Some, None, Option, refl, ap, sym, subst, ◌∙◌, arith}
-use Rattle.std.specs.Prelude.{slice_get, is_some}
-use Rattle.std.proofs.lemmas.Option.{slice_get_within}
-use Rattle.nf_rational_laws.proofs.Naturals.{before_or_at}
-use Rattle.nf_model.specs.declared.State.{State}
-use Rattle.nf_model.specs.declared.State.TheVariants.{Tight, Full, Zero}
-use Rattle.nf_model.specs.Entries.{Has}
-use Rattle.nf_model.specs.Walk.{Hop, IsHop}
-use Rattle.nf_model.specs.Pattern.{Pattern, HasState}
-use Rattle.nf_thin_laws.proofs.Bases.{state_is}
-use Rattle.nf_pattern.specs.Successor.{Spares, may_raise}
-use Rattle.nf_pattern.specs.Entered.{MayCarry, CanCarry, AreEndsBefore, AreEnds}
-use Rattle.nf_pattern.specs.Sole.{EntersAlone, AllEnterAlone, AreSpared}
-use Rattle.nf_pattern.specs.Given.{Question, IsQuestion, IsListedBy}
+use Rattle.std.proofs.Common.{◌≡◌, ◌≢◌, ℕ, suc, ◌<◌, Bool, true, false, List, [], ◌∷◌, length, inl, inr, ⊎_elim, Some, None, Option, refl, ap, sym, subst}
+use Rattle.std.proofs.Common.{◌∙◌, arith, slice_get, is_some}
+use Rattle.nf_pattern.proofs.Common.{slice_get_within, before_or_at, State, Tight, Full, Zero, Has, Hop, IsHop, Pattern, HasState, state_is, Spares}
+use Rattle.nf_pattern.proofs.Common.{may_raise, MayCarry, CanCarry, AreEndsBefore, AreEnds, EntersAlone, AllEnterAlone, AreSpared, Question, IsQuestion}
+use Rattle.nf_pattern.proofs.Common.{IsListedBy}
 
 -- ---- no flag at all
 abbrev pub unflagged : Pattern → List Bool

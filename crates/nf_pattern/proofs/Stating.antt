@@ -1,11 +1,7 @@
 -- Which links have a state, link by link.
 use Rattle.std.proofs.Common.{◌≡◌, ◌≢◌, ℕ, suc, ◌<◌, ◌≤◌, Bool, List, length, get_or, ⊎_elim, Some, None, slice_get, slice_set, sym, subst, ◌∙◌, arith}
-use Rattle.std.proofs.lemmas.Option.{same_Some, slice_get-get_or, slice_get_within}
-use Rattle.nf_rational_laws.proofs.Naturals.{before_or_at}
-use Rattle.nf_model.specs.Pattern.{Pattern}
-use Rattle.nf_pattern.specs.declared.stated.StatedLinks.{StatedLinks}
-use Rattle.nf_pattern.specs.Stated.{AreIdle, IsNextFrom, IsLastTo, AreStated}
-use Rattle.nf_pattern.specs.Successor.{IsAssignment}
+use Rattle.nf_pattern.proofs.Common.{same_Some, slice_get-get_or, slice_get_within, before_or_at, Pattern, StatedLinks, AreIdle, IsNextFrom, IsLastTo}
+use Rattle.nf_pattern.proofs.Common.{AreStated, IsAssignment}
 use Rattle.nf_pattern.proofs.Choosing.{assigned_length, none_too}
 use Rattle.nf_pattern.proofs.Setting.{set_same, set_other, tell}
 

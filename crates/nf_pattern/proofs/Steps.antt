@@ -1,16 +1,10 @@
 -- Steps of a forest traversal.
-use Rattle.std.proofs.Common.{◌≡◌, ◌≢◌, ℕ, zero, suc, ◌<◌, ◌≤◌, inl, inr, ◌⊎◌, ⊎_elim, Bool, true, false, ◌&&◌, eqb, List, [], length, Option, Some, None, slice_get, get_or, refl, sym, ap, subst, ◌∙◌, arith}
-use Rattle.std.specs.Prelude.{if◌then◌else◌}
-use Rattle.std.proofs.lemmas.Option.{none-some, same_Some, slice_get-get_or}
-use Rattle.std.proofs.lemmas.Bool.{ne_eqb}
-use Rattle.nf_model.specs.declared.State.{State}
-use Rattle.nf_model.specs.declared.State.TheVariants.{Tight, Full, Zero}
-use Rattle.nf_model.specs.Walk.{Hop, IsHop}
-use Rattle.nf_model.specs.Pattern.{Pattern, HasState}
-use Rattle.nf_graph.specs.Graph.{AreBelow}
+use Rattle.std.proofs.Common.{◌≡◌, ◌≢◌, ℕ, zero, suc, ◌<◌, ◌≤◌, inl, inr, ◌⊎◌, ⊎_elim, Bool, true, false, ◌&&◌, eqb, List, [], length, Option, Some, None}
+use Rattle.std.proofs.Common.{slice_get, get_or, refl, sym, ap, subst, ◌∙◌, arith, if◌then◌else◌}
+use Rattle.nf_pattern.proofs.Common.{none-some, same_Some, slice_get-get_or, ne_eqb, State, Tight, Full, Zero, Hop, IsHop, Pattern, HasState, AreBelow}
+use Rattle.nf_pattern.proofs.Common.{AreJoined, TightBefore, Closes, NoneCloses, last_at, Path, is_tight, ends_by, ends_at, across, other_end, IsWalkable}
+use Rattle.nf_pattern.proofs.Common.{IsPlace, GoesBy}
 use Rattle.nf_pattern.specs.declared.walking.Place.{Place}
-use Rattle.nf_pattern.specs.Forest.{AreJoined, TightBefore, Closes, NoneCloses}
-use Rattle.nf_pattern.specs.Walking.{last_at, Path, is_tight, ends_by, ends_at, across, other_end, IsWalkable, IsPlace, GoesBy}
 use Rattle.nf_pattern.proofs.Deciding.{decide_below, decide_closes}
 use Rattle.nf_pattern.proofs.Comes.{comes, same_true}
 

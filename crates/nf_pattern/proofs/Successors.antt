@@ -1,15 +1,9 @@
 -- Nothing lies between an assignment and the next one.
-use Rattle.std.proofs.Common.{◌≡◌, ◌⊎◌, ℕ, ◌+◌, ◌-◌, ◌<◌, ◌≤◌, Bool, true, false, ◌&&◌, List, [], ◌∷◌, inl, inr, ⊎_elim, refl, sym, ap, subst, ◌∙◌, arith, leb, eqb}
-use Rattle.std.specs.Prelude.{Option, Some, None, if◌then◌else◌, nat_lt, ◌==◌}
-use Rattle.std.proofs.lemmas.Option.{same_Some}
-use Rattle.std.proofs.lemmas.Bool.Decides.{leb_tells}
-use Rattle.nf_graph.proofs.Walks.{same_from_test, apart_from_test}
-use Rattle.nf_model.specs.declared.State.{State}
-use Rattle.nf_model.specs.declared.State.TheVariants.{Tight, Full, Zero}
-use Rattle.nf_model.specs.Pattern.{Pattern, rank, changes, IsEarlier}
-use Rattle.nf_thin_laws.proofs.ForcedOrder.{changes_first}
-use Rattle.nf_pattern.specs.Successor.{choices, IsIn, IsAssignment, free, change, fits_count, first_good, before_all, with_rest, earliest, or_else, may_raise}
-use Rattle.std.proofs.lemmas.Bool.{and_parts}
+use Rattle.std.proofs.Common.{◌≡◌, ◌⊎◌, ℕ, ◌+◌, ◌-◌, ◌<◌, ◌≤◌, Bool, true, false, ◌&&◌, List, [], ◌∷◌, inl, inr, ⊎_elim, refl, sym, ap, subst, ◌∙◌, arith}
+use Rattle.std.proofs.Common.{leb, eqb, Option, Some, None, if◌then◌else◌, nat_lt, ◌==◌}
+use Rattle.nf_pattern.proofs.Common.{same_Some, leb_tells, same_from_test, apart_from_test, State, Tight, Full, Zero, Pattern, rank, changes, IsEarlier}
+use Rattle.nf_pattern.proofs.Common.{changes_first, choices, IsIn, IsAssignment, free, change, fits_count, first_good, before_all, with_rest, earliest}
+use Rattle.nf_pattern.proofs.Common.{or_else, may_raise, and_parts}
 
 -- ---- choices
 abbrev pub Ascending : List (Option State) → Type 0

@@ -1,15 +1,7 @@
 -- Tests of one entry of a list.
-use Rattle.std.proofs.Common.{◌≡◌, ◌≢◌, ℕ, suc, ◌+◌, ◌<◌, Bool, true, false, not, eqb, ◌⊎◌, ⊎_elim, List, length, get_or, Some, None, add-one, refl, sym, ap, subst, ◌∙◌}
-use Rattle.std.specs.Prelude.{slice_get, MatchBool}
-use Rattle.std.proofs.lemmas.Bool.Decides.{eqb_tells}
-use Rattle.std.proofs.lemmas.Option.{same_Some, none-some}
-use Rattle.nf_model.specs.declared.State.{State}
-use Rattle.nf_model.specs.declared.State.TheVariants.{Tight, Full}
-use Rattle.nf_model.specs.Entries.{Has}
-use Rattle.nf_model.specs.Pattern.{Pattern, HasState}
-use Rattle.nf_graph.proofs.Walks.{apart_from_test}
-use Rattle.nf_graph.proofs.Flags.{Has-not_unset}
-use Rattle.nf_pattern.specs.Entered.{MayCarry}
+use Rattle.std.proofs.Common.{◌≡◌, ◌≢◌, ℕ, suc, ◌+◌, ◌<◌, Bool, true, false, not, eqb, ◌⊎◌, ⊎_elim, List, length, get_or, Some, None, add-one, refl, sym}
+use Rattle.std.proofs.Common.{ap, subst, ◌∙◌, slice_get, MatchBool}
+use Rattle.nf_pattern.proofs.Common.{eqb_tells, same_Some, none-some, State, Tight, Full, Has, Pattern, HasState, apart_from_test, Has-not_unset, MayCarry}
 use Rattle.nf_pattern.proofs.Each.{entry_at}
 
 -- a link without a state, and one with another

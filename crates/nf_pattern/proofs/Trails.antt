@@ -1,12 +1,8 @@
 -- Trails: hops one after the other, each taken forward or backward.
-use Rattle.std.proofs.Common.{◌≡◌, ◌≢◌, ℕ, Bool, true, false, not, List, [], ◌∷◌, ◌++◌, map, inl, inr, ◌⊎◌, ⊎_elim, eqb, refl, sym, ap, subst}
-use Rattle.std.specs.Prelude.{Contains, if◌then◌else◌}
-use Rattle.std.proofs.lemmas.Bool.Decides.{eqb_tells}
-use Rattle.nf_graph.proofs.Walks.{IsHop-unique}
-use Rattle.nf_model.specs.Walk.{Hop, IsHop}
-use Rattle.nf_model.specs.Pattern.{IsTrail, AllDiffer}
+use Rattle.std.proofs.Common.{◌≡◌, ◌≢◌, ℕ, Bool, true, false, not, List, [], ◌∷◌, ◌++◌, map, inl, inr, ◌⊎◌, ⊎_elim, eqb, refl, sym, ap, subst, Contains}
+use Rattle.std.proofs.Common.{if◌then◌else◌}
+use Rattle.nf_pattern.proofs.Common.{eqb_tells, IsHop-unique, Hop, IsHop, IsTrail, AllDiffer, AreJoined}
 use Rattle.nf_rational_laws.proofs.Contained.{contains_none, contains_cases, contains_more, contains_first}
-use Rattle.nf_pattern.specs.Forest.{AreJoined}
 
 -- ---- elements of lists
 abbrev pub Steps : Type 0

@@ -1,6 +1,5 @@
 -- Traversal of a tree: it crosses each link on both sides, and returns to its start.
-use Rattle.std.proofs.Common.{◌≡◌, ◌≢◌, ℕ, zero, suc, ⊎_elim, Bool, true, false, Option, Some, None, sym, ap, subst, ◌∙◌}
-use Rattle.std.specs.Prelude.{if◌then◌else◌}
+use Rattle.std.proofs.Common.{◌≡◌, ◌≢◌, ℕ, zero, suc, ⊎_elim, Bool, true, false, Option, Some, None, sym, ap, subst, ◌∙◌, if◌then◌else◌}
 use Rattle.nf_pattern.specs.Walking.{last_at as last_of, Path as PathOf}
 use Rattle.nf_pattern.proofs.Setting.{tell}
 

@@ -1,29 +1,17 @@
 -- The result of a run that has ended.
-use Rattle.std.proofs.Common.{◌≡◌, ℕ, suc, ◌↔◌, sym, ap, subst, refl, ◌∙◌, arith}
-use Rattle.std.specs.Prelude.{Option, Some, None, is_none, Result, Ok, Err, IfOk}
+use Rattle.std.proofs.Common.{◌≡◌, ℕ, suc, ◌↔◌, sym, ap, subst, refl, ◌∙◌, arith, Option, Some, None, is_none, Result, Ok, Err, IfOk}
+use Rattle.nf_phase.proofs.Common.{none-some, slice_get-map, ℚ, ◌≤ℚ◌, ◌<ℚ◌, <ℚ_irrefl, Passing, passes_Q, Link, Network, IsNetwork, hops, slacks_of}
+use Rattle.nf_phase.proofs.Common.{Equilibrium, Cause, Standing, Bounds, IsStart, Goes, IsPhaseRun, IsShortFlow, flow_of, report_of, Continues, Steps}
+use Rattle.nf_phase.proofs.Common.{continues, begins, RunsOn, at_horizon, at_phases, fails, steps, run_keeps, IsRunSolution, IsFinished, solution_report}
+use Rattle.nf_phase.proofs.Common.{EndsAtItsLabels, Reaches}
 use Rattle.std.specs.Option.{option_map}
-use Rattle.std.proofs.lemmas.Option.{none-some, slice_get-map}
-use Rattle.nf_rational.specs.Rational.{ℚ}
-use Rattle.nf_rational.specs.Order.{◌≤ℚ◌, ◌<ℚ◌}
-use Rattle.nf_rational_laws.proofs.Order.{<ℚ_irrefl}
-use Rattle.nf_frac_def.specs.Passing.{Passing, passes_Q}
-use Rattle.nf_model.specs.Network.{Link, Network, IsNetwork, hops}
-use Rattle.nf_model.specs.ThinFlow.{slacks_of}
-use Rattle.nf_model.specs.Equilibrium.{Equilibrium}
-use Rattle.nf_net_def.specs.declared.Cause.{Cause}
 use Rattle.nf_net_def.specs.Report.{Report, IsWellFormed}
 use Rattle.nf_net_laws.proofs.ReportFacts.{well_formed}
-use Rattle.nf_thin_def.specs.PhaseRun.{Standing, Bounds, IsStart, Goes, IsPhaseRun, IsShortFlow, flow_of, report_of}
 use Rattle.nf_thin_def.specs.PhaseRun.{Runs, at_horizon as at_horizon_of_run, at_phases as at_phases_of_run, fails as fails_of_run, goes as goes_of_run}
-use Rattle.nf_phase_def.specs.Open.{Continues, Steps, continues, begins, RunsOn, at_horizon, at_phases, fails, steps}
 use Rattle.nf_phase_laws.proofs.RunsOn.{closed-at_start}
 use Rattle.nf_phase_laws.proofs.Sequence.{sequence_ends}
-use Rattle.nf_phase_laws.proofs.ShortRun.{run_keeps}
 use Rattle.nf_curve.specs.Flows.{seen_flow as flow_in}
 use Rattle.nf_phase.specs.declared.solution.Solution.{Solution}
-use Rattle.nf_phase.specs.Solution.{IsRunSolution, IsFinished, solution_report}
-use Rattle.nf_phase_def.specs.Restoring.{EndsAtItsLabels}
-use Rattle.nf_phase.specs.Stepping.{Reaches}
 use Rattle.nf_phase.proofs.Reached.{Stands, Stands-reached}
 use Rattle.nf_phase.proofs.ShortReached.{short_reached}
 use Rattle.nf_phase.proofs.Told.{ends_told}

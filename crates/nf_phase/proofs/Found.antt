@@ -1,41 +1,16 @@
 -- From the results of the search and of the operation sequences to the phase found, or to the cause for which there is none.
-use Rattle.std.proofs.Common.{◌≡◌, ℕ, suc, inl, inr, List, length, sym, ap, subst, refl, ◌∙◌}
-use Rattle.std.specs.Prelude.{Option, Some, None, map, Result, Ok, Err, MatchOption, IfErr}
-use Rattle.std.specs.Result.{IsErrAnd}
-use Rattle.nf_rational.specs.Rational.{ℚ}
-use Rattle.nf_rational.specs.Operations.{◌-ℚ◌}
-use Rattle.nf_rational.specs.Order.{◌<ℚ◌}
-use Rattle.nf_frac_def.specs.Passing.{Passing}
+use Rattle.std.proofs.Common.{◌≡◌, ℕ, suc, inl, inr, List, length, sym, ap, subst, refl, ◌∙◌, Option, Some, None, map, Result, Ok, Err, MatchOption, IfErr}
+use Rattle.nf_phase.proofs.Common.{IsErrAnd, ℚ, ◌-ℚ◌, ◌<ℚ◌, Passing, Slack, Extend, Advance, Curve, Passed, PassedAt, Halt, Checked, at_part, placed, Stops}
+use Rattle.nf_phase.proofs.Common.{◌>>=◌, Hop, Network, hops, slacks_of, sets_at, Pattern, IsExtension, IsUnending, IsPhaseLength, Cause, slack_list}
+use Rattle.nf_phase.proofs.Common.{extend_list, Advanced, cut_at, advance_list, LinkStep, curve_list, amount_so_far, SearchAnswer, Found, OverBudget}
+use Rattle.nf_phase.proofs.Common.{PassesAt, NoPattern, Standing, PhaseStep, Seeks, IsSearchHere, end_list, SeeksOn, slacks_exact, advanced_exact}
+use Rattle.nf_phase.proofs.Common.{StepFault, part_ok, of_halt, of_search, IsFaultOf, FindsNone, at_slack, at_search, ListsPass, at_lists}
 use Rattle.nf_frac_def.specs.declared.Part.{Part}
-use Rattle.nf_frac_def.specs.declared.Part.TheVariants.{Slack, Extend, Advance, Curve}
-use Rattle.nf_frac_def.specs.declared.Passed.{Passed}
-use Rattle.nf_frac_def.specs.declared.PassedAt.{PassedAt}
-use Rattle.nf_frac_def.specs.declared.Halt.{Halt}
-use Rattle.nf_frac_def.specs.Checked.{Checked, at_part, placed, Stops, ◌>>=◌}
-use Rattle.nf_model.specs.Walk.{Hop}
-use Rattle.nf_model.specs.Network.{Network, hops}
-use Rattle.nf_model.specs.ThinFlow.{slacks_of, sets_at}
-use Rattle.nf_model.specs.Pattern.{Pattern}
-use Rattle.nf_model.specs.Phases.{IsExtension, IsUnending, IsPhaseLength}
-use Rattle.nf_net_def.specs.declared.Cause.{Cause}
-use Rattle.nf_thin_def.specs.Slack.{slack_list}
-use Rattle.nf_thin_def.specs.Extend.{extend_list}
-use Rattle.nf_thin_def.specs.Advance.{Advanced, cut_at, advance_list}
-use Rattle.nf_thin_def.specs.CurveList.{LinkStep, curve_list}
-use Rattle.nf_thin_def.specs.ReportCurves.{amount_so_far}
-use Rattle.nf_thin_def.specs.Search.{SearchAnswer, Found, OverBudget, PassesAt, NoPattern}
-use Rattle.nf_thin_def.specs.PhaseRun.{Standing, PhaseStep, Seeks, IsSearchHere, phase_lists}
+use Rattle.nf_thin_def.specs.PhaseRun.{phase_lists}
 use Rattle.nf_thin_def.specs.PhaseRun.{Fails, at_slack as at_slack_below, at_search as at_search_below, at_lists as at_lists_below}
-use Rattle.nf_phase_def.specs.ToEnd.{end_list, SeeksOn}
 use Rattle.nf_phase_def.specs.ToEnd.{FailsOn, at_slack as at_slack_on, at_search as at_search_on, at_extend as at_extend_on, at_lists as at_lists_on}
-use Rattle.nf_thin_laws.proofs.Exact.{slacks_exact, advanced_exact}
 use Rattle.nf_thin.specs.declared.fault.SearchFault.{SearchFault}
-use Rattle.nf_phase.specs.declared.fault.StepFault.{StepFault}
 use Rattle.nf_thin.specs.Searching.{Searches}
-use Rattle.nf_frac_def.proofs.AtPart.{part_ok}
-use Rattle.nf_phase.specs.Faults.{of_halt, of_search}
-use Rattle.nf_phase.specs.Stepping.{IsFaultOf}
-use Rattle.nf_phase.specs.Finding.{FindsNone, at_slack, at_search, ListsPass, at_lists}
 
 -- ---- an operation of a part exceeds its bound
 pub part_err : {A : Type 0} (part : Part) (r : Checked A) (at : PassedAt ℚ) → at_part part r ≡ Err at → (p : Passed ℚ) × (r ≡ Err p) × (placed part p ≡ at)

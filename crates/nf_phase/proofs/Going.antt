@@ -1,18 +1,9 @@
 -- The loop invariant of a run, and the end of the loop.
-use Rattle.std.proofs.Common.{◌≡◌, ℕ, suc, ◌+◌, ◌<◌, add-one, Bool, true, false, ⊎_elim, sym, ap, subst, ◌∙◌}
-use Rattle.std.specs.Prelude.{Option, Some, None, IsSome, Result, Ok, Err, IfOk, not, MatchBool}
-use Rattle.nf_rational.specs.Rational.{ℚ}
-use Rattle.nf_rational.specs.Order.{◌≤ℚ◌, ◌<ℚ◌, lt_ℚ}
-use Rattle.nf_rational_laws.proofs.Order.{≤ℚ_antisymm}
+use Rattle.std.proofs.Common.{◌≡◌, ℕ, suc, ◌+◌, ◌<◌, add-one, Bool, true, false, ⊎_elim, sym, ap, subst, ◌∙◌, Option, Some, None, IsSome, Result, Ok, Err}
+use Rattle.std.proofs.Common.{IfOk, not, MatchBool}
+use Rattle.nf_phase.proofs.Common.{ℚ, ◌≤ℚ◌, ◌<ℚ◌, lt_ℚ, ≤ℚ_antisymm, Passing, Network, IsNetwork, Cause, Standing, Bounds, Goes, Fails, Steps, continues}
+use Rattle.nf_phase.proofs.Common.{begins, RunsOn, at_horizon, at_phases, fails, steps, StepFault, Reaches, IsCause, cause_of, stop_after}
 use Rattle.nf_rational_laws.proofs.Tests.{lt_ℚ_cases}
-use Rattle.nf_frac_def.specs.Passing.{Passing}
-use Rattle.nf_model.specs.Network.{Network, IsNetwork}
-use Rattle.nf_net_def.specs.declared.Cause.{Cause}
-use Rattle.nf_thin_def.specs.PhaseRun.{Standing, Bounds, Goes, Fails}
-use Rattle.nf_phase_def.specs.Open.{Steps, continues, begins, RunsOn, at_horizon, at_phases, fails, steps}
-use Rattle.nf_phase.specs.declared.fault.StepFault.{StepFault}
-use Rattle.nf_phase.specs.Stepping.{Reaches, IsCause}
-use Rattle.nf_phase.specs.Solution.{cause_of, stop_after}
 use Rattle.nf_phase.proofs.Ended.{step_within}
 use Rattle.nf_phase.proofs.Stepped.{reaches_step}
 use Rattle.nf_phase.proofs.Stopping.{stands_stop}

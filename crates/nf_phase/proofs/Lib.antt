@@ -1,3 +1,4 @@
+mod Common
 pub mod Standings
 pub mod RestoreList
 pub mod Opened

@@ -1,23 +1,11 @@
 -- The tests whether a run is mid-phase.
-use Rattle.std.proofs.Common.{◌≡◌, ◌≢◌, ◌⊎◌, inl, inr, ℕ, zero, suc, ◌+◌, ◌<◌, Bool, true, false, List, [], ◌∷◌, length, refl, sym, ap, subst, ◌∙◌}
-use Rattle.std.specs.Prelude.{◌↔◌, if◌then◌else◌, not, IsTrue, Option, Some, None, slice_get, unwrap_or, MatchBool}
-use Rattle.std.proofs.lemmas.Option.{slice_get_within}
-use Rattle.nf_rational.specs.Rational.{ℚ}
-use Rattle.nf_rational.specs.Operations.{0ℚ}
-use Rattle.nf_rational_laws.proofs.Results.{not_both}
-use Rattle.nf_model.specs.Entries.{number_at}
-use Rattle.nf_model.specs.declared.State.{State}
-use Rattle.nf_model.specs.Network.{Link, Piece, Network, IsLink, IsPiece, hop_of, hops}
-use Rattle.nf_model.specs.ThinFlow.{slack, slacks_of}
-use Rattle.nf_model.specs.Pattern.{Pattern}
-use Rattle.nf_model_laws.proofs.Slacks.{slack_at}
+use Rattle.std.proofs.Common.{◌≡◌, ◌≢◌, ◌⊎◌, inl, inr, ℕ, zero, suc, ◌+◌, ◌<◌, Bool, true, false, List, [], ◌∷◌, length, refl, sym, ap, subst, ◌∙◌, ◌↔◌}
+use Rattle.std.proofs.Common.{if◌then◌else◌, not, IsTrue, Option, Some, None, slice_get, unwrap_or, MatchBool}
+use Rattle.nf_phase.proofs.Common.{slice_get_within, ℚ, 0ℚ, not_both, number_at, State, Link, Piece, Network, IsLink, IsPiece, hop_of, hops, slack}
+use Rattle.nf_phase.proofs.Common.{slacks_of, Pattern, slack_at, Standing, entry, IsOpen, Continues, none_starts, ApartAt, HaveStateOrSlack}
 use Rattle.nf_rational.specs.Signs.{is_same}
-use Rattle.nf_thin_def.specs.PhaseRun.{Standing}
 use Rattle.nf_curve_laws.proofs.Operations.{same_of, same_test}
 use Rattle.nf_rational_laws.proofs.Naturals.{before_or_at}
-use Rattle.nf_rational_laws.proofs.Entries.{entry}
-use Rattle.nf_phase_def.specs.Open.{IsOpen, Continues}
-use Rattle.nf_phase.specs.OpenRuns.{none_starts, ApartAt, HaveStateOrSlack}
 
 -- ---- no piece starts at a time
 starts_apart : (b : Bool) (rest : Bool) → (if b then false else rest) ≡ true → (b ≡ false) × (rest ≡ true)

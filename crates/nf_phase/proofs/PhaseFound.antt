@@ -1,35 +1,10 @@
 -- The operations of a phase in the order of the code: failures, and the extension of the run.
-use Rattle.std.proofs.Common.{◌≡◌, ℕ, suc, List, length, sym, ap, subst, refl, ◌∙◌}
-use Rattle.std.specs.Prelude.{Option, map, Result, Ok, Err, MatchOption, IfErr}
-use Rattle.std.specs.Result.{IsErrAnd}
-use Rattle.std.proofs.lemmas.List.{length-map}
-use Rattle.nf_rational.specs.Rational.{ℚ}
-use Rattle.nf_rational.specs.Order.{◌<ℚ◌}
-use Rattle.nf_frac_def.specs.Passing.{Passing}
-use Rattle.nf_frac_def.specs.declared.Part.TheVariants.{Extend, Advance, Curve}
-use Rattle.nf_frac_def.specs.declared.PassedAt.{PassedAt}
-use Rattle.nf_frac_def.specs.declared.Halt.{Halt}
-use Rattle.nf_frac_def.specs.Checked.{at_part, Stops}
-use Rattle.nf_model.specs.Network.{Network, IsNetwork, hop_of, hops}
-use Rattle.nf_model.specs.ThinFlow.{Sets, slack, slacks_of, sets_at}
-use Rattle.nf_model.specs.Phases.{IsExtension, IsUnending, IsPhaseLength}
-use Rattle.nf_thin_def.specs.Slack.{slack_list}
-use Rattle.nf_thin_def.specs.Extend.{extend_list}
-use Rattle.nf_thin_def.specs.Advance.{Advanced, advance_list}
-use Rattle.nf_thin_def.specs.CurveList.{LinkStep, curve_list}
-use Rattle.nf_thin_def.specs.ReportCurves.{LinkCurves, amount_so_far}
-use Rattle.nf_thin_def.specs.Search.{Found}
-use Rattle.nf_thin_def.specs.PhaseRun.{Standing, PhaseStep, IsSearchHere, phase_lists}
-use Rattle.nf_thin_laws.proofs.Exact.{advanced_exact}
-use Rattle.nf_thin_laws.proofs.Ending.{length-moved}
-use Rattle.nf_phase_laws.proofs.Standing.{label_count_at}
-use Rattle.nf_frac_def.proofs.AtPart.{part_ok}
-use Rattle.nf_phase.specs.declared.fault.StepFault.{StepFault}
-use Rattle.nf_phase.specs.declared.finding.PhaseStart.{PhaseStart}
-use Rattle.nf_phase.specs.declared.phase.Phase.{Phase}
-use Rattle.nf_phase.specs.Faults.{of_halt}
-use Rattle.nf_phase.specs.Stepping.{Reaches, IsFaultOf}
-use Rattle.nf_phase.specs.Finding.{step_in, IsFound, ListsPass, LeadsOn}
+use Rattle.std.proofs.Common.{◌≡◌, ℕ, suc, List, length, sym, ap, subst, refl, ◌∙◌, Option, map, Result, Ok, Err, MatchOption, IfErr}
+use Rattle.nf_phase.proofs.Common.{IsErrAnd, length-map, ℚ, ◌<ℚ◌, Passing, Extend, Advance, Curve, PassedAt, Halt, at_part, Stops, Network, IsNetwork}
+use Rattle.nf_phase.proofs.Common.{hop_of, hops, Sets, slack, slacks_of, sets_at, IsExtension, IsUnending, IsPhaseLength, slack_list, extend_list, Advanced}
+use Rattle.nf_phase.proofs.Common.{advance_list, LinkStep, curve_list, LinkCurves, amount_so_far, Found, Standing, PhaseStep, IsSearchHere, phase_lists}
+use Rattle.nf_phase.proofs.Common.{advanced_exact, length-moved, label_count_at, part_ok, StepFault, PhaseStart, Phase, of_halt, Reaches, IsFaultOf}
+use Rattle.nf_phase.proofs.Common.{step_in, IsFound, ListsPass, LeadsOn}
 use Rattle.nf_phase.proofs.Reached.{Stands, Stands-reached, active_count}
 use Rattle.nf_phase.proofs.Found.{by_fault, seeks_here, seeks_below, extend_cause, advance_cause, curve_cause, lists_made, phase_length}
 

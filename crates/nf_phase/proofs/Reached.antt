@@ -1,31 +1,12 @@
 -- Facts on every reachable run state, and the preconditions of the search for the next phase.
-use Rattle.std.proofs.Common.{◌≡◌, ℕ, List, length, true, sym, ap, subst, ◌∙◌}
-use Rattle.std.specs.Prelude.{None, is_none}
-use Rattle.std.proofs.lemmas.List.{length-map, length-replicate}
-use Rattle.nf_rational.specs.Rational.{ℚ}
-use Rattle.nf_rational.specs.Operations.{0ℚ}
-use Rattle.nf_rational.specs.Order.{lt_ℚ}
-use Rattle.nf_rational_laws.proofs.Order.{not_both_ℚ}
-use Rattle.nf_rational_laws.proofs.Results.{None_of_test}
-use Rattle.nf_frac_def.specs.Passing.{Passing}
+use Rattle.std.proofs.Common.{◌≡◌, ℕ, List, length, true, sym, ap, subst, ◌∙◌, None, is_none}
+use Rattle.nf_phase.proofs.Common.{length-map, length-replicate, ℚ, 0ℚ, lt_ℚ, not_both_ℚ, None_of_test, Passing, Has, Link, Network, IsNetwork, IsLink}
+use Rattle.nf_phase.proofs.Common.{hop_of, hops, unbounded, slack, slacks_of, sets_at, Pattern, HasState, IsPattern, IsListedIn, IsBase, slack_of_resetting}
+use Rattle.nf_phase.proofs.Common.{Standing, IsStart, Goes, from_map, NoneResetsUnbounded, AreSetsOf, WellRun, WellRun-start, WellRun-counted, WellRun-goes}
+use Rattle.nf_phase.proofs.Common.{unbounded_slack_at, with_last, IsRestored, Reaches, starts, restored, goes_on, keeps_on, well_restored, last_restored}
 use Rattle.nf_model.specs.declared.State.TheVariants.{Full}
-use Rattle.nf_model.specs.Entries.{Has}
-use Rattle.nf_model.specs.Network.{Link, Network, IsNetwork, IsLink, hop_of, hops, unbounded}
-use Rattle.nf_model.specs.ThinFlow.{slack, slacks_of, sets_at}
-use Rattle.nf_model.specs.Pattern.{Pattern, HasState, IsPattern, IsListedIn, IsBase}
-use Rattle.nf_model_laws.proofs.Slacks.{slack_of_resetting}
-use Rattle.nf_thin_def.specs.PhaseRun.{Standing, IsStart, Goes}
-use Rattle.nf_thin_laws.proofs.Ending.{from_map}
 use Rattle.nf_pattern.proofs.FirstPatterns.{base_is_pattern, none_full}
-use Rattle.nf_thin.specs.Questions.{NoneResetsUnbounded, AreSetsOf}
 use Rattle.nf_thin_laws.proofs.ActiveLinks.{AreSets-sets_at}
-use Rattle.nf_phase_laws.proofs.WellRun.{WellRun, WellRun-start, WellRun-counted}
-use Rattle.nf_phase_laws.proofs.Run.{WellRun-goes}
-use Rattle.nf_phase_laws.proofs.Standing.{unbounded_slack_at}
-use Rattle.nf_phase_def.specs.Open.{with_last}
-use Rattle.nf_phase_def.specs.Restoring.{IsRestored}
-use Rattle.nf_phase.specs.Stepping.{Reaches, starts, restored, goes_on, keeps_on}
-use Rattle.nf_phase_equilibrium_laws.proofs.RestoredRun.{well_restored, last_restored}
 
 -- The curves are those of a run, and the last pattern is a pattern of the network's links.
 pub record Stands (net : Network) (s : Standing) : Type 0 where

@@ -1,11 +1,6 @@
 -- The run state after a phase that is no remainder of an interrupted phase.
 use Rattle.std.proofs.Common.{◌≡◌, Bool, true, false, refl, sym}
-use Rattle.std.proofs.lemmas.Bool.{false≢true}
-use Rattle.nf_model.specs.Network.{Network}
-use Rattle.nf_thin_def.specs.PhaseRun.{Standing}
-use Rattle.nf_phase.specs.declared.phase.Phase.{Phase}
-use Rattle.nf_phase.specs.Finding.{after_phase}
-use Rattle.nf_phase.specs.OpenRuns.{after_rest}
+use Rattle.nf_phase.proofs.Common.{false≢true, Network, Standing, Phase, after_phase, after_rest}
 
 pub phase_made : (rests : Bool) (net : Network) (s : Standing) (phase : Phase) → rests ≡ false → after_phase net s phase ≡ after_rest rests net s phase
 phase_made true net s phase e = absurd (false≢true (sym e))

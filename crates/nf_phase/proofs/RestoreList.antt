@@ -1,24 +1,10 @@
 -- The restoring operations, composed of those of the labels and of the links, and the parts of the given flow.
-use Rattle.std.proofs.Common.{◌≡◌, List, [], ◌∷◌, length, map, refl, sym, ap, ◌∙◌}
-use Rattle.std.specs.Prelude.{Result, Ok, Err}
-use Rattle.std.proofs.lemmas.List.{length-map}
-use Rattle.nf_rational.specs.Rational.{ℚ}
-use Rattle.nf_frac_def.specs.Passing.{Passing}
-use Rattle.nf_frac_def.specs.declared.Part.TheVariants.{Curve}
-use Rattle.nf_frac_def.specs.declared.Passed.{Passed}
-use Rattle.nf_frac_def.specs.declared.PassedAt.{PassedAt}
-use Rattle.nf_frac_def.specs.Checked.{each, at_part}
-use Rattle.nf_model.specs.Pattern.{Pattern}
-use Rattle.nf_model.specs.Network.{Network}
-use Rattle.nf_model.specs.Equilibrium.{Trace, Flow, Equilibrium}
-use Rattle.nf_thin_def.specs.ReportCurves.{GrowingCurve, LinkCurves}
-use Rattle.nf_thin_def.specs.PhaseRun.{Standing}
-use Rattle.nf_phase_def.specs.Restoring.{value_at_end, link_curves_of, growing, restore_list}
-use Rattle.nf_curve.specs.Points.{Grown}
+use Rattle.std.proofs.Common.{◌≡◌, List, [], ◌∷◌, length, map, refl, sym, ap, ◌∙◌, Result, Ok, Err}
+use Rattle.nf_phase.proofs.Common.{length-map, ℚ, Passing, Curve, Passed, PassedAt, each, at_part, Pattern, Network, Trace, Flow, Equilibrium, GrowingCurve}
+use Rattle.nf_phase.proofs.Common.{LinkCurves, Standing, value_at_end, link_curves_of, growing, Grown, after_err, after_ok, err_before, ok_before, of_links}
+use Rattle.nf_phase_def.specs.Restoring.{restore_list}
 use Rattle.nf_curve.specs.Flows.{seen_trace, seen_flow as flow_in}
 use Rattle.nf_curve.specs.declared.flow.Flow as code
-use Rattle.nf_curve.proofs.Exits.{after_err, after_ok, err_before, ok_before}
-use Rattle.nf_phase_curves.specs.Restoring.{of_links}
 
 -- ---- the whole list
 module _ (passes : Passing) (flow : Flow) (last : Pattern) where

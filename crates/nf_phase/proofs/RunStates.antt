@@ -1,8 +1,5 @@
 -- What every reachable run state satisfies.
-use Rattle.nf_frac_def.specs.Passing.{Passing}
-use Rattle.nf_model.specs.Network.{Network, IsNetwork}
-use Rattle.nf_thin_def.specs.PhaseRun.{Standing}
-use Rattle.nf_phase.specs.Stepping.{Reaches, IsRunState}
+use Rattle.nf_phase.proofs.Common.{Passing, Network, IsNetwork, Standing, Reaches, IsRunState}
 use Rattle.nf_phase.proofs.ShortReached.{short_reached, keeps_reached}
 use Rattle.nf_phase.proofs.Stepped.{equilibrium_reached, ends_reached}
 

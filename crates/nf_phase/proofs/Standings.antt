@@ -1,9 +1,6 @@
 -- Equality of run states, part by part.
 use Rattle.std.proofs.Common.{◌≡◌, List, ap, ◌∙◌}
-use Rattle.nf_rational.specs.Rational.{ℚ}
-use Rattle.nf_model.specs.Pattern.{Pattern}
-use Rattle.nf_thin_def.specs.ReportCurves.{GrowingCurve, LinkCurves}
-use Rattle.nf_thin_def.specs.PhaseRun.{Standing}
+use Rattle.nf_phase.proofs.Common.{ℚ, Pattern, GrowingCurve, LinkCurves, Standing}
 
 -- Equal labels.
 pub same_parts : (time : ℚ) (labels other : List ℚ) (label_curves : List GrowingCurve) (link_curves : List LinkCurves) (last : Pattern) → labels ≡ other

@@ -1,33 +1,15 @@
 -- A found phase extends the run: the preconditions of the extension, and its result.
-use Rattle.std.proofs.Common.{◌≡◌, ℕ, suc, List, [], ◌∷◌, length, sym, ap, subst, refl, ◌∙◌}
-use Rattle.std.specs.Prelude.{Bool, true, false, Some, slice_get, MatchBool}
-use Rattle.nf_rational.specs.Rational.{ℚ}
-use Rattle.nf_rational.specs.Operations.{0ℚ, ◌+ℚ◌}
-use Rattle.nf_rational.specs.Order.{◌<ℚ◌}
+use Rattle.std.proofs.Common.{◌≡◌, ℕ, suc, List, [], ◌∷◌, length, sym, ap, subst, refl, ◌∙◌, Bool, true, false, Some, slice_get, MatchBool}
+use Rattle.nf_phase.proofs.Common.{ℚ, 0ℚ, ◌+ℚ◌, ◌<ℚ◌, Passing, number_at, Network, IsNetwork, hops, slacks_of, sets_at, Pattern, Equilibrium, GrowingCurve}
+use Rattle.nf_phase.proofs.Common.{LinkCurves, label_curves_after, link_curves_after, Standing, Goes, flow_of, time_of_last, EndsAtLabels, PhaseParts}
+use Rattle.nf_phase.proofs.Common.{phase_parts, reached_by, IsPhase-goes, Equilibrium-well, label_count_at, source_label_at, ends_at, Continues, Steps}
+use Rattle.nf_phase.proofs.Common.{continues, begins, Phase, after_rest, Reaches, goes_on, keeps_on, LeadsOnlyTo, step_in, after_phase, LeadsOn}
 use Rattle.nf_rational_laws.proofs.Polynomial.{reading_of}
 use Rattle.nf_rational_laws.proofs.Linear.{lt, linear_lt}
-use Rattle.nf_frac_def.specs.Passing.{Passing}
-use Rattle.nf_model.specs.Entries.{number_at}
-use Rattle.nf_model.specs.Network.{Network, IsNetwork, hops}
-use Rattle.nf_model.specs.ThinFlow.{slacks_of, sets_at}
-use Rattle.nf_model.specs.Pattern.{Pattern}
-use Rattle.nf_model.specs.Equilibrium.{Equilibrium}
-use Rattle.nf_thin_def.specs.ReportCurves.{GrowingCurve, LinkCurves, label_curves_after, link_curves_after}
-use Rattle.nf_thin_def.specs.PhaseRun.{Standing, Goes, flow_of}
-use Rattle.nf_thin_def.specs.Ends.{time_of_last, EndsAtLabels}
-use Rattle.nf_thin_laws.proofs.Ending.{PhaseParts, phase_parts}
 use Rattle.nf_phase_laws.proofs.Length.{IsPhaseLength-some}
 use Rattle.nf_thin_laws.proofs.Agree.{IsPhase-unique}
-use Rattle.nf_phase_laws.specs.RunLaws.{reached_by}
 use Rattle.nf_phase_laws.proofs.StepValues.{steps-length}
-use Rattle.nf_phase_laws.proofs.Run.{IsPhase-goes, Equilibrium-well}
-use Rattle.nf_phase_laws.proofs.Standing.{label_count_at, source_label_at, ends_at}
 use Rattle.nf_phase_laws.proofs.Moving.{inflow_moves, outflow_moves, queue_steps}
-use Rattle.nf_phase_def.specs.Open.{Continues, Steps, continues, begins}
-use Rattle.nf_phase.specs.declared.phase.Phase.{Phase}
-use Rattle.nf_phase.specs.OpenRuns.{after_rest}
-use Rattle.nf_phase.specs.Stepping.{Reaches, goes_on, keeps_on, LeadsOnlyTo}
-use Rattle.nf_phase.specs.Finding.{step_in, after_phase, LeadsOn}
 use Rattle.nf_phase_curves.specs.LinkGrowth.{AllLinksEndBefore}
 use Rattle.nf_phase.proofs.Reached.{Stands, Stands-reached}
 

@@ -1,13 +1,7 @@
 -- From the fault of a step to the cause that stops the run.
-use Rattle.std.proofs.Common.{◌≡◌, ℕ, subst}
-use Rattle.std.specs.Prelude.{Some}
-use Rattle.std.proofs.lemmas.Option.{same_Some}
-use Rattle.nf_rational.specs.Rational.{ℚ}
-use Rattle.nf_net_def.specs.declared.Cause.{Cause}
+use Rattle.std.proofs.Common.{◌≡◌, ℕ, subst, Some}
+use Rattle.nf_phase.proofs.Common.{same_Some, ℚ, Cause, StepFault, IsFaultOf, cause_of}
 use Rattle.nf_thin.specs.declared.fault.SearchFault.TheVariants as SearchFault
-use Rattle.nf_phase.specs.declared.fault.StepFault.{StepFault}
-use Rattle.nf_phase.specs.Stepping.{IsFaultOf}
-use Rattle.nf_phase.specs.Solution.{cause_of}
 
 pub stands_stop : (Causes : Cause ℚ → Type 0) (phase : ℕ) (fault : StepFault) → IsFaultOf Causes phase fault → (cause : Cause ℚ) → cause_of phase fault ≡ Some cause → Causes cause
 stands_stop Causes phase (StepFault.Search (SearchFault.Budget tried)) h cause e = subst Causes (same_Some _ cause e) h

@@ -1,24 +1,10 @@
 -- A phase of greatest length: its end and its result.
-use Rattle.std.proofs.Common.{◌≡◌, ℕ, suc, List, refl, sym, subst, ◌∙◌}
-use Rattle.std.specs.Prelude.{Option, Some, None, Result, Ok, Err, IfErr}
-use Rattle.std.specs.Result.{IsErrAnd}
-use Rattle.nf_rational.specs.Rational.{ℚ}
-use Rattle.nf_frac_def.specs.Passing.{Passing}
-use Rattle.nf_frac_def.specs.Checked.{Checked, at_part}
-use Rattle.nf_frac_def.specs.declared.Part.TheVariants.{Extend}
-use Rattle.nf_frac_def.specs.declared.PassedAt.{PassedAt}
-use Rattle.nf_model.specs.Network.{Network, hops}
-use Rattle.nf_model.specs.ThinFlow.{slacks_of}
+use Rattle.std.proofs.Common.{◌≡◌, ℕ, suc, List, refl, sym, subst, ◌∙◌, Option, Some, None, Result, Ok, Err, IfErr}
+use Rattle.nf_phase.proofs.Common.{IsErrAnd, ℚ, Passing, Checked, at_part, Extend, PassedAt, Network, hops, slacks_of, Standing, end_list, GoesToEnd}
+use Rattle.nf_phase.proofs.Common.{GoesForever, FailsOn, part_ok, StepFault, PhaseStart, Phase, IsFaultOf, IsCauseOn, tail_by, after_phase, IsFound}
+use Rattle.nf_phase.proofs.Common.{FindsNone, ListsPass, LeadsOn}
 use Rattle.nf_net_def.specs.declared.Cause.TheVariants as Cause
-use Rattle.nf_thin_def.specs.PhaseRun.{Standing}
-use Rattle.nf_phase_def.specs.ToEnd.{end_list, GoesToEnd, GoesForever, FailsOn}
-use Rattle.nf_frac_def.proofs.AtPart.{part_ok}
 use Rattle.nf_thin.specs.ThinFlow.{ThinFlow}
-use Rattle.nf_phase.specs.declared.fault.StepFault.{StepFault}
-use Rattle.nf_phase.specs.declared.finding.PhaseStart.{PhaseStart}
-use Rattle.nf_phase.specs.declared.phase.Phase.{Phase}
-use Rattle.nf_phase.specs.Stepping.{IsFaultOf, IsCauseOn, tail_by}
-use Rattle.nf_phase.specs.Finding.{after_phase, IsFound, FindsNone, ListsPass, LeadsOn}
 use Rattle.nf_phase.proofs.Stepped.{made_goes}
 use Rattle.nf_phase.proofs.Found.{part_err, by_fault, stands_as, none_on, extend_on, lists_on}
 

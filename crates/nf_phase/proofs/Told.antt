@@ -1,18 +1,7 @@
 -- The contracts on the flow of a run, and on a run restored from it. (`short_reached` states that its curves are in short form.)
-use Rattle.std.proofs.Common.{◌≡◌, ℕ, ◌<◌, ap, ◌∙◌, arith}
-use Rattle.std.specs.Prelude.{Some, slice_get}
-use Rattle.std.proofs.lemmas.Option.{slice_get_within}
-use Rattle.nf_frac_def.specs.Passing.{Passing}
-use Rattle.nf_model.specs.Entries.{number_at}
-use Rattle.nf_model.specs.Network.{Link, Network, IsNetwork, IsLink}
-use Rattle.nf_model.specs.Equilibrium.{label}
-use Rattle.nf_thin_def.specs.ReportCurves.{LinkCurves}
-use Rattle.nf_thin_def.specs.PhaseRun.{Standing, flow_of}
-use Rattle.nf_thin_def.specs.Ends.{time_of_last, EndsAtLabels}
-use Rattle.nf_phase_laws.proofs.WellRun.{label_points, inflow_points, outflow_points, queue_points}
-use Rattle.nf_rational_laws.proofs.Entries.{entry}
-use Rattle.nf_phase_def.specs.Restoring.{EndsAtItsLabels}
-use Rattle.nf_phase.specs.Stepping.{Reaches}
+use Rattle.std.proofs.Common.{◌≡◌, ℕ, ◌<◌, ap, ◌∙◌, arith, Some, slice_get}
+use Rattle.nf_phase.proofs.Common.{slice_get_within, Passing, number_at, Link, Network, IsNetwork, IsLink, label, LinkCurves, Standing, flow_of}
+use Rattle.nf_phase.proofs.Common.{time_of_last, EndsAtLabels, label_points, inflow_points, outflow_points, queue_points, entry, EndsAtItsLabels, Reaches}
 use Rattle.nf_phase.proofs.Reached.{Stands, Stands-reached}
 use Rattle.nf_phase.proofs.Stepped.{ends_reached}
 use Rattle.nf_phase.proofs.ShortReached.{keeps_reached}

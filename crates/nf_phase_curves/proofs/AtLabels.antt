@@ -1,14 +1,7 @@
 -- The labels of a link's ends, read from the list, and curves that end before these labels.
-use Rattle.std.proofs.Common.{◌≡◌, ℕ, ◌<◌, List, length, get_or, refl, sym, ap, subst, ◌∙◌}
-use Rattle.std.specs.Prelude.{Option, Some, None, IsSome, unwrap_or}
+use Rattle.std.proofs.Common.{◌≡◌, ℕ, ◌<◌, List, length, get_or, refl, sym, ap, subst, ◌∙◌, Option, Some, None, IsSome, unwrap_or}
+use Rattle.nf_phase_curves.proofs.Common.{slice_get_read, ℚ, 0ℚ, ◌<ℚ◌, Point, number_at, time_of_last}
 use Rattle.std.proofs.lemmas.Bool.{false≢true}
-use Rattle.std.proofs.lemmas.Option.{slice_get_read}
-use Rattle.nf_rational.specs.Rational.{ℚ}
-use Rattle.nf_rational.specs.Operations.{0ℚ}
-use Rattle.nf_rational.specs.Order.{◌<ℚ◌}
-use Rattle.nf_model.specs.Curve.{Point}
-use Rattle.nf_model.specs.Entries.{number_at}
-use Rattle.nf_thin_def.specs.Ends.{time_of_last}
 
 pub number_read : (numbers : List ℚ) (v i : ℕ) (number : ℚ) → i ≡ v → v < length numbers → number ≡ get_or numbers i number → number_at numbers v ≡ number
 number_read numbers v i number same inside is =

@@ -1,10 +1,6 @@
 -- A curve that is copied point by point.
-use Rattle.std.proofs.Common.{◌≡◌, ℕ, zero, suc, ◌<◌, List, [], ◌∷◌, take, subst, arith}
-use Rattle.std.specs.Prelude.{Some, slice_get}
-use Rattle.std.proofs.lemmas.Option.{none-some, same_Some}
-use Rattle.nf_rational.specs.Order.{◌<ℚ◌}
-use Rattle.nf_model.specs.Curve.{Point, TimesRise, IsCurve}
-use Rattle.nf_curve.specs.Points.{last_time}
+use Rattle.std.proofs.Common.{◌≡◌, ℕ, zero, suc, ◌<◌, List, [], ◌∷◌, take, subst, arith, Some, slice_get}
+use Rattle.nf_phase_curves.proofs.Common.{none-some, same_Some, ◌<ℚ◌, Point, TimesRise, IsCurve, last_time}
 
 -- ---- the first points
 before_next : (p : Point) (rest : List Point) (i : ℕ) (q : Point) → TimesRise (p ∷ rest) → slice_get (p ∷ rest) (suc i) ≡ Some q → last_time (take (suc i) (p ∷ rest)) <ℚ q.0

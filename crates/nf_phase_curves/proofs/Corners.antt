@@ -1,23 +1,11 @@
 -- An extension of a growing curve by a point.
-use Rattle.std.proofs.Common.{◌≡◌, ℕ, zero, suc, ◌+◌, ◌-◌, List, [], ◌∷◌, ◌++◌, length, Bool, true, false, refl, sym, ap, subst, ◌∙◌, inl, inr, arith}
-use Rattle.std.specs.Prelude.{◌⊎◌, Option, Some, None, slice_get}
-use Rattle.std.specs.List.{last_or}
-use Rattle.std.proofs.lemmas.Option.{slice_get_within}
-use Rattle.std.specs.Option.{option_map_or, option_to_list}
-use Rattle.nf_rational.specs.Rational.{ℚ}
-use Rattle.nf_rational.specs.Operations.{0ℚ}
-use Rattle.nf_rational.specs.Order.{◌≤ℚ◌, ◌<ℚ◌, lt_ℚ}
+use Rattle.std.proofs.Common.{◌≡◌, ℕ, zero, suc, ◌+◌, ◌-◌, List, [], ◌∷◌, ◌++◌, length, Bool, true, false, refl, sym, ap, subst, ◌∙◌, inl, inr, arith, ◌⊎◌}
+use Rattle.std.proofs.Common.{Option, Some, None, slice_get}
+use Rattle.nf_phase_curves.proofs.Common.{last_or, slice_get_within, option_map_or, option_to_list, ℚ, 0ℚ, ◌≤ℚ◌, ◌<ℚ◌, lt_ℚ, Point, Trace, GrowingCurve}
+use Rattle.nf_phase_curves.proofs.Common.{keeps_slope, with_point, with_rate, curve_with, trace_with, time_of_last, same_of_test, last_time, End, points_to}
+use Rattle.nf_phase_curves.proofs.Common.{corners_by, IsAfter, AreBefore, rates_by, end_value, last-append}
 use Rattle.nf_rational_laws.proofs.Tests.{lt_ℚ_cases}
-use Rattle.nf_model.specs.Curve.{Point}
-use Rattle.nf_model.specs.Equilibrium.{Trace}
-use Rattle.nf_thin_def.specs.ReportCurves.{GrowingCurve, keeps_slope, with_point, with_rate, curve_with, trace_with}
-use Rattle.nf_thin_def.specs.Ends.{time_of_last}
 use Rattle.nf_phase_laws.proofs.Points.{end-append}
-use Rattle.nf_rational_laws.proofs.SignTests.{same_of_test}
-use Rattle.nf_curve.specs.Points.{last_time}
-use Rattle.nf_phase_curves.specs.declared.growing.End.{End}
-use Rattle.nf_phase_curves.specs.Growing.{points_to, corners_by, IsAfter, AreBefore, rates_by, end_value}
-use Rattle.nf_rational_laws.proofs.Entries.{last-append}
 use Rattle.nf_rational_laws.proofs.Chains.{<ℚ_trans}
 
 -- ---- the last point

@@ -1,17 +1,9 @@
 -- The slope of the last piece of a curve, and the curve extended with it.
-use Rattle.std.proofs.Common.{◌≡◌, ℕ, zero, suc, ◌+◌, ◌<◌, ◌≤◌, List, [], ◌∷◌, ◌++◌, length, take, refl, sym, ap, subst, ◌∙◌, arith}
-use Rattle.std.specs.Prelude.{◌↔◌, Option, Some, None, IsSome, slice_get, Ok}
-use Rattle.std.specs.Option.{option_to_list}
-use Rattle.std.proofs.lemmas.Option.{none-some, same_Some}
-use Rattle.nf_rational.specs.Rational.{ℚ}
-use Rattle.nf_rational.specs.Order.{◌<ℚ◌}
-use Rattle.nf_frac_def.specs.Passing.{Passing}
-use Rattle.nf_frac_def.specs.Checked.{Checked, ◌>>=◌}
-use Rattle.nf_model.specs.Curve.{Point, TimesRise, IsCurve, AreSlopes}
+use Rattle.std.proofs.Common.{◌≡◌, ℕ, zero, suc, ◌+◌, ◌<◌, ◌≤◌, List, [], ◌∷◌, ◌++◌, length, take, refl, sym, ap, subst, ◌∙◌, arith, ◌↔◌, Option, Some}
+use Rattle.std.proofs.Common.{None, IsSome, slice_get, Ok}
+use Rattle.nf_phase_curves.proofs.Common.{option_to_list, none-some, same_Some, ℚ, ◌<ℚ◌, Passing, Checked, ◌>>=◌, Point, TimesRise, IsCurve, AreSlopes}
+use Rattle.nf_phase_curves.proofs.Common.{checked_slope, last_slope, AreBefore}
 use Rattle.nf_model_laws.proofs.Curves.{IsCurve-rises}
-use Rattle.nf_curve_def.specs.Lines.{checked_slope}
-use Rattle.nf_phase_def.specs.Restoring.{last_slope}
-use Rattle.nf_phase_curves.specs.Growing.{AreBefore}
 
 -- ---- the last two points
 rise_at : (points : List Point) (k : ℕ) (p q : Point) → TimesRise points → slice_get points k ≡ Some p → slice_get points (suc k) ≡ Some q → p.0 <ℚ q.0

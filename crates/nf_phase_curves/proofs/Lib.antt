@@ -1,3 +1,4 @@
+mod Common
 pub mod Queued
 pub mod LinkLoop
 pub mod Corners

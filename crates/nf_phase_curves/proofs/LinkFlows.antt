@@ -1,12 +1,6 @@
 -- The flow over time of growing curves, link by link.
 use Rattle.std.proofs.Common.{◌≡◌, List, [], ◌∷◌, ◌++◌, map, sym, ap, ◌∙◌}
-use Rattle.std.proofs.lemmas.List.{map-append}
-use Rattle.nf_rational.specs.Rational.{ℚ}
-use Rattle.nf_model.specs.Curve.{Point}
-use Rattle.nf_model.specs.Equilibrium.{Trace, Flow}
-use Rattle.nf_thin_def.specs.ReportCurves.{GrowingCurve, LinkCurves}
-use Rattle.nf_phase_curves.specs.Growing.{Roomy, all_grown}
-use Rattle.nf_phase_curves.specs.Flows.{flow_so_far, with_link}
+use Rattle.nf_phase_curves.proofs.Common.{map-append, ℚ, Point, Trace, Flow, GrowingCurve, LinkCurves, Roomy, all_grown, flow_so_far, with_link}
 use Rattle.nf_phase_curves.proofs.Places.{grown_pushed}
 
 module _ (reached : ℚ) (labels : List GrowingCurve) where

@@ -1,20 +1,9 @@
 -- The loop that makes a step of each link.
-use Rattle.std.proofs.Common.{◌≡◌, ℕ, ◌+◌, ◌<◌, List, [], ◌∷◌, ◌++◌, length, sym, subst}
-use Rattle.std.specs.Prelude.{Ok, Err}
-use Rattle.std.specs.List.{enumerate_from}
-use Rattle.nf_rational.specs.Rational.{ℚ}
-use Rattle.nf_frac_def.specs.Passing.{Passing}
-use Rattle.nf_frac_def.specs.declared.Part.TheVariants.{Curve}
-use Rattle.nf_frac_def.specs.declared.PassedAt.{PassedAt}
-use Rattle.nf_frac_def.specs.Checked.{Checked, each, at_part}
-use Rattle.nf_model.specs.Entries.{number_at}
-use Rattle.nf_model.specs.Network.{Link, Network, IsLink}
+use Rattle.std.proofs.Common.{◌≡◌, ℕ, ◌+◌, ◌<◌, List, [], ◌∷◌, ◌++◌, length, sym, subst, Ok, Err}
+use Rattle.nf_phase_curves.proofs.Common.{enumerate_from, ℚ, Passing, Curve, PassedAt, Checked, each, at_part, number_at, Link, Network, IsLink, LinkStep}
+use Rattle.nf_phase_curves.proofs.Common.{link_phase, link_step, front_none, SoFar, one_more, one_passes, entry}
 use Rattle.nf_model.specs.ThinFlow.{Sets}
 use Rattle.nf_model.specs.Pattern.{Pattern}
-use Rattle.nf_thin_def.specs.CurveList.{LinkStep, link_phase, link_step}
-use Rattle.nf_curve.proofs.Exits.{front_none}
-use Rattle.nf_thin_laws.proofs.Numbered.{SoFar, one_more, one_passes}
-use Rattle.nf_rational_laws.proofs.Entries.{entry}
 
 module _ (passes : Passing) (sets : Sets) (pattern : Pattern) (duration : ℚ) (flows slopes labels amounts : List ℚ) where
   -- the step of a link with its number

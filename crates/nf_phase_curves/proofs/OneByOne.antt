@@ -1,24 +1,12 @@
 -- Curves restored one after the other: the curves so far precede the remaining ones.
-use Rattle.std.proofs.Common.{◌≡◌, ℕ, suc, ◌+◌, ◌≤◌, List, [], ◌∷◌, ◌++◌, length, take, drop, map, refl, sym, ap, subst, ◌∙◌, arith}
-use Rattle.std.specs.Prelude.{Some, slice_get, Result, Ok, Err}
+use Rattle.std.proofs.Common.{◌≡◌, ℕ, suc, ◌+◌, ◌≤◌, List, [], ◌∷◌, ◌++◌, length, take, drop, map, refl, sym, ap, subst, ◌∙◌, arith, Some, slice_get}
+use Rattle.std.proofs.Common.{Result, Ok, Err}
+use Rattle.nf_phase_curves.proofs.Common.{map-append, ℚ, Passing, Curve, PassedAt, each, at_part, Point, Trace, GrowingCurve, LinkCurves, link_curves_of}
+use Rattle.nf_phase_curves.proofs.Common.{growing, after_err, after_ok, each_goes, each_stops, each_ends, err_before, ok_before, take_pushed, drop_entry}
+use Rattle.nf_phase_curves.proofs.Common.{Roomy, all_grown, of_link, of_links}
 use Rattle.std.proofs.Math.ListN.{drop_of_length-le}
-use Rattle.std.proofs.lemmas.List.{map-append}
-use Rattle.nf_rational.specs.Rational.{ℚ}
-use Rattle.nf_frac_def.specs.Passing.{Passing}
-use Rattle.nf_frac_def.specs.declared.Part.TheVariants.{Curve}
 use Rattle.nf_frac_def.specs.declared.Passed.{Passed}
-use Rattle.nf_frac_def.specs.declared.PassedAt.{PassedAt}
-use Rattle.nf_frac_def.specs.Checked.{each, at_part}
 use Rattle.nf_frac_def.proofs.Each.{with_front}
-use Rattle.nf_model.specs.Curve.{Point}
-use Rattle.nf_model.specs.Equilibrium.{Trace}
-use Rattle.nf_thin_def.specs.ReportCurves.{GrowingCurve, LinkCurves}
-use Rattle.nf_phase_def.specs.Restoring.{link_curves_of, growing}
-use Rattle.nf_curve.proofs.Exits.{after_err, after_ok, each_goes, each_stops, each_ends, err_before, ok_before}
-use Rattle.nf_pattern.proofs.Each.{take_pushed}
-use Rattle.nf_rational_laws.proofs.Entries.{drop_entry}
-use Rattle.nf_phase_curves.specs.Growing.{Roomy, all_grown}
-use Rattle.nf_phase_curves.specs.Restoring.{of_link, of_links}
 
 -- ---- one value after the other
 module _ {A B : Type 0} (f : A → Result B (Passed ℚ)) (xs : List A) where

@@ -1,12 +1,9 @@
 -- Curves that are changed index by index.
-use Rattle.std.proofs.Common.{◌≡◌, ◌≢◌, ℕ, zero, suc, ◌+◌, ◌<◌, ◌≤◌, List, [], ◌∷◌, ◌++◌, length, set, refl, sym, ap, subst, ◌∙◌, inl, inr, arith}
-use Rattle.std.specs.Prelude.{◌⊎◌, Some, slice_get, Result, Ok, Err}
+use Rattle.std.proofs.Common.{◌≡◌, ◌≢◌, ℕ, zero, suc, ◌+◌, ◌<◌, ◌≤◌, List, [], ◌∷◌, ◌++◌, length, set, refl, sym, ap, subst, ◌∙◌, inl, inr, arith, ◌⊎◌}
+use Rattle.std.proofs.Common.{Some, slice_get, Result, Ok, Err}
+use Rattle.nf_phase_curves.proofs.Common.{option_map, same_Some, slice_get-map, slice_get_within, length-map, IfOk-from_err, Roomy, HasReserve, AllHaveRoom}
+use Rattle.nf_phase_curves.proofs.Common.{all_grown}
 use Rattle.std.specs.Result.{IsErr, OnOk, OnErr}
-use Rattle.std.specs.Option.{option_map}
-use Rattle.std.proofs.lemmas.Option.{same_Some, slice_get-map, slice_get_within}
-use Rattle.std.proofs.lemmas.List.{length-map}
-use Rattle.std.proofs.lemmas.Result.{IfOk-from_err}
-use Rattle.nf_phase_curves.specs.Growing.{Roomy, HasReserve, AllHaveRoom, all_grown}
 use Rattle.nf_rational_laws.proofs.Naturals.{before_or_at}
 
 -- ---- indices of lists

@@ -1,15 +1,8 @@
 -- The result of a queue step if its slope exceeds the bound, and of a link step if a rate or its queue does.
-use Rattle.std.proofs.Common.{◌≡◌, sym, ap, ◌∙◌}
-use Rattle.std.specs.Prelude.{Bool, Option, Some, Ok, Err}
-use Rattle.nf_rational.specs.Rational.{ℚ}
-use Rattle.nf_frac_def.specs.declared.Part.TheVariants.{Curve}
+use Rattle.std.proofs.Common.{◌≡◌, sym, ap, ◌∙◌, Bool, Option, Some, Ok, Err}
+use Rattle.nf_phase_curves.proofs.Common.{ℚ, Curve, PassedAt, Passing, checked, at_part, is_positive, LinkPhase, QueueStep, rate_over, size_at, slope_at}
+use Rattle.nf_phase_curves.proofs.Common.{queue_step, link_step, after_ok, after_err}
 use Rattle.nf_frac_def.specs.declared.Op.TheVariants.{Sum, Difference, Product}
-use Rattle.nf_frac_def.specs.declared.PassedAt.{PassedAt}
-use Rattle.nf_frac_def.specs.Passing.{Passing}
-use Rattle.nf_frac_def.specs.Checked.{checked, at_part}
-use Rattle.nf_rational.specs.Signs.{is_positive}
-use Rattle.nf_thin_def.specs.CurveList.{LinkPhase, QueueStep, rate_over, size_at, slope_at, queue_step, link_step}
-use Rattle.nf_curve.proofs.Exits.{after_ok, after_err}
 
 pub size_passes : (passes : Passing) (link seen : LinkPhase) (rate arrival slack : ℚ) (above : Bool) (p : PassedAt ℚ) → link ≡ seen
     → checked passes Sum link.tail_label link.transit ≡ Ok arrival → checked passes Difference link.head_label arrival ≡ Ok slack

@@ -1,7 +1,7 @@
 -- The labels of a run are the earliest arrivals, as those of each equilibrium are.
 use Rattle.std.proofs.Common.{ℕ, ◌<◌, sym, subst, Option}
-use Rattle.nf_phase_laws.proofs.Common.{ℚ, 0ℚ, ≤ℚ_refl, Passing, number_at, Within, Network, IsNetwork, IsEarliest, label, inflow, Equilibrium, Cause, Report}
-use Rattle.nf_phase_laws.proofs.Common.{Standing, Bounds, IsPhaseRun, IsRunReport, flow_of}
+use Rattle.nf_phase_laws.proofs.Common.{ℚ, 0ℚ, ≤ℚ_refl, Passing, number_at, Within, Network, IsNetwork, IsEarliest, label, inflow, Equilibrium, Cause}
+use Rattle.nf_phase_laws.proofs.Common.{Report, Standing, Bounds, IsPhaseRun, IsRunReport, flow_of}
 use Rattle.nf_phase_laws.proofs.Run.{run_equilibrium, report_equilibrium}
 use Rattle.nf_phase_laws.proofs.ShortRun.{run_keeps}
 

@@ -1,9 +1,9 @@
 -- The curves built phase by phase from the start are those of an equilibrium.
 use Rattle.std.proofs.Common.{◌≡◌, ℕ, ◌<◌, List, [], ◌∷◌, if◌then◌else◌, Bool, true, false, ⊎_elim, sym, ap, subst, refl, ◌∙◌}
 use Rattle.nf_phase_laws.proofs.Common.{ℚ, 0ℚ, ◌+ℚ◌, ◌-ℚ◌, ◌*ℚ◌, ◌≤ℚ◌, ◌<ℚ◌, lt_ℚ, reading_of, ≤ℚ_antisymm, lt_ℚ_cases, eq, eq_times, linear_eq, number_at}
-use Rattle.nf_phase_laws.proofs.Common.{Point, value, slope, Link, Network, IsNetwork, IsLink, hops, rate_at, slacks_of, AreStartLabels, Lasts, IsPhase, Flow}
-use Rattle.nf_phase_laws.proofs.Common.{HasShape, HasSlopes, Equilibrium, quotient-gap, same_from_times, by_first, rate_from-not_negative, HoldsUpTo, StartsEmpty}
-use Rattle.nf_phase_laws.proofs.Common.{GoesOn, DescribesLinks, DescriptionGoesOn, LastPoint, at, CurvesStand, CurvesGoOn, DescriptionStands}
+use Rattle.nf_phase_laws.proofs.Common.{Point, value, slope, Link, Network, IsNetwork, IsLink, hops, rate_at, slacks_of, AreStartLabels, Lasts, IsPhase}
+use Rattle.nf_phase_laws.proofs.Common.{Flow, HasShape, HasSlopes, Equilibrium, quotient-gap, same_from_times, by_first, rate_from-not_negative, HoldsUpTo}
+use Rattle.nf_phase_laws.proofs.Common.{StartsEmpty, GoesOn, DescribesLinks, DescriptionGoesOn, LastPoint, at, CurvesStand, CurvesGoOn, DescriptionStands}
 use Rattle.nf_phase_laws.proofs.Common.{DescriptionCurvesGoOn, Curves, first_points, FirstCurves, GrowByPhases, begin, grow, curves_of}
 use Rattle.nf_phase_laws.proofs.Holds.{IsNashFlow-from_HoldsUpTo, link_within}
 use Rattle.nf_phase_laws.proofs.Start.{HoldsUpTo-start, transit_sum-not_negative}

@@ -1,9 +1,9 @@
 -- Extending the curves over a phase by one point each extends the flow.
 use Rattle.std.proofs.Common.{◌≡◌, ℕ, ◌<◌, List, [], ◌∷◌, ◌++◌, ⊎_elim, sym, ap, subst, refl, ◌∙◌, append_assoc}
 use Rattle.nf_phase_laws.proofs.Common.{ℚ, 0ℚ, ◌+ℚ◌, ◌-ℚ◌, ◌*ℚ◌, ◌≤ℚ◌, ◌<ℚ◌, reading_of, ≤ℚ_of_same, ≤ℚ_of_lt, ≤ℚ_antisymm, lt_or_le_ℚ, le, eq, eq_times}
-use Rattle.nf_phase_laws.proofs.Common.{linear_le, linear_eq, Point, Within, value, slope, Link, Network, IsNetwork, IsLink, IsAffine, same_from_times, EndsAt}
-use Rattle.nf_phase_laws.proofs.Common.{EndsAt-nn, EndsAt-value, EndsAt-push, EndsAt-push_line, EndsAt-push_before, slope-times, GoesOn, LastPoint, GoesOnTo}
-use Rattle.nf_phase_laws.proofs.Common.{at, CurvesStand, CurvesGoOn, ≤ℚ_refl, ≤ℚ_trans}
+use Rattle.nf_phase_laws.proofs.Common.{linear_le, linear_eq, Point, Within, value, slope, Link, Network, IsNetwork, IsLink, IsAffine, same_from_times}
+use Rattle.nf_phase_laws.proofs.Common.{EndsAt, EndsAt-nn, EndsAt-value, EndsAt-push, EndsAt-push_line, EndsAt-push_before, slope-times, GoesOn, LastPoint}
+use Rattle.nf_phase_laws.proofs.Common.{GoesOnTo, at, CurvesStand, CurvesGoOn, ≤ℚ_refl, ≤ℚ_trans}
 use Rattle.nf_model_laws.proofs.Merged.{value-push_or_merge, EndsAt-merged}
 
 pub ends_at : (points : List Point) (p : Point) → LastPoint points p → EndsAt points p

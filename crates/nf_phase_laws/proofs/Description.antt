@@ -1,9 +1,10 @@
 -- Outflows and queues described by departure are the outflows and queues of the links.
 use Rattle.std.proofs.Common.{◌≡◌, ℕ, ◌<◌, List, [], ◌∷◌, ⊎_elim, Option, Some, None, sym, ap, subst, ◌∙◌}
-use Rattle.nf_phase_laws.proofs.Common.{ℚ, 0ℚ, ◌+ℚ◌, ◌-ℚ◌, ◌*ℚ◌, ◌≤ℚ◌, ◌<ℚ◌, max_ℚ, reading_of, ≤ℚ_of_lt, ≤ℚ_antisymm, lt_or_le_ℚ, le, eq, le_times, eq_times}
-use Rattle.nf_phase_laws.proofs.Common.{linear_le, linear_eq, number_at, Within, Link, Network, IsNetwork, IsLink, hops, rate_at, IsQueue, IsOutflow, slacks_of}
-use Rattle.nf_phase_laws.proofs.Common.{sets_at, IsThinFlow, Lasts, AreStartLabels, IsAffine, same_from_times, link_slack, queue_by_slack, sent, HoldsUpTo}
-use Rattle.nf_phase_laws.proofs.Common.{LabelsAre, StartsEmpty, GoesOn, DescribesLinks, DescriptionGoesOn, ≤ℚ_refl, ≤ℚ_trans, max0_none, max0_of}
+use Rattle.nf_phase_laws.proofs.Common.{ℚ, 0ℚ, ◌+ℚ◌, ◌-ℚ◌, ◌*ℚ◌, ◌≤ℚ◌, ◌<ℚ◌, max_ℚ, reading_of, ≤ℚ_of_lt, ≤ℚ_antisymm, lt_or_le_ℚ, le, eq, le_times}
+use Rattle.nf_phase_laws.proofs.Common.{eq_times, linear_le, linear_eq, number_at, Within, Link, Network, IsNetwork, IsLink, hops, rate_at, IsQueue}
+use Rattle.nf_phase_laws.proofs.Common.{IsOutflow, slacks_of, sets_at, IsThinFlow, Lasts, AreStartLabels, IsAffine, same_from_times, link_slack}
+use Rattle.nf_phase_laws.proofs.Common.{queue_by_slack, sent, HoldsUpTo, LabelsAre, StartsEmpty, GoesOn, DescribesLinks, DescriptionGoesOn, ≤ℚ_refl}
+use Rattle.nf_phase_laws.proofs.Common.{≤ℚ_trans, max0_none, max0_of}
 use Rattle.nf_phase_laws.proofs.Idle.{queue_by_slack-low}
 use Rattle.nf_phase_laws.proofs.Holds as held
 use Rattle.nf_phase_laws.proofs.Start.{at_first, label_not_negative, nothing_sent, slack_none}

@@ -1,15 +1,15 @@
 -- The value of the extend list is the extension length.
-use Rattle.std.proofs.Common.{◌≡◌, ℕ, zero, suc, ◌+◌, List, [], ◌∷◌, Bool, true, false, if◌then◌else◌, sym, ap, subst, refl, arith}
-use Rattle.nf_phase_laws.proofs.Common.{Option, Some, None, Ok, slice_get, enumerate_from, none-some, same_Some, ℚ, 0ℚ, ◌+ℚ◌, ◌-ℚ◌, ◌≤ℚ◌, ◌<ℚ◌, lt_ℚ}
-use Rattle.nf_phase_laws.proofs.Common.{reading_of, le, lt, linear_le, linear_false, ≤ℚ_of_lt, ≤ℚ_of_same, less_ps, Passing, number_at, Link, Piece, Network}
-use Rattle.nf_phase_laws.proofs.Common.{IsLink, IsPiece, ArePieces, first_start, next_change, Lasts, IsExtension, IsUnending, StartsRise, StartsRise-pieces}
-use Rattle.nf_phase_laws.proofs.Common.{StartsRise-rest, is_zero, are_opposite, never, ≤ℚ_refl, ≤ℚ_trans, less_of_test, not_less_of_test}
-use Rattle.nf_frac_def.specs.Checked.{checked, fold_checked}
-use Rattle.nf_thin_def.specs.Extend.{to_zero, after_link, least_after, until_change, extend_list}
-use Rattle.nf_thin_laws.proofs.Exact.{extend_list_as}
+use Rattle.std.proofs.Common.{◌≡◌, ℕ, zero, suc, ◌+◌, List, [], ◌∷◌, Bool, true, false, if◌then◌else◌, sym, ap, subst, refl, arith, Option, Some, None, Ok}
+use Rattle.std.proofs.Common.{slice_get}
+use Rattle.nf_phase_laws.proofs.Common.{enumerate_from, none-some, same_Some, ℚ, 0ℚ, ◌+ℚ◌, ◌-ℚ◌, ◌≤ℚ◌, ◌<ℚ◌, lt_ℚ, reading_of, le, lt, linear_le}
+use Rattle.nf_phase_laws.proofs.Common.{linear_false, ≤ℚ_of_lt, ≤ℚ_of_same, less_ps, Passing, number_at, Link, Piece, Network, IsLink, IsPiece, ArePieces}
+use Rattle.nf_phase_laws.proofs.Common.{first_start, next_change, Lasts, IsExtension, IsUnending, StartsRise, StartsRise-pieces, StartsRise-rest, is_zero}
+use Rattle.nf_phase_laws.proofs.Common.{are_opposite, never, ≤ℚ_refl, ≤ℚ_trans, less_of_test, not_less_of_test, fold_checked, to_zero, after_link}
+use Rattle.nf_phase_laws.proofs.Common.{least_after, until_change, extend_list_as, bind_ok}
+use Rattle.nf_frac_def.specs.Checked.{checked}
+use Rattle.nf_thin_def.specs.Extend.{extend_list}
 use Rattle.nf_phase_laws.proofs.Limits.{HoldsUpTo, IsLimit, Both, IsLimit-same, IsLimit-with, IsLimit-lesser}
 use Rattle.nf_phase_laws.proofs.Sides.{KeepsSide, keeps_at_zero, keeps_away, keeps_until}
-use Rattle.nf_frac_def.proofs.Binding.{bind_ok}
 use Rattle.nf_rational_laws.proofs.Results.{same_Ok}
 
 -- ---- one link

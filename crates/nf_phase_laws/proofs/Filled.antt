@@ -1,13 +1,13 @@
 -- The slope of a queue over a phase: inflow rate minus capacity on a filled link, and 0 otherwise.
-use Rattle.std.proofs.Common.{◌≡◌, ℕ, List, [], ◌∷◌, get_or, Bool, true, false, ⊎_elim, sym, ap, subst, refl, ◌∙◌, arith}
-use Rattle.nf_phase_laws.proofs.Common.{Option, Some, None, slice_get, unwrap_or, none-some, same_Some, slice_get-get_or, slice_get_within, ℚ, 0ℚ, ◌+ℚ◌, ◌-ℚ◌}
-use Rattle.nf_phase_laws.proofs.Common.{◌*ℚ◌, ◌/ℚ◌, ◌≤ℚ◌, ◌<ℚ◌, max_ℚ, reading_of, ≤ℚ_of_lt, lt_or_le_ℚ, le, eq, le_times, eq_times, linear_le, linear_eq}
-use Rattle.nf_phase_laws.proofs.Common.{number_at, Has, Link, Network, IsLink, hop_of, hops, unbounded, slack, slacks_of, sets_at, Pattern, NeedsState}
-use Rattle.nf_phase_laws.proofs.Common.{HasState, IsPattern, Fills, Equation, Solves, Meets, slack_after, Lasts, quotient-times, slack_at, active_of_slack}
-use Rattle.nf_phase_laws.proofs.Common.{slack_of_active, resetting_of_slack, slack_of_resetting, is_filled, queue_by_slack, ≤ℚ_refl, max0_of, false≢true}
+use Rattle.std.proofs.Common.{◌≡◌, ℕ, List, [], ◌∷◌, get_or, Bool, true, false, ⊎_elim, sym, ap, subst, refl, ◌∙◌, arith, Option, Some, None, slice_get}
+use Rattle.std.proofs.Common.{unwrap_or}
+use Rattle.nf_phase_laws.proofs.Common.{none-some, same_Some, slice_get-get_or, slice_get_within, ℚ, 0ℚ, ◌+ℚ◌, ◌-ℚ◌, ◌*ℚ◌, ◌/ℚ◌, ◌≤ℚ◌, ◌<ℚ◌, max_ℚ}
+use Rattle.nf_phase_laws.proofs.Common.{reading_of, ≤ℚ_of_lt, lt_or_le_ℚ, le, eq, le_times, eq_times, linear_le, linear_eq, number_at, Has, Link, Network}
+use Rattle.nf_phase_laws.proofs.Common.{IsLink, hop_of, hops, unbounded, slack, slacks_of, sets_at, Pattern, NeedsState, HasState, IsPattern, Fills}
+use Rattle.nf_phase_laws.proofs.Common.{Equation, Solves, Meets, slack_after, Lasts, quotient-times, slack_at, active_of_slack, slack_of_active}
+use Rattle.nf_phase_laws.proofs.Common.{resetting_of_slack, slack_of_resetting, is_filled, queue_by_slack, ≤ℚ_refl, max0_of, false≢true, AreSets-sets_at}
 use Rattle.nf_model.specs.declared.State.{State}
 use Rattle.nf_model.specs.declared.State.TheVariants.{Tight, Full, Zero}
-use Rattle.nf_thin_laws.proofs.ActiveLinks.{AreSets-sets_at}
 use Rattle.nf_phase_laws.proofs.Idle.{queue_by_slack-low}
 use Rattle.nf_phase_laws.proofs.StepValues.{filled_slope}
 

@@ -2,14 +2,13 @@
 use Rattle.std.proofs.Common.{◌≡◌, ℕ, ◌<◌, List, [], ◌∷◌, length, sym, ap, subst, refl, ◌∙◌, arith, Option, Some, None, map, slice_get, unwrap_or}
 use Rattle.nf_phase_laws.proofs.Common.{last_or, option_map_or, same_Some, slice_get_within, ℚ, 0ℚ, ◌+ℚ◌, ◌-ℚ◌, ◌*ℚ◌, ◌/ℚ◌, ◌<ℚ◌, reading_of, eq, linear_eq}
 use Rattle.nf_phase_laws.proofs.Common.{Passing, number_at, Point, Within, AreSlopes, Trace, is_positive, Link, Network, IsNetwork, IsLink, hop_of, hops}
-use Rattle.nf_phase_laws.proofs.Common.{rate_at, slack, slacks_of, sets_at, IsThinFlow, Pattern, IsListedIn, Solves, Meets, slack_after, Lasts, IsPhaseLength}
-use Rattle.nf_phase_laws.proofs.Common.{IsPhase, EndsAt-value, slack_at, slack_after-moved, LinkStep, LinkPhase, link_phase, GrowingCurve, LinkCurves}
-use Rattle.nf_phase_laws.proofs.Common.{curve_with, curves_after, amount_so_far, trace_after, Standing, PhaseStep, standing_after, flow_of, link_slack}
-use Rattle.nf_phase_laws.proofs.Common.{queue_by_slack, LastPoint, GoesOnTo, at, CurvesGoOn, DescriptionCurvesGoOn, Curves, GrowByPhases, grow, curves_of}
-use Rattle.nf_phase_laws.proofs.Common.{last-append, slice_get-image, entry, ≤ℚ_refl, later_by}
-use Rattle.nf_thin_laws.proofs.Ending.{number-moved, length-moved, PhaseParts}
+use Rattle.nf_phase_laws.proofs.Common.{rate_at, slack, slacks_of, sets_at, IsThinFlow, Pattern, IsListedIn, Solves, Meets, slack_after, Lasts}
+use Rattle.nf_phase_laws.proofs.Common.{IsPhaseLength, IsPhase, EndsAt-value, slack_at, slack_after-moved, LinkStep, LinkPhase, link_phase, GrowingCurve}
+use Rattle.nf_phase_laws.proofs.Common.{LinkCurves, curve_with, curves_after, amount_so_far, trace_after, Standing, PhaseStep, standing_after, flow_of}
+use Rattle.nf_phase_laws.proofs.Common.{link_slack, queue_by_slack, LastPoint, GoesOnTo, at, CurvesGoOn, DescriptionCurvesGoOn, Curves, GrowByPhases, grow}
+use Rattle.nf_phase_laws.proofs.Common.{curves_of, last-append, slice_get-image, entry, ≤ℚ_refl, later_by, number-moved, PhaseParts, AreSets-sets_at}
+use Rattle.nf_thin_laws.proofs.Ending.{length-moved}
 use Rattle.nf_thin_laws.proofs.Accepted.{IsThinFlow-accepted}
-use Rattle.nf_thin_laws.proofs.ActiveLinks.{AreSets-sets_at}
 use Rattle.nf_phase_laws.proofs.Holds.{sent-is}
 use Rattle.nf_phase_laws.proofs.Thin.{slack-is}
 use Rattle.nf_phase_laws.proofs.Phases.{Lasts-phase}

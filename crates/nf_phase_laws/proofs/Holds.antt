@@ -1,11 +1,11 @@
 -- A flow that satisfies the invariant of phases is a Nash flow over time.
 use Rattle.std.proofs.Common.{◌≡◌, ◌≢◌, ℕ, ◌<◌, ◌≤◌, [], ◌∷◌, length, get_or, slice_get, ⊎_elim, Option, Some, None, sym, ap, subst, refl, ◌∙◌, arith}
 use Rattle.nf_phase_laws.proofs.Common.{slice_get_within, slice_get_cases, ℚ, 0ℚ, ◌+ℚ◌, ◌-ℚ◌, ◌*ℚ◌, ◌≤ℚ◌, ◌<ℚ◌, max_ℚ, reading_of, ≤ℚ_of_lt, ≤ℚ_antisymm}
-use Rattle.nf_phase_laws.proofs.Common.{lt_or_le_ℚ, not_both_ℚ, less_nn, le, lt, eq, le_times, linear_le, linear_lt, linear_eq, Within, NeverFalls, IsGreatest}
-use Rattle.nf_phase_laws.proofs.Common.{Link, Network, IsNetwork, IsLink, sum_in, sum_out, supply, IsQueue, IsExit, IsOutflow, IsEarliest, Balances, IsNashFlow}
-use Rattle.nf_phase_laws.proofs.Common.{IsPositive, AreLabels, le_from_times, IsOutflow-from_IsQueue, IsOutflow-early, IsEarliest-label, IsPositive-link}
-use Rattle.nf_phase_laws.proofs.Common.{sum_out-same, sum_in-none, sum_out-none, link_slack, queue_by_slack, tail_or, sent, HoldsUpTo, ≤ℚ_refl, ≤ℚ_trans}
-use Rattle.nf_phase_laws.proofs.Common.{in_time}
+use Rattle.nf_phase_laws.proofs.Common.{lt_or_le_ℚ, not_both_ℚ, less_nn, le, lt, eq, le_times, linear_le, linear_lt, linear_eq, Within, NeverFalls}
+use Rattle.nf_phase_laws.proofs.Common.{IsGreatest, Link, Network, IsNetwork, IsLink, sum_in, sum_out, supply, IsQueue, IsExit, IsOutflow, IsEarliest}
+use Rattle.nf_phase_laws.proofs.Common.{Balances, IsNashFlow, IsPositive, AreLabels, le_from_times, IsOutflow-from_IsQueue, IsOutflow-early}
+use Rattle.nf_phase_laws.proofs.Common.{IsEarliest-label, IsPositive-link, sum_out-same, sum_in-none, sum_out-none, link_slack, queue_by_slack, tail_or}
+use Rattle.nf_phase_laws.proofs.Common.{sent, HoldsUpTo, ≤ℚ_refl, ≤ℚ_trans, in_time}
 use Rattle.nf_model_laws.proofs.Exits.{IsOutflow-at_exit}
 use Rattle.nf_phase_laws.proofs.Idle.{max0_cases, waiting-by_slack, IsQueue-before_any}
 

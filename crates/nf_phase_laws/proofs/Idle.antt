@@ -1,8 +1,8 @@
 -- Slacks as waiting times, and queues where nothing enters.
 use Rattle.std.proofs.Common.{◌≡◌, [], ◌∷◌, ⊎_elim, Option, Some, None, sym, refl, ◌∙◌}
-use Rattle.nf_phase_laws.proofs.Common.{ℚ, 0ℚ, ◌+ℚ◌, ◌-ℚ◌, ◌*ℚ◌, ◌/ℚ◌, ◌≤ℚ◌, ◌<ℚ◌, max_ℚ, reading_of, ≤ℚ_of_lt, max_ℚ_cases, max0_none, eq, le_times, linear_le}
-use Rattle.nf_phase_laws.proofs.Common.{linear_eq, IsQueue, waiting, IsPositive, quotient-times, same_from_times, IsQueue-none, IsQueue-step_empty}
-use Rattle.nf_phase_laws.proofs.Common.{IsQueue-at_0, queue_by_slack, ≤ℚ_refl, times_second_zero}
+use Rattle.nf_phase_laws.proofs.Common.{ℚ, 0ℚ, ◌+ℚ◌, ◌-ℚ◌, ◌*ℚ◌, ◌/ℚ◌, ◌≤ℚ◌, ◌<ℚ◌, max_ℚ, reading_of, ≤ℚ_of_lt, max_ℚ_cases, max0_none, eq, le_times}
+use Rattle.nf_phase_laws.proofs.Common.{linear_le, linear_eq, IsQueue, waiting, IsPositive, quotient-times, same_from_times, IsQueue-none}
+use Rattle.nf_phase_laws.proofs.Common.{IsQueue-step_empty, IsQueue-at_0, queue_by_slack, ≤ℚ_refl, times_second_zero}
 
 -- ---- the greater of 0 and a number
 pub max0_cases : {P : Type 0} (s m : ℚ) → m ≡ max_ℚ 0ℚ s → (m ≡ s → 0ℚ ≤ℚ s → P) → (m ≡ 0ℚ → s <ℚ 0ℚ → P) → P

@@ -1,8 +1,8 @@
 -- A phase by lists: its thin flow, its length and the supply during it, in the form that the step theorem requires.
 use Rattle.std.proofs.Common.{◌≡◌, ℕ, List, [], ◌∷◌, sym, subst, ◌∙◌}
 use Rattle.nf_phase_laws.proofs.Common.{ℚ, 0ℚ, ◌+ℚ◌, ◌-ℚ◌, ◌*ℚ◌, ◌≤ℚ◌, ◌<ℚ◌, reading_of, le, eq, linear_le, linear_eq, number_at, Within, Link, Network}
-use Rattle.nf_phase_laws.proofs.Common.{IsNetwork, IsLink, hops, supply, rate_at, slacks_of, sets_at, IsThinFlow, Lasts, slack_at, supplied-goes_on, link_slack}
-use Rattle.nf_phase_laws.proofs.Common.{HoldsUpTo, LabelsAre, GoesOn, ≤ℚ_trans}
+use Rattle.nf_phase_laws.proofs.Common.{IsNetwork, IsLink, hops, supply, rate_at, slacks_of, sets_at, IsThinFlow, Lasts, slack_at, supplied-goes_on}
+use Rattle.nf_phase_laws.proofs.Common.{link_slack, HoldsUpTo, LabelsAre, GoesOn, ≤ℚ_trans}
 use Rattle.nf_phase_laws.proofs.Thin.{slack-is, IsThinBy-of}
 use Rattle.nf_phase_laws.proofs.Phase.{PhaseStep, HoldsUpTo-phase}
 

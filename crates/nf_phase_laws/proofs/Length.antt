@@ -1,10 +1,8 @@
 -- Phases have positive length: from any slacks and slopes on a phase can last for some time.
 use Rattle.std.proofs.Common.{◌≡◌, ℕ, zero, suc, List, [], ◌∷◌, inl, inr, ⊎_elim, Some, slice_get, sym, subst, refl}
-use Rattle.nf_phase_laws.proofs.Common.{ℚ, 0ℚ, 1ℚ, ◌+ℚ◌, ◌-ℚ◌, ◌*ℚ◌, ◌/ℚ◌, ◌≤ℚ◌, ◌<ℚ◌, min_ℚ, reading_of, ≤ℚ_of_lt, ps_times, lt_or_le_ℚ, not_both_ℚ, less_ps}
-use Rattle.nf_phase_laws.proofs.Common.{le, lt, eq, le_times, linear_le, linear_lt, number_at, Within, Link, Piece, Network, Lasts, IsExtension, IsPhaseLength}
-use Rattle.nf_phase_laws.proofs.Common.{IsPhase, quotient-times, ≤ℚ_trans, <_≤_trans, min_left, min_right, min_keeps}
-use Rattle.nf_rational_laws.proofs.Quotient.{/ℚ_is, ps_inv}
-use Rattle.nf_rational_laws.proofs.Facts.{one_ps}
+use Rattle.nf_phase_laws.proofs.Common.{ℚ, 0ℚ, 1ℚ, ◌+ℚ◌, ◌-ℚ◌, ◌*ℚ◌, ◌/ℚ◌, ◌≤ℚ◌, ◌<ℚ◌, min_ℚ, reading_of, ≤ℚ_of_lt, ps_times, lt_or_le_ℚ, not_both_ℚ}
+use Rattle.nf_phase_laws.proofs.Common.{less_ps, le, lt, eq, le_times, linear_le, linear_lt, number_at, Within, Link, Piece, Network, Lasts, IsExtension}
+use Rattle.nf_phase_laws.proofs.Common.{IsPhaseLength, IsPhase, quotient-times, ≤ℚ_trans, <_≤_trans, min_left, min_right, min_keeps, /ℚ_is, ps_inv, one_ps}
 
 -- ---- if each entry of a list allows some time, some time is allowed by all of them
 pub record Fitting {A : Type 0} (xs : List A) (Fits : ℕ → A → ℚ → Type 0) : Type 0 where

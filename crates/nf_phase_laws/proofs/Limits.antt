@@ -1,7 +1,6 @@
 -- A property that holds for the lengths from 0 up to a limit, and for none beyond; without a limit, for every length.
 use Rattle.std.proofs.Common.{◌≡◌, [], ◌∷◌, ⊎_elim, sym, subst, Option, Some, None}
-use Rattle.nf_phase_laws.proofs.Common.{ℚ, 0ℚ, ◌≤ℚ◌, ◌<ℚ◌, min_ℚ, reading_of, le, lt, linear_le, min_ℚ_cases, ≤ℚ_trans}
-use Rattle.nf_thin_def.specs.Extend.{lesser}
+use Rattle.nf_phase_laws.proofs.Common.{ℚ, 0ℚ, ◌≤ℚ◌, ◌<ℚ◌, min_ℚ, reading_of, le, lt, linear_le, min_ℚ_cases, ≤ℚ_trans, lesser}
 
 pub record HoldsUpTo (P : ℚ → Type 0) (limit : ℚ) : Type 0 where
   pub positive : 0ℚ <ℚ limit

@@ -1,8 +1,8 @@
 -- The change of labels in a phase of a run, and the rates of the links that follow.
 use Rattle.std.proofs.Common.{◌≡◌, ℕ, List, [], ◌∷◌, length, Bool, true, false, sym, ap, subst, refl, ◌∙◌, Some, map, slice_get}
-use Rattle.nf_phase_laws.proofs.Common.{same_Some, none-some, ℚ, 0ℚ, ◌+ℚ◌, ◌*ℚ◌, ◌<ℚ◌, reading_of, lt, linear_lt, ps_times, Passing, number_at, Link, Network}
-use Rattle.nf_phase_laws.proofs.Common.{IsLink, sets_at, Pattern, is_positive, QueueStep, LinkStep, LinkPhase, link_phase, amount_so_far, Standing, PhaseStep}
-use Rattle.nf_phase_laws.proofs.Common.{number-moved, PhaseParts}
+use Rattle.nf_phase_laws.proofs.Common.{same_Some, none-some, ℚ, 0ℚ, ◌+ℚ◌, ◌*ℚ◌, ◌<ℚ◌, reading_of, lt, linear_lt, ps_times, Passing, number_at, Link}
+use Rattle.nf_phase_laws.proofs.Common.{Network, IsLink, sets_at, Pattern, is_positive, QueueStep, LinkStep, LinkPhase, link_phase, amount_so_far, Standing}
+use Rattle.nf_phase_laws.proofs.Common.{PhaseStep, number-moved, PhaseParts}
 use Rattle.nf_phase_laws.proofs.StepValues.{rate_value, queue_value, step_value, step_value_at, positive_of}
 
 -- ---- the source of a rate

@@ -1,10 +1,10 @@
 -- A phase preserves the invariant: if it holds up to a departure, it holds up to the end of a phase that begins there.
 use Rattle.std.proofs.Common.{◌≡◌, ◌≢◌, ℕ, ◌<◌, [], ◌∷◌, ⊎_elim, Option, None, sym, ap, subst, refl, ◌∙◌}
-use Rattle.nf_phase_laws.proofs.Common.{slice_get_within, ℚ, 0ℚ, 1ℚ, ◌+ℚ◌, ◌-ℚ◌, ◌*ℚ◌, ◌≤ℚ◌, ◌<ℚ◌, reading_of, ≤ℚ_of_same, ≤ℚ_of_lt, ≤ℚ_antisymm, lt_or_le_ℚ}
-use Rattle.nf_phase_laws.proofs.Common.{not_both_ℚ, le, lt, eq, le_times, eq_times, linear_le, linear_lt, linear_eq, linear_false, Within, NeverFalls, Link}
-use Rattle.nf_phase_laws.proofs.Common.{Network, IsNetwork, IsLink, sum_in, sum_out, supply, IsQueue, IsAffine, same_from_times, IsQueue-same, IsQueue-at_0}
-use Rattle.nf_phase_laws.proofs.Common.{line_takes, IsPositive-link, sum_in-same, sum_out-same, sum_in-line, sum_out-line, link_slack, queue_by_slack, sent}
-use Rattle.nf_phase_laws.proofs.Common.{HoldsUpTo, GoesOn, ≤ℚ_refl, ≤ℚ_trans, same_slacks, in_time, less_le}
+use Rattle.nf_phase_laws.proofs.Common.{slice_get_within, ℚ, 0ℚ, 1ℚ, ◌+ℚ◌, ◌-ℚ◌, ◌*ℚ◌, ◌≤ℚ◌, ◌<ℚ◌, reading_of, ≤ℚ_of_same, ≤ℚ_of_lt, ≤ℚ_antisymm}
+use Rattle.nf_phase_laws.proofs.Common.{lt_or_le_ℚ, not_both_ℚ, le, lt, eq, le_times, eq_times, linear_le, linear_lt, linear_eq, linear_false, Within}
+use Rattle.nf_phase_laws.proofs.Common.{NeverFalls, Link, Network, IsNetwork, IsLink, sum_in, sum_out, supply, IsQueue, IsAffine, same_from_times}
+use Rattle.nf_phase_laws.proofs.Common.{IsQueue-same, IsQueue-at_0, line_takes, IsPositive-link, sum_in-same, sum_out-same, sum_in-line, sum_out-line}
+use Rattle.nf_phase_laws.proofs.Common.{link_slack, queue_by_slack, sent, HoldsUpTo, GoesOn, ≤ℚ_refl, ≤ℚ_trans, same_slacks, in_time, less_le}
 use Rattle.nf_phase_laws.proofs.Idle.{queue_by_slack-low, IsQueue-stays_empty}
 use Rattle.nf_phase_laws.proofs.Holds as held
 use Rattle.nf_phase_laws.proofs.Holds.{link_within}

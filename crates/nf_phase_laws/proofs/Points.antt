@@ -1,12 +1,10 @@
 -- Curves in short form extended by a point: the recorded slope is that of the last two points.
 use Rattle.std.proofs.Common.{◌≡◌, ℕ, suc, List, [], ◌∷◌, ◌++◌, length, Bool, true, false, sym, ap, subst, refl, ◌∙◌, append_assoc, length-append, arith}
-use Rattle.nf_model_laws.proofs.Curves.{IsCurve-rises}
-use Rattle.nf_phase_laws.proofs.Common.{◌-◌, ◌+◌, Option, Some, None, take, last_or, option_map_or, same_Some, ℚ, 0ℚ, ◌-ℚ◌, ◌*ℚ◌, ◌<ℚ◌, reading_of, less_ps, eq}
-use Rattle.nf_phase_laws.proofs.Common.{linear_eq, Point, slope, AreSlopes, same_from_times, slope-times, TimesRise-rest, keeps_slope}
-use Rattle.nf_phase_laws.proofs.Common.{with_point, with_rate, LastPoint, GoesOnTo, last-append, false≢true}
-use Rattle.nf_thin_def.specs.Ends.{time_of_last}
+use Rattle.std.proofs.Common.{◌-◌, ◌+◌, Option, Some, None, take}
+use Rattle.nf_phase_laws.proofs.Common.{IsCurve-rises, last_or, option_map_or, same_Some, ℚ, 0ℚ, ◌-ℚ◌, ◌*ℚ◌, ◌<ℚ◌, reading_of, less_ps, eq, linear_eq}
+use Rattle.nf_phase_laws.proofs.Common.{Point, slope, AreSlopes, same_from_times, slope-times, TimesRise-rest, keeps_slope, with_point, with_rate}
+use Rattle.nf_phase_laws.proofs.Common.{LastPoint, GoesOnTo, last-append, false≢true, time_of_last, same_of_test}
 use Rattle.nf_phase_laws.proofs.CurveSteps.{GoesOnTo-appended, GoesOnTo-replaced}
-use Rattle.nf_rational_laws.proofs.SignTests.{same_of_test}
 
 -- ---- the slope from one point to another
 same_times : (a n r x : ℚ) → n *ℚ a ≡ x → r *ℚ a ≡ x → a *ℚ n ≡ a *ℚ r

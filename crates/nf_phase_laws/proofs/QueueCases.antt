@@ -1,8 +1,8 @@
 -- The queue of a link over one phase. Here c is the capacity, s the slack at the beginning and n the slack after the time t by departure.
 -- The slopes at tail and head are l and m; the flow is x by departure and r by time.
 use Rattle.std.proofs.Common.{◌≡◌, [], ◌∷◌, ◌⊎◌, ⊎_elim, Option, Some, None, sym, subst, refl}
-use Rattle.nf_phase_laws.proofs.Common.{ℚ, 0ℚ, ◌+ℚ◌, ◌-ℚ◌, ◌*ℚ◌, ◌≤ℚ◌, ◌<ℚ◌, max_ℚ, reading_of, ≤ℚ_of_same, ≤ℚ_of_lt, ≤ℚ_antisymm, lt_or_le_ℚ, not_both_ℚ, le}
-use Rattle.nf_phase_laws.proofs.Common.{lt, eq, le_times, eq_times, linear_le, linear_eq, linear_false, IsQueue, IsAffine, IsPositive, le_from_times}
+use Rattle.nf_phase_laws.proofs.Common.{ℚ, 0ℚ, ◌+ℚ◌, ◌-ℚ◌, ◌*ℚ◌, ◌≤ℚ◌, ◌<ℚ◌, max_ℚ, reading_of, ≤ℚ_of_same, ≤ℚ_of_lt, ≤ℚ_antisymm, lt_or_le_ℚ, not_both_ℚ}
+use Rattle.nf_phase_laws.proofs.Common.{le, lt, eq, le_times, eq_times, linear_le, linear_eq, linear_false, IsQueue, IsAffine, IsPositive, le_from_times}
 use Rattle.nf_phase_laws.proofs.Common.{IsQueue-none, IsQueue-step, IsQueue-step_empty, queue_by_slack, ≤ℚ_trans, max0_none, max0_of, times_second_zero}
 use Rattle.nf_phase_laws.proofs.Thin.{LinkLaw}
 

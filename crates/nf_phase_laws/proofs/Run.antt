@@ -1,9 +1,8 @@
 -- The report of a run is an equilibrium.
 use Rattle.std.proofs.Common.{◌≡◌, length, sym, subst, ◌∙◌, Option, map}
-use Rattle.std.proofs.lemmas.List.{length-map}
-use Rattle.nf_phase_laws.proofs.Common.{ℚ, Passing, AreSlopes, Network, IsNetwork, IsPhase, Trace, HasShape, HasSlopes, Equilibrium, Cause, Report}
-use Rattle.nf_phase_laws.proofs.Common.{GrowingCurve, LinkCurves, Standing, Bounds, Goes, Runs, at_horizon, at_phases, fails, goes, IsPhaseRun, IsRunReport}
-use Rattle.nf_phase_laws.proofs.Common.{flow_of, from_map, PhaseParts, phase_parts, GrowByPhases, curves_of}
+use Rattle.nf_phase_laws.proofs.Common.{length-map, ℚ, Passing, AreSlopes, Network, IsNetwork, IsPhase, Trace, HasShape, HasSlopes, Equilibrium, Cause}
+use Rattle.nf_phase_laws.proofs.Common.{Report, GrowingCurve, LinkCurves, Standing, Bounds, Goes, Runs, at_horizon, at_phases, fails, goes, IsPhaseRun}
+use Rattle.nf_phase_laws.proofs.Common.{IsRunReport, flow_of, from_map, PhaseParts, phase_parts, GrowByPhases, curves_of}
 use Rattle.nf_phase_laws.proofs.Holds.{link_within}
 use Rattle.nf_phase_laws.proofs.CurveRun.{Grown, Equilibrium-grown}
 use Rattle.nf_phase_laws.proofs.WellRun.{WellRun, WellRun-start, GrowByPhases-start}

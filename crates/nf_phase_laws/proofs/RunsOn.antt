@@ -1,10 +1,7 @@
 -- Runs whose first phase may be the remainder of an interrupted one. A run from the start is not mid-phase.
 use Rattle.std.proofs.Common.{◌≡◌, ℕ, [], ◌∷◌, length, Option, None, slice_get, sym, ap, ◌∙◌}
-use Rattle.nf_rational_laws.proofs.Entries.{slice_get-replicate}
-use Rattle.nf_phase_laws.proofs.Common.{slice_get_within, ℚ, 0ℚ, ◌+ℚ◌, ◌-ℚ◌, reading_of, eq, linear_eq, Passing, number_at, Link, Network, IsNetwork, IsLink}
-use Rattle.nf_phase_laws.proofs.Common.{Pattern, AreTransitLabels, Cause}
-use Rattle.nf_model_laws.proofs.EarliestTransits.{AreTransitLabels-least}
-use Rattle.nf_thin_def.specs.PhaseRun.{Standing, Bounds, IsStart}
+use Rattle.nf_phase_laws.proofs.Common.{slice_get-replicate, slice_get_within, ℚ, 0ℚ, ◌+ℚ◌, ◌-ℚ◌, reading_of, eq, linear_eq, Passing, number_at, Link}
+use Rattle.nf_phase_laws.proofs.Common.{Network, IsNetwork, IsLink, Pattern, AreTransitLabels, Cause, AreTransitLabels-least, Standing, Bounds, IsStart}
 use Rattle.nf_phase_def.specs.Open.{Continues, Steps, continues, begins, RunsOn, at_horizon, at_phases, fails, steps}
 use Rattle.nf_phase_laws.proofs.WellRun.{WellRun, WellRun-counted}
 use Rattle.nf_phase_laws.proofs.Run.{WellRun-goes}

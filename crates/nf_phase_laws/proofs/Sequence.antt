@@ -1,9 +1,8 @@
 -- The phases of a run are a phase sequence.
 use Rattle.std.proofs.Common.{◌≡◌, ℕ, suc, ◌+◌, List, [], ◌∷◌, length, sym, ap, refl, ◌∙◌, arith, Option, Some, slice_get}
 use Rattle.nf_phase_laws.proofs.Common.{ℚ, Passing, Network, IsNetwork, IsPhase, PhasesFrom, IsPhaseSequence, Cause, Standing, Bounds, Runs, at_horizon}
-use Rattle.nf_phase_laws.proofs.Common.{at_phases, fails, goes, IsPhaseRun}
+use Rattle.nf_phase_laws.proofs.Common.{at_phases, fails, goes, IsPhaseRun, reached_by}
 use Rattle.nf_thin_laws.proofs.Agree.{IsPhaseSequence-agree}
-use Rattle.nf_phase_laws.specs.RunLaws.{reached_by}
 use Rattle.nf_phase_laws.proofs.WellRun.{WellRun, WellRun-start}
 use Rattle.nf_phase_laws.proofs.Run.{WellRun-goes, IsPhase-goes}
 

@@ -1,9 +1,9 @@
 -- Curves in short form stay in short form when extended by a point: no inner point has equal slopes on both sides.
 use Rattle.std.proofs.Common.{◌≡◌, List, [], ◌∷◌, ◌++◌, length, Bool, true, false, sym, ap, subst, refl, ◌∙◌, append_assoc, ◌-◌, Option, Some, None, take}
 use Rattle.nf_phase_laws.proofs.Common.{last_or, same_Some, ℚ, Point, slope, AreSlopes, IsShort, Trace, is_same, GrowingCurve, keeps_slope, with_point}
-use Rattle.nf_phase_laws.proofs.Common.{with_rate, curve_with, trace_with, trace_after, queue_curve_after, QueueStep, last-append, false≢true}
+use Rattle.nf_phase_laws.proofs.Common.{with_rate, curve_with, trace_with, trace_after, queue_curve_after, QueueStep, last-append, false≢true, same_of_test}
+use Rattle.nf_phase_laws.proofs.Common.{is_same-itself}
 use Rattle.nf_phase_laws.proofs.Points.{taken, EndsWithSlope, LastSlope, LastSlope-rates}
-use Rattle.nf_rational_laws.proofs.SignTests.{same_of_test, is_same-itself}
 
 -- ---- the slope of the last two points
 abbrev last_slope : List Point → Option ℚ

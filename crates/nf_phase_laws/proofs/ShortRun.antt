@@ -1,10 +1,10 @@
 -- The curves of a run are in short form in every state, and its labels are their values.
 use Rattle.std.proofs.Common.{◌≡◌, ℕ, zero, suc, ◌<◌, List, [], ◌∷◌, length, Bool, true, false, ap, sym, subst, refl, ◌∙◌, arith, Option, Some, slice_get}
-use Rattle.nf_phase_laws.proofs.Common.{none-some, same_Some, ℚ, ◌+ℚ◌, Passing, number_at, IsShort, AreSlopes, Link, Network, IsNetwork, Pattern, Cause, Report}
-use Rattle.nf_phase_laws.proofs.Common.{is_positive, LinkStep, GrowingCurve, LinkCurves, curve_with, label_curves_after, curves_after, link_curves_after}
-use Rattle.nf_phase_laws.proofs.Common.{first_label_curve, first_trace, first_queue, first_curves, from_map, entry}
-use Rattle.nf_thin_def.specs.PhaseRun.{Standing, PhaseStep, Bounds, IsStart, Goes, Runs, at_horizon, at_phases, fails, goes, IsPhaseRun, IsRunReport, IsShortFlow, standing_after, flow_of}
-use Rattle.nf_phase_laws.specs.RunLaws.{KeepsLabels}
+use Rattle.nf_phase_laws.proofs.Common.{none-some, same_Some, ℚ, ◌+ℚ◌, Passing, number_at, IsShort, AreSlopes, Link, Network, IsNetwork, Pattern, Cause}
+use Rattle.nf_phase_laws.proofs.Common.{Report, is_positive, LinkStep, GrowingCurve, LinkCurves, curve_with, label_curves_after, curves_after}
+use Rattle.nf_phase_laws.proofs.Common.{link_curves_after, first_label_curve, first_trace, first_queue, first_curves, from_map, entry, Standing, PhaseStep}
+use Rattle.nf_phase_laws.proofs.Common.{Bounds, IsStart, Goes, Runs, at_horizon, at_phases, fails, goes, IsPhaseRun, IsRunReport, IsShortFlow}
+use Rattle.nf_phase_laws.proofs.Common.{standing_after, flow_of, KeepsLabels}
 use Rattle.nf_phase_laws.proofs.Points.{LastSlope}
 use Rattle.nf_phase_laws.proofs.Short.{IsShortCurve, IsShortCurve-with, IsShortCurve-queue, IsShort-trace}
 use Rattle.nf_phase_laws.proofs.WellRun.{label_points, inflow_points, outflow_points, queue_points, WellRun, WellRun-start}

@@ -1,10 +1,8 @@
 -- The time for which a link stays on its side: inactive with slack at most 0, or resetting with slack at least 0.
 use Rattle.std.proofs.Common.{◌≡◌, [], ◌∷◌, ◌⊎◌, inl, inr, ⊎_elim, Bool, true, false, sym, refl, ◌&&◌, ◌||◌}
 use Rattle.nf_phase_laws.proofs.Common.{ℚ, 0ℚ, ◌+ℚ◌, ◌-ℚ◌, ◌*ℚ◌, ◌/ℚ◌, ◌≤ℚ◌, ◌<ℚ◌, lt_ℚ, reading_of, le, lt, eq, le_times, linear_le, linear_false}
-use Rattle.nf_phase_laws.proofs.Common.{lt_or_le_ℚ, ps_times, less_ps, ≤ℚ_of_lt, less_of_test, test_of_less, not_less_of_test, Within}
-use Rattle.nf_phase_laws.proofs.Common.{is_zero, are_opposite, ≤ℚ_refl, ≤ℚ_trans, and_parts, false≢true, or_cases}
-use Rattle.nf_rational_laws.proofs.Quotient.{ps_apart, /ℚ-times}
-use Rattle.nf_rational_laws.proofs.SignTests.{zero_of_test}
+use Rattle.nf_phase_laws.proofs.Common.{lt_or_le_ℚ, ps_times, less_ps, ≤ℚ_of_lt, less_of_test, test_of_less, not_less_of_test, Within, is_zero}
+use Rattle.nf_phase_laws.proofs.Common.{are_opposite, ≤ℚ_refl, ≤ℚ_trans, and_parts, false≢true, or_cases, ps_apart, /ℚ-times, zero_of_test}
 use Rattle.nf_phase_laws.proofs.Limits.{HoldsUpTo, HoldsAlways}
 
 pub record KeepsSide (slack change length : ℚ) : Type 0 where

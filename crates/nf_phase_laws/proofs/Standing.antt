@@ -1,8 +1,7 @@
 -- Facts on labels and curves in every run state.
 use Rattle.std.proofs.Common.{◌≡◌, ℕ, ◌<◌, List, length, sym, ap, subst, ◌∙◌, arith, Option, None}
-use Rattle.nf_phase_laws.proofs.Common.{option_map_or, slice_get_within, ℚ, 0ℚ, ◌≤ℚ◌, number_at, Point, Within, Link, Network, IsNetwork, IsLink, hop_of, slack}
-use Rattle.nf_phase_laws.proofs.Common.{Standing, flow_of, LastPoint, at, Curves, curves_of, last-append, ≤ℚ_refl}
-use Rattle.nf_thin_def.specs.Ends.{time_of_last, EndsAtLabels}
+use Rattle.nf_phase_laws.proofs.Common.{option_map_or, slice_get_within, ℚ, 0ℚ, ◌≤ℚ◌, number_at, Point, Within, Link, Network, IsNetwork, IsLink, hop_of}
+use Rattle.nf_phase_laws.proofs.Common.{slack, Standing, flow_of, LastPoint, at, Curves, curves_of, last-append, ≤ℚ_refl, time_of_last, EndsAtLabels}
 use Rattle.nf_phase_laws.proofs.CurveRun.{Grown}
 use Rattle.nf_phase_laws.proofs.Thin.{slack-is}
 use Rattle.nf_phase_laws.proofs.WellRun.{label_points, inflow_points, outflow_points, queue_points, WellRun}

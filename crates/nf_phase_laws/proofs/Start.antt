@@ -1,12 +1,10 @@
 -- The invariant of phases at the start: nothing has entered a link, and the labels are the least transit sums.
 use Rattle.std.proofs.Common.{◌≡◌, ◌≢◌, ℕ, ◌<◌, List, [], ◌∷◌, ⊎_elim, true, false, eqb, sym, ap, subst, ◌∙◌}
-use Rattle.std.proofs.lemmas.Bool.Decides.{eqb_tells}
-use Rattle.nf_phase_laws.proofs.Common.{slice_get_within, ℚ, 0ℚ, ◌+ℚ◌, ◌-ℚ◌, ◌≤ℚ◌, reading_of, ≤ℚ_of_same, ≤ℚ_antisymm, nn_plus, not_both_ℚ, le, eq, linear_le}
-use Rattle.nf_phase_laws.proofs.Common.{linear_eq, number_at, Within, IsWalk, IsLeastTransit, transit_sum, Link, Network, IsNetwork, IsLink, hops, sum_in}
-use Rattle.nf_phase_laws.proofs.Common.{sum_out, supply, IsQueue, AreStartLabels, AreTransitLabels, IsWalk-starts, StartsWith, transit_of-is, IsPositive-link}
-use Rattle.nf_phase_laws.proofs.Common.{sum_in-same, sum_out-same, sum_in-none, sum_out-none, supplied-begins, link_slack, queue_by_slack, sent, HoldsUpTo}
-use Rattle.nf_phase_laws.proofs.Common.{StartsEmpty, ≤ℚ_refl}
-use Rattle.nf_model_laws.proofs.EarliestTransits.{AreTransitLabels-least}
+use Rattle.nf_phase_laws.proofs.Common.{eqb_tells, slice_get_within, ℚ, 0ℚ, ◌+ℚ◌, ◌-ℚ◌, ◌≤ℚ◌, reading_of, ≤ℚ_of_same, ≤ℚ_antisymm, nn_plus, not_both_ℚ, le}
+use Rattle.nf_phase_laws.proofs.Common.{eq, linear_le, linear_eq, number_at, Within, IsWalk, IsLeastTransit, transit_sum, Link, Network, IsNetwork, IsLink}
+use Rattle.nf_phase_laws.proofs.Common.{hops, sum_in, sum_out, supply, IsQueue, AreStartLabels, AreTransitLabels, IsWalk-starts, StartsWith, transit_of-is}
+use Rattle.nf_phase_laws.proofs.Common.{IsPositive-link, sum_in-same, sum_out-same, sum_in-none, sum_out-none, supplied-begins, link_slack, queue_by_slack}
+use Rattle.nf_phase_laws.proofs.Common.{sent, HoldsUpTo, StartsEmpty, ≤ℚ_refl, AreTransitLabels-least}
 use Rattle.nf_phase_laws.proofs.Idle.{queue_by_slack-low, IsQueue-before_any}
 use Rattle.nf_phase_laws.proofs.Holds.{sent-is}
 

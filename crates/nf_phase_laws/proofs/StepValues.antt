@@ -1,12 +1,12 @@
 -- The values of the curve list for a link, in terms of the model's definitions.
 use Rattle.std.proofs.Common.{◌≡◌, ℕ, ◌+◌, List, length, Bool, true, false, ⊎_elim, sym, ap, refl, ◌∙◌, arith, Option, Some, None, Ok, slice_get}
 use Rattle.nf_phase_laws.proofs.Common.{enumerate_from, ℚ, 0ℚ, ◌+ℚ◌, ◌-ℚ◌, ◌*ℚ◌, ◌/ℚ◌, ◌≤ℚ◌, ◌<ℚ◌, lt_ℚ, ≤ℚ_of_lt, lt_ℚ_cases, max0_of, length-enumerated}
-use Rattle.nf_phase_laws.proofs.Common.{Passing, number_at, Link, Network, IsLink, Sets, Pattern, is_positive, never, enumerated, queue_by_slack, false≢true}
-use Rattle.nf_frac_def.proofs.Binding.{bind_at}
+use Rattle.nf_phase_laws.proofs.Common.{Passing, number_at, Link, Network, IsLink, Sets, Pattern, is_positive, never, enumerated, queue_by_slack}
+use Rattle.nf_phase_laws.proofs.Common.{false≢true, bind_at, Checked, ◌>>=◌, QueueStep, LinkStep, LinkPhase, rate_over, size_at, slope_at, queue_step}
+use Rattle.nf_phase_laws.proofs.Common.{link_step, link_phase, curve_list_as}
 use Rattle.nf_frac_def.proofs.Each.{each_length, each_at}
-use Rattle.nf_frac_def.specs.Checked.{Checked, checked, ◌>>=◌}
-use Rattle.nf_thin_def.specs.CurveList.{QueueStep, LinkStep, LinkPhase, rate_over, size_at, slope_at, queue_step, link_step, link_phase, curve_list}
-use Rattle.nf_thin_laws.proofs.Exact.{curve_list_as}
+use Rattle.nf_frac_def.specs.Checked.{checked}
+use Rattle.nf_thin_def.specs.CurveList.{curve_list}
 use Rattle.nf_phase_laws.proofs.Idle.{queue_by_slack-low}
 
 -- ---- the values

@@ -1,13 +1,13 @@
 -- In a thin flow no flow passes a node with a constant label. Otherwise flow would enter it, and only on an unbounded link, whose tail also
 -- has a constant label. Repeating this leads back along active links without end, but these close no cycle.
-use Rattle.std.proofs.Common.{◌≡◌, ◌≢◌, ℕ, ◌<◌, List, [], ◌∷◌, ◌⊎◌, inr, ⊎_elim, Bool, true, false, eqb, Option, Some, None, slice_get, sym, ap, subst, refl, ◌∙◌}
-use Rattle.std.proofs.lemmas.Bool.Decides.{eqb_tells}
-use Rattle.nf_phase_laws.proofs.Common.{ℚ, 0ℚ, 1ℚ, ◌+ℚ◌, ◌-ℚ◌, ◌*ℚ◌, ◌/ℚ◌, ◌≤ℚ◌, ◌<ℚ◌, max_ℚ, reading_of, ≤ℚ_of_same, ≤ℚ_of_lt, ≤ℚ_antisymm, lt_or_le_ℚ}
-use Rattle.nf_phase_laws.proofs.Common.{not_both_ℚ, max_ℚ_cases, le, lt, eq, le_times, linear_le, linear_lt, linear_false, number_at, Has, IsWalk, transit_sum}
-use Rattle.nf_phase_laws.proofs.Common.{Link, Network, IsNetwork, IsLink, hop_of, hops, sum_in, sum_out, slack, sets_at, exit_slope, IsThinFlow, IsPositive}
-use Rattle.nf_phase_laws.proofs.Common.{quotient-times, IsWalk-link, transit_of-is, IsPositive-link, slack_of_active, sum_out-each, sum_in-some, ≤ℚ_trans}
+use Rattle.std.proofs.Common.{◌≡◌, ◌≢◌, ℕ, ◌<◌, List, [], ◌∷◌, ◌⊎◌, inr, ⊎_elim, Bool, true, false, eqb, Option, Some, None, slice_get, sym, ap, subst}
+use Rattle.std.proofs.Common.{refl, ◌∙◌}
+use Rattle.nf_phase_laws.proofs.Common.{eqb_tells, ℚ, 0ℚ, 1ℚ, ◌+ℚ◌, ◌-ℚ◌, ◌*ℚ◌, ◌/ℚ◌, ◌≤ℚ◌, ◌<ℚ◌, max_ℚ, reading_of, ≤ℚ_of_same, ≤ℚ_of_lt, ≤ℚ_antisymm}
+use Rattle.nf_phase_laws.proofs.Common.{lt_or_le_ℚ, not_both_ℚ, max_ℚ_cases, le, lt, eq, le_times, linear_le, linear_lt, linear_false, number_at, Has}
+use Rattle.nf_phase_laws.proofs.Common.{IsWalk, transit_sum, Link, Network, IsNetwork, IsLink, hop_of, hops, sum_in, sum_out, slack, sets_at, exit_slope}
+use Rattle.nf_phase_laws.proofs.Common.{IsThinFlow, IsPositive, quotient-times, IsWalk-link, transit_of-is, IsPositive-link, slack_of_active, sum_out-each}
+use Rattle.nf_phase_laws.proofs.Common.{sum_in-some, ≤ℚ_trans, IsThinFlow-sink}
 use Rattle.nf_model_laws.proofs.Ways.{way_back}
-use Rattle.nf_model_laws.proofs.Totals.{IsThinFlow-sink}
 
 -- ---- a link with flow whose exit slope is 0 is unbounded, and the label of its tail is constant
 no_quotient : (x c q : ℚ) → 0ℚ <ℚ c → 0ℚ <ℚ x → q *ℚ c ≡ x → q ≤ℚ 0ℚ → ⊥

@@ -1,12 +1,12 @@
 -- A thin flow for the sets of the slacks, link by link, in the form that a phase requires.
-use Rattle.std.proofs.Common.{◌≡◌, ◌≢◌, ℕ, ◌<◌, List, [], ◌∷◌, ◌⊎◌, inl, inr, ⊎_elim, Bool, true, false, Option, Some, None, slice_get, sym, ap, subst, refl, ◌∙◌}
-use Rattle.nf_phase_laws.proofs.Common.{unwrap_or, ℚ, 0ℚ, 1ℚ, ◌+ℚ◌, ◌-ℚ◌, ◌*ℚ◌, ◌/ℚ◌, ◌≤ℚ◌, ◌<ℚ◌, max_ℚ, reading_of, ≤ℚ_of_same, ≤ℚ_of_lt, not_both_ℚ}
-use Rattle.nf_phase_laws.proofs.Common.{max_ℚ_cases, le, lt, eq, le_times, linear_le, linear_eq, linear_false, number_at, Within, IsWalk, transit_sum, Link}
-use Rattle.nf_phase_laws.proofs.Common.{Network, IsNetwork, IsLink, hop_of, hops, sum_in, sum_out, Arrives, IsEarliest, slack, sets_at, exit_slope}
-use Rattle.nf_phase_laws.proofs.Common.{exit_slope_at, Enters, IsThinFlow, IsPositive, quotient-times, IsExit-after, IsWalk-link, transit_of-is}
-use Rattle.nf_phase_laws.proofs.Common.{IsPositive-link, active_of_slack, slack_of_active, resetting_of_slack, slack_of_resetting, link_slack, HoldsUpTo}
-use Rattle.nf_phase_laws.proofs.Common.{≤ℚ_refl, max_left, plus_zero_le, same_Some}
-use Rattle.nf_model_laws.proofs.Totals.{IsThinFlow-sink}
+use Rattle.std.proofs.Common.{◌≡◌, ◌≢◌, ℕ, ◌<◌, List, [], ◌∷◌, ◌⊎◌, inl, inr, ⊎_elim, Bool, true, false, Option, Some, None, slice_get, sym, ap, subst}
+use Rattle.std.proofs.Common.{refl, ◌∙◌, unwrap_or}
+use Rattle.nf_phase_laws.proofs.Common.{ℚ, 0ℚ, 1ℚ, ◌+ℚ◌, ◌-ℚ◌, ◌*ℚ◌, ◌/ℚ◌, ◌≤ℚ◌, ◌<ℚ◌, max_ℚ, reading_of, ≤ℚ_of_same, ≤ℚ_of_lt, not_both_ℚ, max_ℚ_cases, le}
+use Rattle.nf_phase_laws.proofs.Common.{lt, eq, le_times, linear_le, linear_eq, linear_false, number_at, Within, IsWalk, transit_sum, Link, Network}
+use Rattle.nf_phase_laws.proofs.Common.{IsNetwork, IsLink, hop_of, hops, sum_in, sum_out, Arrives, IsEarliest, slack, sets_at, exit_slope, exit_slope_at}
+use Rattle.nf_phase_laws.proofs.Common.{Enters, IsThinFlow, IsPositive, quotient-times, IsExit-after, IsWalk-link, transit_of-is, IsPositive-link}
+use Rattle.nf_phase_laws.proofs.Common.{active_of_slack, slack_of_active, resetting_of_slack, slack_of_resetting, link_slack, HoldsUpTo, ≤ℚ_refl, max_left}
+use Rattle.nf_phase_laws.proofs.Common.{plus_zero_le, same_Some, IsThinFlow-sink}
 use Rattle.nf_thin_laws.proofs.LinkLaws.{full_of}
 use Rattle.nf_phase_laws.proofs.Holds.{labels_earliest}
 

@@ -1,9 +1,9 @@
 -- Extensions of the curves of a run in a phase: a curve at a node is extended if the label of the node rises, and unchanged if it is
 -- constant.
 use Rattle.std.proofs.Common.{◌≡◌, List, [], ◌∷◌, Bool, true, false, sym, subst, refl, Option, None}
-use Rattle.nf_phase_laws.proofs.Common.{last_or, ℚ, 0ℚ, ◌+ℚ◌, ◌-ℚ◌, ◌*ℚ◌, ◌/ℚ◌, ◌<ℚ◌, reading_of, ps_times, ≤ℚ_of_same, not_both_ℚ, lt, eq, eq_times, linear_lt}
-use Rattle.nf_phase_laws.proofs.Common.{linear_eq, Point, AreSlopes, Trace, quotient-times, is_positive, LinkPhase, GrowingCurve, keeps_slope, with_point}
-use Rattle.nf_phase_laws.proofs.Common.{with_rate, trace_after, queue_curve_after, queue_by_slack, LastPoint, GoesOnTo}
+use Rattle.nf_phase_laws.proofs.Common.{last_or, ℚ, 0ℚ, ◌+ℚ◌, ◌-ℚ◌, ◌*ℚ◌, ◌/ℚ◌, ◌<ℚ◌, reading_of, ps_times, ≤ℚ_of_same, not_both_ℚ, lt, eq, eq_times}
+use Rattle.nf_phase_laws.proofs.Common.{linear_lt, linear_eq, Point, AreSlopes, Trace, quotient-times, is_positive, LinkPhase, GrowingCurve, keeps_slope}
+use Rattle.nf_phase_laws.proofs.Common.{with_point, with_rate, trace_after, queue_curve_after, queue_by_slack, LastPoint, GoesOnTo}
 use Rattle.nf_phase_laws.proofs.Points.{slope_is, LastSlope, Went, went, AreSlopes-after}
 use Rattle.nf_phase_laws.proofs.StepValues.{filled_slope, rate_value, queue_value, positive_of, none_of}
 

@@ -1,11 +1,10 @@
 -- Properties of the curves of a run in every state; they hold at the start.
-use Rattle.std.proofs.Common.{◌≡◌, ℕ, ◌<◌, List, [], ◌∷◌, length, get_or, if◌then◌else◌, Bool, true, false, sym, ap, subst, refl, ◌∙◌, arith}
-use Rattle.nf_phase_laws.proofs.Common.{Option, Some, slice_get, unwrap_or, slice_get-get_or, ℚ, 0ℚ, ◌-ℚ◌, ◌*ℚ◌, ◌<ℚ◌, reading_of, linear_eq, number_at, Point}
-use Rattle.nf_phase_laws.proofs.Common.{slope, AreSlopes, IsNetwork, Link, Network, IsLink, Pattern, Trace, points_at, points_of, is_positive, GrowingCurve}
-use Rattle.nf_phase_laws.proofs.Common.{LinkCurves, first_label_curve, first_trace, first_queue, first_curves, from_map, FirstCurves, GrowByPhases, begin}
-use Rattle.nf_phase_laws.proofs.Common.{curves_of, slice_get-image}
-use Rattle.std.proofs.lemmas.List.{length-map}
-use Rattle.nf_thin_def.specs.PhaseRun.{Standing, IsStart, flow_of}
+use Rattle.std.proofs.Common.{◌≡◌, ℕ, ◌<◌, List, [], ◌∷◌, length, get_or, if◌then◌else◌, Bool, true, false, sym, ap, subst, refl, ◌∙◌, arith, Option, Some}
+use Rattle.std.proofs.Common.{slice_get, unwrap_or}
+use Rattle.nf_phase_laws.proofs.Common.{slice_get-get_or, ℚ, 0ℚ, ◌-ℚ◌, ◌*ℚ◌, ◌<ℚ◌, reading_of, linear_eq, number_at, Point, slope, AreSlopes, IsNetwork}
+use Rattle.nf_phase_laws.proofs.Common.{Link, Network, IsLink, Pattern, Trace, points_at, points_of, is_positive, GrowingCurve, LinkCurves}
+use Rattle.nf_phase_laws.proofs.Common.{first_label_curve, first_trace, first_queue, first_curves, from_map, FirstCurves, GrowByPhases, begin, curves_of}
+use Rattle.nf_phase_laws.proofs.Common.{slice_get-image, length-map, Standing, IsStart, flow_of}
 use Rattle.nf_phase_laws.proofs.CurveRun.{Grown, grown_by}
 use Rattle.nf_phase_laws.proofs.Points.{slope_is, LastSlope}
 use Rattle.nf_phase_laws.proofs.StepValues.{positive_of}

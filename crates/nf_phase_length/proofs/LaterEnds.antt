@@ -1,22 +1,13 @@
 -- A phase that has an end reaches a later departure.
-use Rattle.std.proofs.Common.{◌≡◌, List, [], ◌∷◌, sym, ◌∙◌}
-use Rattle.std.specs.Prelude.{Option, Some, None, Result, Ok, Err, IfOk, IfSome, MatchOption}
-use Rattle.nf_rational.specs.Rational.{ℚ}
+use Rattle.std.proofs.Common.{◌≡◌, List, [], ◌∷◌, sym, ◌∙◌, Option, Some, None, Result, Ok, Err, IfOk, IfSome, MatchOption}
+use Rattle.nf_phase_length.proofs.Common.{ℚ, Passing, Checked, checked, at_part, Extend, PassedAt, Network, IsExtension, IsUnending, end_after, part_ok}
 use Rattle.nf_rational.specs.Operations.{0ℚ, ◌+ℚ◌}
 use Rattle.nf_rational.specs.Order.{◌<ℚ◌}
 use Rattle.nf_rational_laws.proofs.Polynomial.{reading_of}
 use Rattle.nf_rational_laws.proofs.Linear.{lt, eq, linear_lt}
-use Rattle.nf_frac_def.specs.Passing.{Passing}
-use Rattle.nf_frac_def.specs.Checked.{Checked, checked, at_part}
 use Rattle.nf_frac_def.specs.declared.Op.TheVariants.{Sum}
-use Rattle.nf_frac_def.specs.declared.Part.TheVariants.{Extend}
-use Rattle.nf_frac_def.specs.declared.PassedAt.{PassedAt}
-use Rattle.nf_model.specs.Network.{Network}
-use Rattle.nf_model.specs.Phases.{IsExtension, IsUnending}
-use Rattle.nf_phase_def.specs.ToEnd.{end_after}
 use Rattle.nf_curve_laws.proofs.Operations.{then_ok, checked-is}
 use Rattle.nf_phase_laws.proofs.Length.{IsExtension-some}
-use Rattle.nf_frac_def.proofs.AtPart.{part_ok}
 
 module _ (passes : Passing) (net : Network) (slacks slopes : List ℚ) (time : ℚ) where
   after : (e l : ℚ) → 0ℚ <ℚ l → e ≡ time +ℚ l → time <ℚ e

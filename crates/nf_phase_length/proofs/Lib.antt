@@ -1,3 +1,4 @@
+mod Common
 pub mod Looping
 pub mod Meaning
 pub mod LaterEnds

@@ -1,18 +1,10 @@
 -- The loop over the links.
-use Rattle.std.proofs.Common.{◌≡◌, ℕ, suc, ◌+◌, ◌<◌, ◌≤◌, List, length, drop, sym, ap, subst, arith}
-use Rattle.std.specs.Prelude.{Option, Some, None, slice_get, Ok, Err}
+use Rattle.std.proofs.Common.{◌≡◌, ℕ, suc, ◌+◌, ◌<◌, ◌≤◌, List, length, drop, sym, ap, subst, arith, Option, Some, None, slice_get, Ok, Err}
+use Rattle.nf_phase_length.proofs.Common.{ℚ, Passing, Extend, PassedAt, Checked, fold_checked, at_part, Link, Network, IsLink, least_after, part_ok}
+use Rattle.nf_phase_length.proofs.Common.{after_all}
 use Rattle.std.specs.List.{enumerate_from}
-use Rattle.nf_rational.specs.Rational.{ℚ}
-use Rattle.nf_frac_def.specs.Passing.{Passing}
-use Rattle.nf_frac_def.specs.declared.Part.TheVariants.{Extend}
-use Rattle.nf_frac_def.specs.declared.PassedAt.{PassedAt}
-use Rattle.nf_frac_def.specs.Checked.{Checked, fold_checked, at_part}
-use Rattle.nf_model.specs.Network.{Link, Network, IsLink}
-use Rattle.nf_thin_def.specs.Extend.{least_after}
 use Rattle.nf_thin_laws.proofs.Ending.{enumerated}
-use Rattle.nf_frac_def.proofs.AtPart.{part_ok}
 use Rattle.nf_thin_one.proofs.Folds.{goes_on, stops_in, ends}
-use Rattle.nf_phase_length.specs.Lengths.{after_all}
 use Rattle.nf_rational_laws.proofs.Entries.{entry, length-enumerated}
 
 module _ (passes : Passing) (net : Network) (slacks slopes : List ℚ) where

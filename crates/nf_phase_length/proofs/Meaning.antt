@@ -1,17 +1,9 @@
 -- The value of the extend list is the extension length.
-use Rattle.std.proofs.Common.{◌≡◌, List, sym, ap, ◌∙◌}
-use Rattle.std.specs.Prelude.{Option, Some, None, Result, Ok, Err, IfOk, MatchOption}
-use Rattle.nf_rational.specs.Rational.{ℚ}
-use Rattle.nf_frac_def.specs.Passing.{Passing}
-use Rattle.nf_frac_def.specs.declared.Part.TheVariants.{Extend}
-use Rattle.nf_frac_def.specs.declared.PassedAt.{PassedAt}
-use Rattle.nf_frac_def.specs.Checked.{Checked, at_part, ◌>>=◌}
-use Rattle.nf_model.specs.Network.{Network, ArePieces, next_change}
-use Rattle.nf_model.specs.Phases.{IsExtension, IsUnending}
-use Rattle.nf_thin_def.specs.Extend.{until_change, extend_list}
+use Rattle.std.proofs.Common.{◌≡◌, List, sym, ap, ◌∙◌, Option, Some, None, Result, Ok, Err, IfOk, MatchOption}
+use Rattle.nf_phase_length.proofs.Common.{ℚ, Passing, Extend, PassedAt, Checked, at_part, ◌>>=◌, Network, ArePieces, next_change, IsExtension, IsUnending}
+use Rattle.nf_phase_length.proofs.Common.{until_change, after_all, part_ok}
+use Rattle.nf_thin_def.specs.Extend.{extend_list}
 use Rattle.nf_phase_laws.proofs.Extension.{extension_is, unending_is}
-use Rattle.nf_phase_length.specs.Lengths.{after_all}
-use Rattle.nf_frac_def.proofs.AtPart.{part_ok}
 
 module _ (passes : Passing) (net : Network) (slacks slopes : List ℚ) (time : ℚ) (pieces : ArePieces net.pieces) where
   abbrev Means : Option ℚ → Type 0

@@ -1,10 +1,10 @@
 -- A curve that is below a value is at most that for a while after.
 use Rattle.std.proofs.Common.{◌≡◌, List, [], ◌∷◌, ⊎_elim, pos, sym, subst}
-use Rattle.nf_phase_run_laws.proofs.Common.{ℚ, 0ℚ, whole, ◌+ℚ◌, ◌-ℚ◌, ◌*ℚ◌, ◌/ℚ◌, ◌≤ℚ◌, ◌<ℚ◌, reading_of, ≤ℚ_of_lt, lt_or_le_ℚ, ps_whole, ≤ℚ_refl, ≤ℚ_trans, le}
-use Rattle.nf_phase_run_laws.proofs.Common.{lt, eq, le_times, linear_le, linear_lt, linear_eq, linear_false, later_by, Point, slope, value, IsCurve}
+use Rattle.nf_phase_run_laws.proofs.Common.{ℚ, 0ℚ, whole, ◌+ℚ◌, ◌-ℚ◌, ◌*ℚ◌, ◌/ℚ◌, ◌≤ℚ◌, ◌<ℚ◌, reading_of, ≤ℚ_of_lt, lt_or_le_ℚ, ps_whole, ≤ℚ_refl, ≤ℚ_trans}
+use Rattle.nf_phase_run_laws.proofs.Common.{le, lt, eq, le_times, linear_le, linear_lt, linear_eq, linear_false, later_by, Point, slope, value, IsCurve}
+use Rattle.nf_phase_run_laws.proofs.Common.{middle_in}
 use Rattle.nf_model_laws.proofs.Affine.{quotient-times}
 use Rattle.nf_model_laws.proofs.Curves.{value-before, value-after}
-use Rattle.nf_check_laws.proofs.Broken.{middle_in}
 
 abbrev Between : ℚ → ℚ → Type 0
 Between a b = (m : ℚ) × (a <ℚ m) × (m <ℚ b)

@@ -1,17 +1,12 @@
 -- There is a thin flow for the labels of any departure up to which the invariant of phases holds. So there is one for the labels of an
 -- equilibrium and of a run state.
 use Rattle.std.proofs.Common.{◌≡◌, ℕ, List, subst, Option}
-use Rattle.nf_phase_run_laws.proofs.Common.{ℚ, 0ℚ, ◌≤ℚ◌, not_both_ℚ, ≤ℚ_refl, same_slacks, Passing, Within, Link, Network, IsNetwork, IsLink, hop_of, rate_at}
-use Rattle.nf_phase_run_laws.proofs.Common.{slack, sets_at, Flow, label, Equilibrium, Cause, Report, IsWellFormed, Standing, Bounds, IsPhaseRun, WellRun}
-use Rattle.nf_phase_run_laws.proofs.Common.{WellRun-start, WellRun-runs, WellRun-on, IsResumed, HasThinFlow}
-use Rattle.nf_model_laws.proofs.Slacks.{active_of_slack, slack_of_resetting}
-use Rattle.nf_model_laws.proofs.Supply.{rate_from-not_negative}
+use Rattle.nf_phase_run_laws.proofs.Common.{ℚ, 0ℚ, ◌≤ℚ◌, not_both_ℚ, ≤ℚ_refl, same_slacks, Passing, Within, Link, Network, IsNetwork, IsLink, hop_of}
+use Rattle.nf_phase_run_laws.proofs.Common.{rate_at, slack, sets_at, Flow, label, Equilibrium, Cause, Report, IsWellFormed, Standing, Bounds, IsPhaseRun}
+use Rattle.nf_phase_run_laws.proofs.Common.{WellRun, WellRun-start, WellRun-runs, WellRun-on, IsResumed, HasThinFlow, active_of_slack, slack_of_resetting}
+use Rattle.nf_phase_run_laws.proofs.Common.{rate_from-not_negative, AreSets-sets_at, HoldNoCycle-sets_at, link_slack, HoldsUpTo, LabelsAre, grown_at, End}
+use Rattle.nf_phase_run_laws.proofs.Common.{IsForeverRun, well_forever}
 use Rattle.nf_thin_laws.specs.ActiveLinks.{EachIsEntered}
-use Rattle.nf_thin_laws.proofs.ActiveLinks.{AreSets-sets_at, HoldNoCycle-sets_at}
-use Rattle.nf_phase_laws.specs.Invariant.{link_slack, HoldsUpTo, LabelsAre}
-use Rattle.nf_phase_laws.proofs.Standing.{grown_at}
-use Rattle.nf_forever_def.specs.ForeverRun.{End, IsForeverRun}
-use Rattle.nf_forever_laws.proofs.Run.{well_forever}
 use Rattle.nf_phase_equilibrium_laws.proofs.Invariant.{HoldsUpTo-equilibrium}
 use Rattle.nf_phase_run_laws.proofs.Restarting.{well_restarted}
 use Rattle.nf_complete_laws.specs.Oversupply.{ResetsAreBounded}

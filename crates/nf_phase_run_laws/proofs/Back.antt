@@ -1,19 +1,17 @@
 -- Restoring a run from its report gives the run's state.
-use Rattle.std.proofs.Common.{◌≡◌, ℕ, suc, ◌<◌, List, [], ◌∷◌, ◌++◌, length, Option, Some, None, slice_get, map, sym, ap, subst, refl, ◌∙◌, arith, Result, Ok}
+use Rattle.std.proofs.Common.{◌≡◌, ℕ, suc, ◌<◌, List, [], ◌∷◌, ◌++◌, length, Option, Some, None, slice_get, map, sym, ap, subst, refl, ◌∙◌, arith, Result}
+use Rattle.std.proofs.Common.{Ok}
 use Rattle.nf_phase_run_laws.proofs.Common.{slice_get_within, same_Some, ℚ, Passing, each, Point, slope, IsShort, Link, Network, IsNetwork, IsLink, Flow}
-use Rattle.nf_phase_run_laws.proofs.Common.{points_at, label, GrowingCurve, LinkCurves, Standing, flow_of, checked_slope, then_ok, checked_slope-is, LastPoint}
-use Rattle.nf_phase_run_laws.proofs.Common.{WellRun, number_is, label_points, inflow_points, outflow_points, queue_points, slice_get-image, entry, same_Ok}
-use Rattle.nf_phase_run_laws.proofs.Common.{with_made}
+use Rattle.nf_phase_run_laws.proofs.Common.{points_at, label, GrowingCurve, LinkCurves, Standing, flow_of, checked_slope, then_ok, checked_slope-is}
+use Rattle.nf_phase_run_laws.proofs.Common.{LastPoint, WellRun, number_is, label_points, inflow_points, outflow_points, queue_points, slice_get-image}
+use Rattle.nf_phase_run_laws.proofs.Common.{entry, same_Ok, with_made, same_entries, curves_of, Grown, ShortRun, value_at_end, link_curves_of, standing_of}
+use Rattle.nf_phase_run_laws.proofs.Common.{last_slope, growing, OfLink, CutLink, links_with, cut_short, cut_trace, cut_link, cut_flow_of}
 use Rattle.std.proofs.lemmas.List.{length-map}
 use Rattle.nf_frac_def.proofs.Each.{each_at, each_length}
-use Rattle.nf_thin_laws.proofs.Bases.{same_entries}
-use Rattle.nf_phase_laws.specs.CurveRun.{curves_of}
-use Rattle.nf_phase_laws.proofs.CurveRun.{Grown}
 use Rattle.nf_phase_laws.proofs.Points.{EndsWithSlope, LastSlope}
 use Rattle.nf_phase_laws.proofs.Short.{HasOnePoint}
-use Rattle.nf_phase_laws.proofs.ShortRun.{ShortRun}
-use Rattle.nf_phase_def.specs.Restoring.{value_at_end, link_curves_of, standing_of, last_slope, growing, restore_list}
-use Rattle.nf_resume_def.specs.Resuming.{OfLink, CutLink, links_with, cut_short, cut_trace, cut_link, cut_flow_of, cut_flow}
+use Rattle.nf_phase_def.specs.Restoring.{restore_list}
+use Rattle.nf_resume_def.specs.Resuming.{cut_flow}
 use Rattle.nf_resume_laws.proofs.CutShort.{rest_of}
 use Rattle.nf_phase_equilibrium_laws.proofs.Restored.{value_at_end-is}
 use Rattle.nf_resume_laws.proofs.CutFlow.{of_link, links_with-at, links_with-length}

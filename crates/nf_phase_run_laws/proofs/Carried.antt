@@ -1,11 +1,12 @@
 -- Where all rules but the last hold, what is sent into a link by a departure has come out of it by the label of its head; so flow takes
 -- shortest routes only.
 use Rattle.std.proofs.Common.{◌≡◌, ◌≢◌, ℕ, ◌<◌, List, [], ◌∷◌, length, ⊎_elim, true, false, eqb, slice_get, refl, sym, ap, subst, ◌∙◌}
-use Rattle.nf_phase_run_laws.proofs.Common.{option_map_or, slice_get_within, ℚ, 0ℚ, ◌+ℚ◌, ◌≤ℚ◌, ◌<ℚ◌, reading_of, ≤ℚ_of_lt, ≤ℚ_antisymm, not_both_ℚ, lt_or_le_ℚ}
-use Rattle.nf_phase_run_laws.proofs.Common.{≤ℚ_refl, ≤ℚ_trans, le, eq, linear_le, Point, Within, Link, Network, IsNetwork, IsLink, sum_in, sum_out, supply}
-use Rattle.nf_phase_run_laws.proofs.Common.{Flow, Balances, TakesFlow, points_at, label, inflow, outflow, CanBeChecked, end_at-source, end_at-other, by_source}
+use Rattle.nf_phase_run_laws.proofs.Common.{option_map_or, slice_get_within, ℚ, 0ℚ, ◌+ℚ◌, ◌≤ℚ◌, ◌<ℚ◌, reading_of, ≤ℚ_of_lt, ≤ℚ_antisymm, not_both_ℚ}
+use Rattle.nf_phase_run_laws.proofs.Common.{lt_or_le_ℚ, ≤ℚ_refl, ≤ℚ_trans, le, eq, linear_le, Point, Within, Link, Network, IsNetwork, IsLink, sum_in}
+use Rattle.nf_phase_run_laws.proofs.Common.{sum_out, supply, Flow, Balances, TakesFlow, points_at, label, inflow, outflow, CanBeChecked, end_at-source}
+use Rattle.nf_phase_run_laws.proofs.Common.{end_at-other, by_source, IsOutflow, Label, Inflow, Arrivals, Outflow, Balance, SinkAfter, Route, Holds, ExitAt}
+use Rattle.nf_phase_run_laws.proofs.Common.{AllButRoutesHold}
 use Rattle.std.proofs.lemmas.Bool.Decides.{eqb_tells}
-use Rattle.nf_model.specs.Queue.{IsOutflow}
 use Rattle.nf_model.specs.Earliest.{IsEarliest}
 use Rattle.nf_model_laws.specs.EarliestLaws.{AreLabels, InflowsRise}
 use Rattle.nf_model_laws.proofs.Exists.{HasExit-curve}
@@ -14,9 +15,7 @@ use Rattle.nf_model_laws.proofs.Exits.{IsOutflow-at_exit}
 use Rattle.nf_model_laws.proofs.Earliest.{IsPositive-link, IsEarliest-label, IsEarliest-forward}
 use Rattle.nf_model_laws.proofs.Sums.{sum_in-same, sum_out-same}
 use Rattle.nf_model_laws.proofs.Potential.{sum_to, sum_to-same, sum_to-plus, only_at, only_at-here, only_at-else, sum_to-only, EndsBelow}
-use Rattle.nf_check_def.specs.Rules.{Label, Inflow, Arrivals, Outflow, Balance, SinkAfter, Route, Holds, ExitAt}
 use Rattle.nf_check_laws.proofs.Rising.{label-rises}
-use Rattle.nf_phase_run_laws.specs.VerdictLaws.{AllButRoutesHold}
 use Rattle.nf_phase_run_laws.proofs.Leaving.{IsOutflow-rises}
 use Rattle.nf_phase_run_laws.proofs.After.{Stays, stays}
 use Rattle.nf_model_laws.proofs.Totals.{total, total_in, total_out, total-each}

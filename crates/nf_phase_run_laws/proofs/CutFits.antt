@@ -2,16 +2,18 @@
 use Rattle.std.proofs.Common.{ℕ, List, [], ◌∷◌, ◌++◌, if◌then◌else◌, Some, None, Ok}
 use Rattle.nf_phase_run_laws.proofs.Common.{AllByRecursion, ℚ, 0ℚ, lt_ℚ, Sum, Difference, Product, Quotient, passes_Q, checked, each, Point, Link, Network}
 use Rattle.nf_phase_run_laws.proofs.Common.{Pattern, Trace, Flow, points_at, IsFraction, Report, is_same, GrowingCurve, Standing, IsFractionOrNone}
-use Rattle.nf_phase_run_laws.proofs.Common.{IsFractionPoint, AreFractionPoints, IsFractionTrace, every_append}
+use Rattle.nf_phase_run_laws.proofs.Common.{IsFractionPoint, AreFractionPoints, IsFractionTrace, every_append, points_before, value_from, turning}
+use Rattle.nf_phase_run_laws.proofs.Common.{short_points, checked_slopes, value_at_end, link_curves_of, standing_of, last_slope, growing, OfLink}
+use Rattle.nf_phase_run_laws.proofs.Common.{links_with, CutLink, cut_short, cut_trace, cut_link, cut_flow_of}
 use Rattle.nf_curve_def.specs.Lines.{checked_slope, checked_line}
-use Rattle.nf_curve_def.specs.Values.{points_before, value_from, checked_value, checked_cut}
-use Rattle.nf_curve_def.specs.Short.{turning, short_points, checked_slopes, checked_short}
+use Rattle.nf_curve_def.specs.Values.{checked_value, checked_cut}
+use Rattle.nf_curve_def.specs.Short.{checked_short}
 use Rattle.nf_phase_run_laws.proofs.Lists.{entry_or, all_image}
 use Rattle.nf_phase_run_laws.proofs.Fractions.{AreFractions, either, zero_fraction}
 use Rattle.nf_phase_run_laws.proofs.Fits.{Fits, AreOperands, ok_fits, then_fits, each_fits, one}
 use Rattle.nf_phase_run_laws.proofs.Running.{IsFractionCurve, AreFractionCurves, last_fraction}
-use Rattle.nf_phase_def.specs.Restoring.{value_at_end, link_curves_of, standing_of, last_slope, growing, restore_list}
-use Rattle.nf_resume_def.specs.Resuming.{OfLink, links_with, CutLink, cut_short, cut_trace, cut_link, cut_flow_of, cut_flow, restart_list}
+use Rattle.nf_phase_def.specs.Restoring.{restore_list}
+use Rattle.nf_resume_def.specs.Resuming.{cut_flow, restart_list}
 
 -- ---- a piece, and the value at a time
 slope_fits : (p q : Point) → IsFractionPoint p → IsFractionPoint q → Fits AreOperands IsFraction (checked_slope passes_Q p q)

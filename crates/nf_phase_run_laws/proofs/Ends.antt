@@ -2,17 +2,16 @@
 use Rattle.std.proofs.Common.{◌≡◌, ℕ, suc, List, [], ◌∷◌, ◌⊎◌, inl, inr, ⊎_elim, Option, None, sym, ap, subst, refl, ◌∙◌, Ok}
 use Rattle.nf_phase_run_laws.proofs.Common.{ℚ, ◌+ℚ◌, ◌≤ℚ◌, ◌<ℚ◌, ≤ℚ_of_lt, ≤ℚ_of_same, not_both_ℚ, reading_of, lt, linear_lt, <_≤_trans, Passing, Network}
 use Rattle.nf_phase_run_laws.proofs.Common.{IsNetwork, hops, slacks_of, Pattern, Flow, Cause, Report, one_start, goes_knows, start_knows, then_ok, WellRun}
-use Rattle.nf_phase_run_laws.proofs.Common.{WellRun-start, WellRun-goes, restore_list, IsResumedReport, closed-at_start, list-stands, with_made, NonePassesNext}
-use Rattle.nf_phase_run_laws.proofs.Common.{RestFits}
-use Rattle.nf_thin_def.specs.PhaseRun.{Standing, Bounds, Goes, phase_lists, Runs, at_horizon, at_phases, fails, goes, IsPhaseRun, IsRunReport, flow_of, report_of}
-use Rattle.nf_phase_laws.proofs.ShortRun.{ShortRun, ShortRun-start, stands_at}
-use Rattle.nf_resume_def.specs.Resuming.{cut_flow, restart_list}
+use Rattle.nf_phase_run_laws.proofs.Common.{WellRun-start, WellRun-goes, restore_list, IsResumedReport, closed-at_start, list-stands, with_made}
+use Rattle.nf_phase_run_laws.proofs.Common.{NonePassesNext, RestFits, Standing, Bounds, Goes, Runs, goes, IsPhaseRun, IsRunReport, flow_of, report_of}
+use Rattle.nf_phase_run_laws.proofs.Common.{ShortRun, ShortRun-start, stands_at, cut_flow, IsPhaseLength-within}
+use Rattle.nf_thin_def.specs.PhaseRun.{phase_lists, at_horizon, at_phases, fails}
+use Rattle.nf_resume_def.specs.Resuming.{restart_list}
 use Rattle.nf_phase_def.specs.Open.{IsOpen, Continues, with_last, continues, begins, RunsOn, at_horizon as ends_on, at_phases as stops_on, fails as fails_on, steps}
 use Rattle.nf_phase_run_laws.proofs.Back.{flow-back, standing-back}
 use Rattle.nf_phase_run_laws.proofs.Once.{same_phase, other_length}
 use Rattle.nf_phase_run_laws.proofs.Rest.{restored, opened, rest-whole}
 use Rattle.nf_phase_run_laws.proofs.Together.{some_cause, Knows, Comes, CutShort, meets}
-use Rattle.nf_phase_laws.proofs.Phases.{IsPhaseLength-within}
 
 -- ---- run states that differ in the number of phases
 made_again : (s t : Standing) (n : ℕ) → t ≡ with_made n s → t ≡ with_made t.made s

@@ -1,10 +1,10 @@
 -- Computations from fractions: the values that they give, and the operands of the operation that passes.
 use Rattle.std.proofs.Common.{◌≡◌, List, [], ◌∷◌, Bool, true, false, if◌then◌else◌, refl, subst, Result, Ok, Err}
-use Rattle.nf_phase_run_laws.proofs.Common.{AllByRecursion, ℚ, Op, passes_Q, result_of, IsFraction, same_Ok, same_Err}
+use Rattle.nf_phase_run_laws.proofs.Common.{AllByRecursion, ℚ, Op, passes_Q, result_of, IsFraction, same_Ok, same_Err, Passed, Checked, each, fold_checked}
+use Rattle.nf_phase_run_laws.proofs.Common.{placed, at_part, ◌>>=◌}
 use Rattle.nf_frac_def.specs.declared.Part.{Part}
-use Rattle.nf_frac_def.specs.declared.Passed.{Passed}
 use Rattle.nf_frac_def.specs.declared.PassedAt.{PassedAt}
-use Rattle.nf_frac_def.specs.Checked.{Checked, checked, each, fold_checked, placed, at_part, ◌>>=◌}
+use Rattle.nf_frac_def.specs.Checked.{checked}
 use Rattle.nf_phase_run_laws.proofs.Fractions.{result_fraction}
 
 -- the value has a property, and what is passed has another

@@ -1,19 +1,19 @@
 -- Which numbers are fractions of a file: 0 and 1, the results of operations that don't pass, and the numbers of a network.
-use Rattle.std.proofs.Common.{◌≡◌, ℕ, ◌*◌, ◌/◌, ◌≤◌, ◌||◌, Bool, true, false, if◌then◌else◌, List, [], ◌∷◌, nat_lt, nat_abs, ℤ, pos, ◌+ℤ◌, ◌*ℤ◌, neg_ℤ, refl, sym, subst, arith, Option, Some, None, unwrap_or, lit≤}
+use Rattle.std.proofs.Common.{◌≡◌, ℕ, ◌*◌, ◌/◌, ◌≤◌, ◌||◌, Bool, true, false, if◌then◌else◌, List, [], ◌∷◌, nat_lt, nat_abs, ℤ, pos, ◌+ℤ◌, ◌*ℤ◌, neg_ℤ}
+use Rattle.std.proofs.Common.{refl, sym, subst, arith, Option, Some, None, unwrap_or, lit≤}
 use Rattle.nf_phase_run_laws.proofs.Common.{AllByRecursion, Op, Sum, Difference, Product, Quotient, number_at, Hop, Link, Piece, Network, hop_of, hops}
-use Rattle.nf_phase_run_laws.proofs.Common.{rate_from, rate_at, first_start, next_change, IsFraction, IsFractionPiece, IsFractionOrNone}
-use Rattle.std.proofs.lemmas.Bool.{le-ltb, ltb-false, or_parts, or_from}
+use Rattle.nf_phase_run_laws.proofs.Common.{rate_from, rate_at, first_start, next_change, IsFraction, IsFractionPiece, IsFractionOrNone, le-ltb, ltb-false}
+use Rattle.nf_phase_run_laws.proofs.Common.{or_parts, or_from, ℚ, 0ℚ, 1ℚ, le_ℚ, lt_ℚ, passes_Q, result_of, sum_is_wide, one_if}
 use Rattle.nf_rational.specs.Gcd.{gcd}
-use Rattle.nf_rational.specs.Rational.{ℚ, ratio}
-use Rattle.nf_rational.specs.Operations.{whole, 0ℚ, 1ℚ, neg_ℚ, ◌+ℚ◌, ◌-ℚ◌}
-use Rattle.nf_rational.specs.Order.{le_ℚ, lt_ℚ, min_ℚ}
+use Rattle.nf_rational.specs.Rational.{ratio}
+use Rattle.nf_rational.specs.Operations.{whole, neg_ℚ, ◌+ℚ◌, ◌-ℚ◌}
+use Rattle.nf_rational.specs.Order.{min_ℚ}
 use Rattle.nf_rational_laws.proofs.Lowest.{plus_over_lcm}
 use Rattle.nf_rational_laws.proofs.Ints.{abs-neg}
-use Rattle.nf_frac_def.specs.Passing.{passes_Q, result_of, beyond, sum_is_wide}
+use Rattle.nf_frac_def.specs.Passing.{beyond}
 use Rattle.nf_net_def.specs.Numbers.{greatest}
 use Rattle.nf_net_laws.proofs.LinesBack.{within}
 use Rattle.nf_net_laws.proofs.NumbersKept.{lowest_num, lowest_den}
-use Rattle.nf_thin_def.specs.Equations.{one_if}
 use Rattle.nf_phase_run_laws.proofs.Lists.{entry_or, all_image}
 
 abbrev pub AreFractions : List ℚ → Type 0

@@ -1,12 +1,11 @@
 -- Cutting a curve in short form at its end doesn't change it or its rates.
 use Rattle.std.proofs.Common.{◌≡◌, ◌≢◌, List, [], ◌∷◌, ◌++◌, ⊎_elim, Bool, true, false, refl, sym, ap, ◌∙◌, Ok, if◌then◌else◌}
-use Rattle.nf_phase_run_laws.proofs.Common.{ℚ, ◌≤ℚ◌, ◌<ℚ◌, lt_ℚ, ≤ℚ_of_lt, test_of_not_less, test_of_less, ≤ℚ_refl, ≤ℚ_trans, <_≤_trans}
-use Rattle.nf_phase_run_laws.proofs.Common.{Passing, Checked, ◌>>=◌, Point, slope, TimesRise, IsShort, AreSlopes, Trace, is_same, checked_line, then_ok}
-use Rattle.nf_phase_run_laws.proofs.Common.{is_same_cases, LastPoint, cut_short, cut_trace, same_Ok}
-use Rattle.nf_curve_def.specs.Values.{points_before, value_from, checked_value, checked_cut}
-use Rattle.nf_curve_def.specs.Short.{turning, checked_slopes, checked_short}
+use Rattle.nf_phase_run_laws.proofs.Common.{ℚ, ◌≤ℚ◌, ◌<ℚ◌, lt_ℚ, ≤ℚ_of_lt, test_of_not_less, test_of_less, ≤ℚ_refl, ≤ℚ_trans, <_≤_trans, Passing, Checked}
+use Rattle.nf_phase_run_laws.proofs.Common.{◌>>=◌, Point, slope, TimesRise, IsShort, AreSlopes, Trace, is_same, checked_line, then_ok, is_same_cases}
+use Rattle.nf_phase_run_laws.proofs.Common.{LastPoint, cut_short, cut_trace, same_Ok, points_before, value_from, turning, checked_slopes, not_same}
+use Rattle.nf_curve_def.specs.Values.{checked_value, checked_cut}
+use Rattle.nf_curve_def.specs.Short.{checked_short}
 use Rattle.nf_curve_laws.proofs.Short.{SlopesFrom, slopes-are}
-use Rattle.nf_curve_laws.proofs.Operations.{not_same}
 
 -- ---- tests
 -- ---- the last point

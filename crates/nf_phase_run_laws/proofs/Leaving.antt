@@ -1,8 +1,7 @@
 -- The cumulative outflow of a link never falls.
 use Rattle.std.proofs.Common.{◌≡◌, [], ◌∷◌, ⊎_elim, Option, Some, None, refl, sym, subst}
-use Rattle.nf_phase_run_laws.proofs.Common.{ℚ, 0ℚ, ◌+ℚ◌, ◌-ℚ◌, ◌*ℚ◌, ◌≤ℚ◌, ◌<ℚ◌, reading_of, ≤ℚ_of_lt, ≤ℚ_of_same, lt_or_le_ℚ, less_nn, ≤ℚ_refl, ≤ℚ_trans, le}
-use Rattle.nf_phase_run_laws.proofs.Common.{eq, le_times, linear_le, less_le, NeverFalls, IsLeast}
-use Rattle.nf_model.specs.Queue.{IsOutflow}
+use Rattle.nf_phase_run_laws.proofs.Common.{ℚ, 0ℚ, ◌+ℚ◌, ◌-ℚ◌, ◌*ℚ◌, ◌≤ℚ◌, ◌<ℚ◌, reading_of, ≤ℚ_of_lt, ≤ℚ_of_same, lt_or_le_ℚ, less_nn, ≤ℚ_refl, ≤ℚ_trans}
+use Rattle.nf_phase_run_laws.proofs.Common.{le, eq, le_times, linear_le, less_le, NeverFalls, IsLeast, IsOutflow}
 use Rattle.nf_model_laws.specs.Capacity.{IsPositive}
 
 -- ---- over plain numbers

@@ -1,10 +1,11 @@
 -- At a departure before the horizon, each phase has a length. If no operation exceeds its bound, the extend list gives the extension
 -- length, or None if every length is possible.
 use Rattle.std.proofs.Common.{◌≡◌, List, [], ◌∷◌, inl, inr, Bool, true, false, refl, ap, ◌∙◌, Option, Some, None, Result, Ok}
-use Rattle.nf_phase_run_laws.proofs.Common.{enumerate_from, ℚ, 0ℚ, ◌-ℚ◌, min_ℚ, Op, Difference, Quotient, result_of, number_at, Network, ArePieces, next_change}
-use Rattle.nf_phase_run_laws.proofs.Common.{IsPhaseLength, is_zero, are_opposite, never}
-use Rattle.nf_frac_def.specs.Checked.{checked, fold_checked, ◌>>=◌}
-use Rattle.nf_thin_def.specs.Extend.{lesser, to_zero, after_link, least_after, until_change, extend_list}
+use Rattle.nf_phase_run_laws.proofs.Common.{enumerate_from, ℚ, 0ℚ, ◌-ℚ◌, min_ℚ, Op, Difference, Quotient, result_of, number_at, Network, ArePieces}
+use Rattle.nf_phase_run_laws.proofs.Common.{next_change, IsPhaseLength, is_zero, are_opposite, never, fold_checked, ◌>>=◌, lesser, to_zero, after_link}
+use Rattle.nf_phase_run_laws.proofs.Common.{least_after, until_change}
+use Rattle.nf_frac_def.specs.Checked.{checked}
+use Rattle.nf_thin_def.specs.Extend.{extend_list}
 use Rattle.nf_phase_laws.proofs.Extension.{extension_is, unending_is}
 
 abbrev HasValue : {A E : Type 0} → Result A E → Type 0

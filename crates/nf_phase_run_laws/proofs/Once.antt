@@ -1,11 +1,9 @@
 -- Phases from one run state, for any horizon and budget, have the same pattern, flows and slopes. Phases of equal length have the same
 -- result.
 use Rattle.std.proofs.Common.{◌≡◌, ℕ, ◌+◌, ◌≤◌, List, length, sym, ap, subst, ◌∙◌, arith, Result, Ok, map}
-use Rattle.nf_phase_run_laws.proofs.Common.{ℚ, Passing, Network, IsNetwork, hops, rate_at, Sets, slacks_of, sets_at, Pattern, moved, IsPhaseLength, LinkStep}
-use Rattle.nf_phase_run_laws.proofs.Common.{curve_list, amount_so_far, Standing, Bounds, PhaseStep, Goes, Seeks, standing_after, length-sets, PhaseParts}
-use Rattle.nf_phase_run_laws.proofs.Common.{WellRun, parts_of, IsPhaseLength-unique}
-use Rattle.nf_thin_def.specs.Search.{Found, IsSearch}
-use Rattle.nf_thin_laws.proofs.Bases.{one_base}
+use Rattle.nf_phase_run_laws.proofs.Common.{ℚ, Passing, Network, IsNetwork, hops, rate_at, Sets, slacks_of, sets_at, Pattern, moved, IsPhaseLength}
+use Rattle.nf_phase_run_laws.proofs.Common.{LinkStep, curve_list, amount_so_far, Standing, Bounds, PhaseStep, Goes, Seeks, standing_after, length-sets}
+use Rattle.nf_phase_run_laws.proofs.Common.{PhaseParts, WellRun, parts_of, IsPhaseLength-unique, Found, IsSearch, one_base}
 use Rattle.nf_thin_laws.proofs.Searches.{one_answer}
 
 -- A result of the search with a budget is one with a greater budget.

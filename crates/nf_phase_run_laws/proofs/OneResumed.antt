@@ -2,10 +2,10 @@
 use Rattle.std.proofs.Common.{◌≡◌, ℕ, length, sym, ap, ◌∙◌, subst, Option, Ok}
 use Rattle.nf_phase_run_laws.proofs.Common.{ℚ, ◌<ℚ◌, Passing, each, Network, Cause, Report, Standing, Bounds, Fails, report_of, one_phase, goes_or_fails}
 use Rattle.nf_phase_run_laws.proofs.Common.{goes_knows, StepsTo, horizon_met, phases_made, none_made, one_made, same_end, same_Ok, then_ok, IsResumedReport}
-use Rattle.nf_phase_run_laws.proofs.Common.{list-stands}
-use Rattle.nf_phase_def.specs.Restoring.{growing, restore_list}
-use Rattle.nf_resume_def.specs.Resuming.{Stands, cut_flow, restart_list}
-use Rattle.nf_phase_def.specs.Open.{with_last, Steps, continues, begins, RunsOn, at_horizon, at_phases, fails, steps}
+use Rattle.nf_phase_run_laws.proofs.Common.{list-stands, growing, Stands, cut_flow, with_last, Steps, continues, begins, RunsOn, at_horizon, at_phases}
+use Rattle.nf_phase_run_laws.proofs.Common.{fails, steps}
+use Rattle.nf_phase_def.specs.Restoring.{restore_list}
+use Rattle.nf_resume_def.specs.Resuming.{restart_list}
 
 -- ---- one more phase
 module _ (passes : Passing) (net : Network) (horizon : ℚ) (patterns : ℕ) (s : Standing) where

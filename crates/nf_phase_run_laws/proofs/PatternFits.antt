@@ -1,20 +1,19 @@
 -- The lists of a pattern: its equations are fractions, and so are its flows and slopes.
-use Rattle.std.proofs.Common.{◌≡◌, ℕ, List, [], ◌∷◌, Bool, true, false, refl, subst, if◌then◌else◌}
-use Rattle.nf_phase_run_laws.proofs.Common.{◌==◌, not, Option, Some, None, Result, Ok, Err, IsOk, map, filter, drop, slice_get, unwrap_or, AllByRecursion}
-use Rattle.nf_phase_run_laws.proofs.Common.{range_with_len, enumerate_from, flat_map, ℚ, 0ℚ, 1ℚ, neg_ℚ, Product, passes_Q, checked, at_part, ◌>>=◌, number_at}
-use Rattle.nf_phase_run_laws.proofs.Common.{Link, Network, Sets, Pattern, IsSolution, IsFraction, IsFractionOrNone, every_append}
-use Rattle.nf_frac_def.specs.declared.Part.TheVariants.{Table, Verdict}
-use Rattle.nf_frac_def.specs.declared.Passed.{Passed}
-use Rattle.nf_model.specs.declared.State.{State}
+use Rattle.std.proofs.Common.{◌≡◌, ℕ, List, [], ◌∷◌, Bool, true, false, refl, subst, if◌then◌else◌, ◌==◌, not, Option, Some, None, Result, Ok, Err, IsOk}
+use Rattle.std.proofs.Common.{map, filter, drop, slice_get, unwrap_or}
+use Rattle.nf_phase_run_laws.proofs.Common.{AllByRecursion, range_with_len, enumerate_from, flat_map, ℚ, 0ℚ, 1ℚ, neg_ℚ, Product, passes_Q, checked, at_part}
+use Rattle.nf_phase_run_laws.proofs.Common.{◌>>=◌, number_at, Link, Network, Sets, Pattern, IsSolution, IsFraction, IsFractionOrNone, every_append, Table}
+use Rattle.nf_phase_run_laws.proofs.Common.{Verdict, Passed, State, table_list, Unknown, SlopeOf, FlowOn, unknowns, row, source_factor, leaves_less_enters}
+use Rattle.nf_phase_run_laws.proofs.Common.{node_factor, node_row, fills_factor, link_factor, link_rows, slopes_in, onto_links, link_flows_in, Solved}
+use Rattle.nf_phase_run_laws.proofs.Common.{after_table, IsPatternIn, SolvesAlone}
 use Rattle.nf_model.specs.declared.State.TheVariants.{Tight, Full, Zero}
-use Rattle.nf_linear_def.specs.Table.{table_list}
-use Rattle.nf_thin_def.specs.Equations.{Unknown, SlopeOf, FlowOn, unknowns, row, source_factor, leaves_less_enters, node_factor, node_row, fills_factor, link_factor, link_rows, equations, slopes_in, onto_links, link_flows_in}
+use Rattle.nf_thin_def.specs.Equations.{equations}
 use Rattle.nf_thin_def.specs.Verdict.{bound_on, bound_of, verdict_list}
-use Rattle.nf_thin_def.specs.Accepted.{Solved, after_table, pattern_lists}
-use Rattle.nf_thin_equation_laws.specs.Equations.{IsPatternIn, SolvesAlone}
+use Rattle.nf_thin_def.specs.Accepted.{pattern_lists}
 use Rattle.nf_thin_equation_laws.proofs.Table.{solves_alone, solves_not_alone}
 use Rattle.nf_phase_run_laws.proofs.Lists.{all_take, all_drop, all_numbered, all_map, all_flat}
-use Rattle.nf_phase_run_laws.proofs.Fractions.{AreFractions, either, zero_fraction, one_fraction, flag_fraction, gap_fraction, opposite_fraction, number_fraction, IsFractionLink, HasFractions, capacity_fraction}
+use Rattle.nf_phase_run_laws.proofs.Fractions.{AreFractions, either, zero_fraction, one_fraction, flag_fraction, gap_fraction, opposite_fraction}
+use Rattle.nf_phase_run_laws.proofs.Fractions.{number_fraction, IsFractionLink, HasFractions, capacity_fraction}
 use Rattle.nf_phase_run_laws.proofs.Fits.{Fits, AreOperands, AreOperandsAt, ok_fits, then_fits, each_fits, part_fits, one}
 use Rattle.nf_phase_run_laws.proofs.TableFits.{AreFractionRows, OrNone, table_fits}
 

@@ -1,16 +1,18 @@
 -- The lists of a phase: slacks, the extension, the labels at the end, and how the curves go on.
 use Rattle.std.proofs.Common.{ℕ, List, Bool, true, false, map, Option, Some, None}
-use Rattle.nf_phase_run_laws.proofs.Common.{AllByRecursion, enumerate_from, ℚ, 0ℚ, Sum, Difference, Product, Quotient, passes_Q, checked, at_part, number_at}
-use Rattle.nf_phase_run_laws.proofs.Common.{Hop, Link, Network, hops, next_change, Sets, slacks_of, sets_at, Pattern, IsFraction, is_zero, is_positive}
-use Rattle.nf_phase_run_laws.proofs.Common.{are_opposite, amount_so_far, IsFractionOrNone}
-use Rattle.nf_frac_def.specs.declared.Part.TheVariants.{Extend, Advance, Curve}
+use Rattle.nf_phase_run_laws.proofs.Common.{AllByRecursion, enumerate_from, ℚ, 0ℚ, Sum, Difference, Product, Quotient, passes_Q, checked, at_part}
+use Rattle.nf_phase_run_laws.proofs.Common.{number_at, Hop, Link, Network, hops, next_change, Sets, slacks_of, sets_at, Pattern, IsFraction, is_zero}
+use Rattle.nf_phase_run_laws.proofs.Common.{is_positive, are_opposite, amount_so_far, IsFractionOrNone, Extend, Advance, Curve, lesser, to_zero, after_link}
+use Rattle.nf_phase_run_laws.proofs.Common.{least_after, until_change, QueueStep, LinkStep, LinkPhase, rate_over, size_at, slope_at, queue_step, link_step}
+use Rattle.nf_phase_run_laws.proofs.Common.{link_phase, Standing, PhaseStep}
 use Rattle.nf_thin_def.specs.Slack.{slack_of, slack_list}
-use Rattle.nf_thin_def.specs.Extend.{lesser, to_zero, after_link, least_after, until_change, extend_list}
+use Rattle.nf_thin_def.specs.Extend.{extend_list}
 use Rattle.nf_thin_def.specs.Advance.{Advanced, label_after, labels_after, advance_list, cut_at}
-use Rattle.nf_thin_def.specs.CurveList.{QueueStep, LinkStep, LinkPhase, rate_over, size_at, slope_at, queue_step, link_step, link_phase, curve_list}
-use Rattle.nf_thin_def.specs.PhaseRun.{Standing, PhaseStep, phase_lists}
+use Rattle.nf_thin_def.specs.CurveList.{curve_list}
+use Rattle.nf_thin_def.specs.PhaseRun.{phase_lists}
 use Rattle.nf_phase_run_laws.proofs.Lists.{all_numbered}
-use Rattle.nf_phase_run_laws.proofs.Fractions.{AreFractions, zero_fraction, least_fraction, number_fraction, IsFractionLink, HasFractions, change_fraction, hop_fractions}
+use Rattle.nf_phase_run_laws.proofs.Fractions.{AreFractions, zero_fraction, least_fraction, number_fraction, IsFractionLink, HasFractions, change_fraction}
+use Rattle.nf_phase_run_laws.proofs.Fractions.{hop_fractions}
 use Rattle.nf_phase_run_laws.proofs.Fits.{Fits, AreOperands, AreOperandsAt, ok_fits, then_fits, each_fits, fold_fits, part_fits, one}
 
 -- ---- slacks

@@ -2,14 +2,10 @@
 use Rattle.std.proofs.Common.{◌≡◌, ℕ, List, [], ◌∷◌, ◌++◌, if◌then◌else◌, ⊎_elim, Bool, true, false, Option, Some, None, slice_get, sym, ap, subst, refl}
 use Rattle.nf_phase_run_laws.proofs.Common.{ℚ, 0ℚ, ◌+ℚ◌, ◌*ℚ◌, ◌≤ℚ◌, ◌<ℚ◌, lt_ℚ, ps_times, <ℚ_irrefl, lt_ℚ_cases, test_of_less, ≤ℚ_refl, later_by, Point}
 use Rattle.nf_phase_run_laws.proofs.Common.{number_at, Link, Network, IsNetwork, IsLink, hops, rate_at, slacks_of, AreStartLabels, IsPhase, at, GoesOnTo}
-use Rattle.nf_phase_run_laws.proofs.Common.{CurvesStand, CurvesGoOn, IsPhaseLength-some, HasThinFlow}
-use Rattle.nf_model_laws.proofs.Supply.{rate_from-not_negative}
-use Rattle.nf_phase_laws.specs.CurveRun.{Curves, first_points, FirstCurves, begin}
-use Rattle.nf_phase_laws.specs.Invariant.{GoesOn}
+use Rattle.nf_phase_run_laws.proofs.Common.{CurvesStand, CurvesGoOn, IsPhaseLength-some, HasThinFlow, rate_from-not_negative, Curves, first_points}
+use Rattle.nf_phase_run_laws.proofs.Common.{FirstCurves, begin, GoesOn, Grown, grown_by, stands_after, leaves_none}
 use Rattle.nf_phase_laws.proofs.CurveSteps.{GoesOnTo-appended, GoesOn-curves, CurvesStand-after}
-use Rattle.nf_phase_laws.proofs.CurveRun.{Grown, grown_by}
-use Rattle.nf_phase_laws.proofs.Phases.{Stands, stands_after}
-use Rattle.nf_phase_laws.proofs.Still.{leaves_none}
+use Rattle.nf_phase_laws.proofs.Phases.{Stands}
 use Rattle.nf_phase_run_laws.proofs.AtLabels.{thin_at}
 
 -- Curves of inflows and labels up to this departure, with the labels there.

@@ -1,12 +1,11 @@
 -- The numbers of a resumed run are fractions of a file in every state. So its report can be read, and reads back.
 use Rattle.std.proofs.Common.{◌≡◌, ℕ, List, Option, sym, subst, Ok}
 use Rattle.nf_phase_run_laws.proofs.Common.{ℚ, passes_Q, Pattern, Cause, Named, IsNamed, Report, IsWellFormed, Standing, Bounds, IsCount, IsReadable}
-use Rattle.nf_phase_run_laws.proofs.Common.{WellRun-counted, AreReadable, ReadsBack, Stands, resume_list, IsResumedReport}
-use Rattle.nf_report_def.specs.ReportFile.{report_in}
+use Rattle.nf_phase_run_laws.proofs.Common.{WellRun-counted, AreReadable, ReadsBack, Stands, resume_list, IsResumedReport, report_in, with_last, Steps}
+use Rattle.nf_phase_run_laws.proofs.Common.{continues, begins, RunsOn, at_horizon, at_phases, fails, steps}
 use Rattle.nf_report_laws.proofs.ReportKept.{report_kept}
 use Rattle.nf_phase_run_laws.proofs.Running.{StandsFit, EndsFit, end_readable, StandsFit-after, cause_readable}
 use Rattle.nf_phase_run_laws.proofs.ReadingBack.{readable_reads_back}
-use Rattle.nf_phase_def.specs.Open.{with_last, Steps, continues, begins, RunsOn, at_horizon, at_phases, fails, steps}
 use Rattle.nf_phase_run_laws.proofs.CutFits.{IsFractionFlow, HoldsFractions, restart_fits}
 use Rattle.nf_phase_run_laws.proofs.Restarting.{restarts, well_restarted}
 

@@ -1,9 +1,7 @@
 -- A readable report reads back, and so that of a run.
 use Rattle.std.proofs.Common.{sym, ap, ◌∙◌}
-use Rattle.nf_phase_run_laws.proofs.Common.{passes_Q, Named, IsNamed, Report, IsWellFormed, Bounds, IsRunReport, IsReadable, same_Ok, AreReadable, ReadsBack}
-use Rattle.nf_report_def.specs.ReportFile.{report_in}
-use Rattle.nf_report_laws.proofs.ReportBack.{report_back}
-use Rattle.nf_report_laws.proofs.ReportFit.{fit}
+use Rattle.nf_phase_run_laws.proofs.Common.{passes_Q, Named, IsNamed, Report, IsWellFormed, Bounds, IsRunReport, IsReadable, same_Ok, AreReadable}
+use Rattle.nf_phase_run_laws.proofs.Common.{ReadsBack, report_in, report_back, fit}
 use Rattle.nf_phase_run_laws.proofs.Running.{report_readable}
 
 -- a readable report is read back from its text

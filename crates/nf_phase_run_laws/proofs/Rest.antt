@@ -1,17 +1,16 @@
 -- The remainder of an interrupted phase is the first phase of a resumed run. It has the result of the whole phase.
-use Rattle.std.proofs.Common.{◌≡◌, ℕ, suc, List, [], ◌∷◌, length, inl, inr, ⊎_elim, Option, Some, None, slice_get, unwrap_or, map, sym, ap, subst, refl, ◌∙◌, arith}
-use Rattle.nf_phase_run_laws.proofs.Common.{Ok, slice_get_within, ℚ, 0ℚ, ◌+ℚ◌, ◌-ℚ◌, ◌*ℚ◌, ◌≤ℚ◌, ◌<ℚ◌, min_ℚ, ≤ℚ_of_lt, nn_plus, min_ℚ_cases, reading_of, le}
+use Rattle.std.proofs.Common.{◌≡◌, ℕ, suc, List, [], ◌∷◌, length, inl, inr, ⊎_elim, Option, Some, None, slice_get, unwrap_or, map, sym, ap, subst, refl}
+use Rattle.std.proofs.Common.{◌∙◌, arith, Ok}
+use Rattle.nf_phase_run_laws.proofs.Common.{slice_get_within, ℚ, 0ℚ, ◌+ℚ◌, ◌-ℚ◌, ◌*ℚ◌, ◌≤ℚ◌, ◌<ℚ◌, min_ℚ, ≤ℚ_of_lt, nn_plus, min_ℚ_cases, reading_of, le}
 use Rattle.nf_phase_run_laws.proofs.Common.{lt, eq, linear_lt, linear_eq, linear_false, min_right, <_≤_trans, entry, Passing, number_at, Link, Network}
-use Rattle.nf_phase_run_laws.proofs.Common.{IsNetwork, IsLink, hops, hop_of, rate_at, slack, slacks_of, sets_at, Pattern, IsListedIn, IsBase, IsSolution, moved}
-use Rattle.nf_phase_run_laws.proofs.Common.{Lasts, IsExtension, IsUnending, IsPhaseLength, IsPhaseLength-unique, is_filled, curve_list, label_curves_after}
-use Rattle.nf_phase_run_laws.proofs.Common.{link_curves_after, amount_so_far, Standing, Bounds, Goes, standing_after, length-sets, PhaseParts}
-use Rattle.nf_phase_run_laws.proofs.Common.{IsPhaseLength-some, WellRun, WellRun-counted, WellRun-goes, parts_of, IsOpen, with_last, NonePassesIn, with_made}
-use Rattle.nf_model.specs.declared.State.{State}
-use Rattle.nf_thin_def.specs.Accepted.{IsAccepted}
+use Rattle.nf_phase_run_laws.proofs.Common.{IsNetwork, IsLink, hops, hop_of, rate_at, slack, slacks_of, sets_at, Pattern, IsListedIn, IsBase, IsSolution}
+use Rattle.nf_phase_run_laws.proofs.Common.{moved, Lasts, IsExtension, IsUnending, IsPhaseLength, IsPhaseLength-unique, is_filled, curve_list}
+use Rattle.nf_phase_run_laws.proofs.Common.{label_curves_after, link_curves_after, amount_so_far, Standing, Bounds, Goes, standing_after, length-sets}
+use Rattle.nf_phase_run_laws.proofs.Common.{PhaseParts, IsPhaseLength-some, WellRun, WellRun-counted, WellRun-goes, parts_of, IsOpen, with_last}
+use Rattle.nf_phase_run_laws.proofs.Common.{NonePassesIn, with_made, State, IsAccepted, leaves_none, IsOpen-cut, IsExtension-left, Lasts-left, stays-below}
+use Rattle.nf_phase_run_laws.proofs.Common.{stays-above, slack-moves}
 use Rattle.nf_thin_def.specs.Listing.{IsListingIn}
-use Rattle.nf_phase_laws.proofs.Still.{leaves_none}
 use Rattle.nf_phase_laws.proofs.Goes.{thin}
-use Rattle.nf_resume_laws.proofs.CutPhase.{IsOpen-cut, IsExtension-left, Lasts-left, stays-below, stays-above, slack-moves}
 use Rattle.nf_resume_laws.proofs.Restricted.{resets, filled-same, goes-on, IsSolution-restricted, IsListed-restricted}
 use Rattle.nf_resume_laws.proofs.FirstPlace.{base-first, pattern-base, flows-same, slopes-same}
 use Rattle.nf_resume_laws.proofs.Twice.{label_curves_after-twice}

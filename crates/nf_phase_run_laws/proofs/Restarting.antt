@@ -1,11 +1,9 @@
 -- The state of a run resumed from a report that the check accepts.
 use Rattle.std.proofs.Common.{◌≡◌, ℕ, refl, subst, Ok}
 use Rattle.nf_phase_run_laws.proofs.Common.{ℚ, Passing, Network, IsNetwork, Equilibrium, Report, IsWellFormed, Standing, then_ok, WellRun, check_list}
-use Rattle.nf_phase_run_laws.proofs.Common.{CanBeChecked, Equilibrium-holding, list-stands}
-use Rattle.nf_check_def.specs.declared.Answer.{Answer}
-use Rattle.nf_check_def.specs.declared.Answer.TheVariants.{Yes, No}
-use Rattle.nf_check_laws.proofs.Checking.{check_list-checks}
-use Rattle.nf_resume_def.specs.Resuming.{Stands, cut_flow, restart_list, after_check, resume_list}
+use Rattle.nf_phase_run_laws.proofs.Common.{CanBeChecked, Equilibrium-holding, list-stands, Answer, Yes, No, check_list-checks, Stands, cut_flow}
+use Rattle.nf_phase_run_laws.proofs.Common.{after_check}
+use Rattle.nf_resume_def.specs.Resuming.{restart_list, resume_list}
 use Rattle.nf_phase_equilibrium_laws.proofs.RestoredRun.{well_from}
 use Rattle.nf_resume_laws.proofs.Restarted.{Equilibrium-cut_flow, EndsAtItsLabels-cut_flow}
 

@@ -1,19 +1,17 @@
 -- The numbers of a run are fractions wherever it stands, and so are those of its report; its counts are within the budgets.
-use Rattle.std.proofs.Common.{◌≡◌, ℕ, suc, ◌<◌, ◌^◌, List, [], ◌∷◌, Bool, true, false, length, map, refl, sym, subst, arith}
-use Rattle.nf_phase_run_laws.proofs.Common.{◌-◌, take, Option, Some, None, is_none, AllByRecursion, last_or, option_map_or, slice_get_within, ℚ, 0ℚ, not_both_ℚ}
-use Rattle.nf_phase_run_laws.proofs.Common.{passes_Q, number_at, Has, Point, Link, Network, hop_of, hops, unbounded, rate_at, slack, slacks_of, sets_at}
-use Rattle.nf_phase_run_laws.proofs.Common.{Pattern, IsListedIn, Trace, Cause, Named, IsFraction, IsNamed, Report, is_positive, QueueStep, LinkStep}
-use Rattle.nf_phase_run_laws.proofs.Common.{GrowingCurve, LinkCurves, keeps_slope, with_point, with_rate, first_label_curve, first_trace, first_queue}
-use Rattle.nf_phase_run_laws.proofs.Common.{first_curves, label_curves_after, trace_after, queue_curve_after, link_curves_after, amount_so_far, Standing, Bounds}
-use Rattle.nf_phase_run_laws.proofs.Common.{IsStart, standing_after, cause_of_search, Seeks, phase_lists, Goes, Fails, at_slack, at_search, at_lists, Runs}
-use Rattle.nf_phase_run_laws.proofs.Common.{at_horizon, at_phases, fails, goes, report_of, IsRunReport, from_map, WellRun, WellRun-start, WellRun-goes, IsCount}
-use Rattle.nf_phase_run_laws.proofs.Common.{IsFractionOrNone, IsFractionPoint, AreFractionPoints, IsFractionTrace, IsReadableCause, IsReadable, AreReadable}
-use Rattle.nf_phase_run_laws.proofs.Common.{every_append}
-use Rattle.nf_model_laws.proofs.Slacks.{slack_of_resetting}
-use Rattle.nf_thin_def.specs.Search.{SearchAnswer, Found, OverBudget, PassesAt, NoPattern}
-use Rattle.nf_thin_laws.proofs.ActiveLinks.{AreSets-sets_at}
-use Rattle.nf_thin_equation_laws.specs.Equations.{IsPatternIn}
-use Rattle.nf_phase_laws.proofs.Standing.{source_label_at, unbounded_slack_at}
+use Rattle.std.proofs.Common.{◌≡◌, ℕ, suc, ◌<◌, ◌^◌, List, [], ◌∷◌, Bool, true, false, length, map, refl, sym, subst, arith, ◌-◌, take, Option, Some, None}
+use Rattle.std.proofs.Common.{is_none}
+use Rattle.nf_phase_run_laws.proofs.Common.{AllByRecursion, last_or, option_map_or, slice_get_within, ℚ, 0ℚ, not_both_ℚ, passes_Q, number_at, Has, Point}
+use Rattle.nf_phase_run_laws.proofs.Common.{Link, Network, hop_of, hops, unbounded, rate_at, slack, slacks_of, sets_at, Pattern, IsListedIn, Trace, Cause}
+use Rattle.nf_phase_run_laws.proofs.Common.{Named, IsFraction, IsNamed, Report, is_positive, QueueStep, LinkStep, GrowingCurve, LinkCurves, keeps_slope}
+use Rattle.nf_phase_run_laws.proofs.Common.{with_point, with_rate, first_label_curve, first_trace, first_queue, first_curves, label_curves_after}
+use Rattle.nf_phase_run_laws.proofs.Common.{trace_after, queue_curve_after, link_curves_after, amount_so_far, Standing, Bounds, IsStart, standing_after}
+use Rattle.nf_phase_run_laws.proofs.Common.{cause_of_search, Seeks, phase_lists, Goes, Fails, at_slack, at_search, at_lists, Runs, goes, report_of}
+use Rattle.nf_phase_run_laws.proofs.Common.{IsRunReport, from_map, WellRun, WellRun-start, WellRun-goes, IsCount, IsFractionOrNone, IsFractionPoint}
+use Rattle.nf_phase_run_laws.proofs.Common.{AreFractionPoints, IsFractionTrace, IsReadableCause, IsReadable, AreReadable, every_append, slack_of_resetting}
+use Rattle.nf_phase_run_laws.proofs.Common.{SearchAnswer, Found, OverBudget, PassesAt, NoPattern, AreSets-sets_at, IsPatternIn, source_label_at}
+use Rattle.nf_phase_run_laws.proofs.Common.{unbounded_slack_at}
+use Rattle.nf_thin_def.specs.PhaseRun.{at_horizon, at_phases, fails}
 use Rattle.nf_phase_run_laws.proofs.Lists.{all_take, all_image}
 use Rattle.nf_phase_run_laws.proofs.Fractions.{AreFractions, zero_fraction, number_fraction, HasFractions, rate_fraction}
 use Rattle.nf_phase_run_laws.proofs.Fits.{Fits, AreOperandsAt}

@@ -1,11 +1,10 @@
 -- Phase sequences are extended, by one thin flow after the other, until they reach the horizon.
 use Rattle.std.proofs.Common.{◌≡◌, ℕ, zero, suc, ◌<◌, ◌≤◌, List, [], ◌∷◌, length, ◌⊎◌, inl, inr, ⊎_elim, Some, slice_get, sym, ap, subst, refl, arith}
-use Rattle.std.proofs.lemmas.Bool.{cases_lt}
-use Rattle.nf_phase_run_laws.proofs.Common.{none-some, same_Some, ℚ, 0ℚ, ◌+ℚ◌, ◌-ℚ◌, ◌≤ℚ◌, ◌<ℚ◌, reading_of, lt_or_le_ℚ, ≤ℚ_antisymm, le, eq, linear_le}
-use Rattle.nf_phase_run_laws.proofs.Common.{min_left, Hop, IsHop, IsLeastTransit, Network, IsNetwork, hop_of, hops, slacks_of, AreStartLabels, moved}
-use Rattle.nf_phase_run_laws.proofs.Common.{IsPhaseLength, IsPhase, PhasesFrom, IsPhaseSequence, from_map, HasThinFlow}
+use Rattle.nf_phase_run_laws.proofs.Common.{cases_lt, none-some, same_Some, ℚ, 0ℚ, ◌+ℚ◌, ◌-ℚ◌, ◌≤ℚ◌, ◌<ℚ◌, reading_of, lt_or_le_ℚ, ≤ℚ_antisymm, le, eq}
+use Rattle.nf_phase_run_laws.proofs.Common.{linear_le, min_left, Hop, IsHop, IsLeastTransit, Network, IsNetwork, hop_of, hops, slacks_of, AreStartLabels}
+use Rattle.nf_phase_run_laws.proofs.Common.{moved, IsPhaseLength, IsPhase, PhasesFrom, IsPhaseSequence, from_map, HasThinFlow, numbers, length-numbers}
+use Rattle.nf_phase_run_laws.proofs.Common.{number_at-numbers}
 use Rattle.nf_net_laws.proofs.Settling.{least_exists}
-use Rattle.nf_complete_laws.proofs.Numbers.{numbers, length-numbers, number_at-numbers}
 use Rattle.nf_phase_run_laws.specs.Sequences.{ComesTo, PhaseSequencesGoOn}
 use Rattle.nf_phase_run_laws.proofs.Lengths.{some_length}
 use Rattle.nf_phase_run_laws.proofs.Phases.{HasCome, thin_there, HasCome-start, HasCome-after}

@@ -1,8 +1,8 @@
 -- The numbers of the network of an accepted file are fractions, and so are the least transit sums, from which a run starts.
 use Rattle.std.proofs.Common.{◌≡◌, ℕ, zero, suc, ◌<◌, List, [], ◌∷◌, ◌++◌, length, refl, sym, ap, subst, ◌∙◌, arith, Option, Some, None}
 use Rattle.nf_phase_run_laws.proofs.Common.{AllByRecursion, ℚ, 0ℚ, ◌+ℚ◌, ◌≤ℚ◌, reading_of, le, eq, linear_le, linear_eq, Sum, Hop, IsWalk, transit_of}
-use Rattle.nf_phase_run_laws.proofs.Common.{transit_sum, IsLeastTransit, Link, hops, AreStartLabels, NamedLink, Named, links_by_name, IsFraction, IsCapacity}
-use Rattle.nf_phase_run_laws.proofs.Common.{IsNamedLink, IsNamed, IsFractionOrNone}
+use Rattle.nf_phase_run_laws.proofs.Common.{transit_sum, IsLeastTransit, Link, hops, AreStartLabels, NamedLink, Named, links_by_name, IsFraction}
+use Rattle.nf_phase_run_laws.proofs.Common.{IsCapacity, IsNamedLink, IsNamed, IsFractionOrNone}
 use Rattle.nf_model_laws.proofs.Networks.{transit_of-hop, transit_sum-append}
 use Rattle.nf_net_def.specs.Names.{Name}
 use Rattle.nf_net_laws.proofs.WalkFacts.{walk_push, LastHop}

@@ -1,10 +1,8 @@
 -- If a resumed run stopped because no pattern was left, there is no thin flow where it stopped.
 use Rattle.std.proofs.Common.{ℕ, Option, sym, subst}
 use Rattle.nf_phase_run_laws.proofs.Common.{ℚ, Passing, Network, IsNetwork, Cause, Report, IsWellFormed, Standing, Bounds, WellRun, WellRun-step}
-use Rattle.nf_phase_run_laws.proofs.Common.{IsResumedReport}
-use Rattle.nf_complete_def.specs.Reached.{StopsForNoThinFlow}
-use Rattle.nf_complete_laws.proofs.Stopped.{EndsForNone, horizon_ends, phases_end, failing_ends, end_stops}
-use Rattle.nf_phase_def.specs.Open.{RunsOn, at_horizon, at_phases, fails, steps}
+use Rattle.nf_phase_run_laws.proofs.Common.{IsResumedReport, StopsForNoThinFlow, EndsForNone, horizon_ends, phases_end, failing_ends, end_stops, RunsOn}
+use Rattle.nf_phase_run_laws.proofs.Common.{at_horizon, at_phases, fails, steps}
 use Rattle.nf_phase_run_laws.proofs.Restarting.{well_restarted}
 
 module _ (passes : Passing) (net : Network) (good : IsNetwork net) (bounds : Bounds) where

@@ -1,16 +1,12 @@
 -- No run stops because no pattern is left: otherwise there would be no thin flow for the labels that its flow has reached, but the flow is
 -- an equilibrium.
 use Rattle.std.proofs.Common.{ℕ, refl, sym, subst, Option}
-use Rattle.nf_phase_run_laws.proofs.Common.{ℚ, ≤ℚ_refl, Passing, Network, IsNetwork, Flow, label, Equilibrium, Cause, Report, IsWellFormed, Standing, Bounds}
-use Rattle.nf_phase_run_laws.proofs.Common.{IsPhaseRun, flow_of, report_of, IsRunReport, WellRun, Equilibrium-well, report_equilibrium, RunsOn, IsResumedReport}
-use Rattle.nf_phase_run_laws.proofs.Common.{HasThinFlow, WellRun-on}
-use Rattle.nf_complete_def.specs.Reached.{labels_reached, StopsForNoThinFlow}
-use Rattle.nf_complete_laws.proofs.Stopped.{end_stops, stops_for_none}
-use Rattle.nf_forever_def.specs.ForeverRun.{Forever, IsForever}
-use Rattle.nf_forever_laws.proofs.Run.{Equilibrium-forever, Equilibrium-forever_of}
+use Rattle.nf_phase_run_laws.proofs.Common.{ℚ, ≤ℚ_refl, Passing, Network, IsNetwork, Flow, label, Equilibrium, Cause, Report, IsWellFormed, Standing}
+use Rattle.nf_phase_run_laws.proofs.Common.{Bounds, IsPhaseRun, flow_of, report_of, IsRunReport, WellRun, Equilibrium-well, report_equilibrium, RunsOn}
+use Rattle.nf_phase_run_laws.proofs.Common.{IsResumedReport, HasThinFlow, WellRun-on, labels_reached, StopsForNoThinFlow, end_stops, stops_for_none}
+use Rattle.nf_phase_run_laws.proofs.Common.{Forever, IsForever, Equilibrium-forever, Equilibrium-forever_of, number_at-numbers}
 use Rattle.nf_forever_laws.proofs.Stopped.{forever_stops_for_none}
 use Rattle.nf_phase_run_laws.proofs.Stopping.{resumed_ends, resumed_stops_for_none}
-use Rattle.nf_complete_laws.proofs.Numbers.{number_at-numbers}
 use Rattle.nf_phase_run_laws.specs.Stops.{NeverNoPattern}
 use Rattle.nf_phase_run_laws.proofs.AtLabels.{thin_in_equilibrium, well_resumed}
 

@@ -1,8 +1,9 @@
 -- Elimination of a table of fractions.
 use Rattle.std.proofs.Common.{ℕ, zero, suc, List, [], ◌∷◌, ◌++◌, Bool, true, false, length, ◌==◌, ◌||◌, take, drop, Option, Some, None}
-use Rattle.nf_phase_run_laws.proofs.Common.{AllByRecursion, ℚ, 0ℚ, Difference, Product, Quotient, passes_Q, Checked, checked, number_at, IsFraction, is_zero}
-use Rattle.nf_phase_run_laws.proofs.Common.{every_append}
-use Rattle.nf_linear_def.specs.Table.{Row, Eliminated, row_at, pivot_of, less_unless, entries_less, cleared_row, clear_unless, clear_rows, eliminate_at, if_some, eliminate_from, solution_from, solution_of, table_list}
+use Rattle.nf_phase_run_laws.proofs.Common.{AllByRecursion, ℚ, 0ℚ, Difference, Product, Quotient, passes_Q, Checked, checked, number_at, IsFraction}
+use Rattle.nf_phase_run_laws.proofs.Common.{is_zero, every_append, Row, Eliminated, row_at, pivot_of, less_unless, entries_less, cleared_row, clear_unless}
+use Rattle.nf_phase_run_laws.proofs.Common.{clear_rows, eliminate_at, if_some, eliminate_from, solution_from, solution_of}
+use Rattle.nf_linear_def.specs.Table.{table_list}
 use Rattle.nf_phase_run_laws.proofs.Lists.{all_take, all_drop, entry_or}
 use Rattle.nf_phase_run_laws.proofs.Fractions.{AreFractions, zero_fraction, number_fraction}
 use Rattle.nf_phase_run_laws.proofs.Fits.{Fits, AreOperands, ok_fits, then_fits, one}

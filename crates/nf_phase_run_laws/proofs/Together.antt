@@ -1,12 +1,12 @@
 -- Two runs from the start, to two horizons. Where the first run ends, the second run has the same state and continues, or it has a longer
 -- phase than the last one of the first run.
 use Rattle.std.proofs.Common.{◌≡◌, List, [], ◌∷◌, length, ◌⊎◌, inl, inr, ⊎_elim, Option, Some, None, sym, ap, subst, refl, ◌∙◌}
-use Rattle.nf_phase_run_laws.proofs.Common.{none-some, ℚ, ◌+ℚ◌, ◌-ℚ◌, ◌≤ℚ◌, ◌<ℚ◌, min_ℚ, ≤ℚ_of_lt, ≤ℚ_of_same, ≤ℚ_antisymm, not_both_ℚ, lt_or_le_ℚ, min_ℚ_cases}
-use Rattle.nf_phase_run_laws.proofs.Common.{≤ℚ_refl, ≤ℚ_trans, <_≤_trans, reading_of, lt, eq, linear_lt, linear_eq, min_right, Passing, Network, IsNetwork}
-use Rattle.nf_phase_run_laws.proofs.Common.{hops, slacks_of, IsExtension, IsUnending, IsPhaseLength, IsExtension-unique, IsExtension-ends, Cause, Standing}
-use Rattle.nf_phase_run_laws.proofs.Common.{Bounds, Goes, Runs, at_horizon, at_phases, fails, goes, standing_after, IsPhase-some, IsPhaseLength-some, WellRun}
-use Rattle.nf_phase_run_laws.proofs.Common.{WellRun-goes, IsPhase-goes, goes_knows, IsOpen}
-use Rattle.nf_resume_laws.proofs.CutPhase.{closed-at_extension}
+use Rattle.nf_phase_run_laws.proofs.Common.{none-some, ℚ, ◌+ℚ◌, ◌-ℚ◌, ◌≤ℚ◌, ◌<ℚ◌, min_ℚ, ≤ℚ_of_lt, ≤ℚ_of_same, ≤ℚ_antisymm, not_both_ℚ, lt_or_le_ℚ}
+use Rattle.nf_phase_run_laws.proofs.Common.{min_ℚ_cases, ≤ℚ_refl, ≤ℚ_trans, <_≤_trans, reading_of, lt, eq, linear_lt, linear_eq, min_right, Passing}
+use Rattle.nf_phase_run_laws.proofs.Common.{Network, IsNetwork, hops, slacks_of, IsExtension, IsUnending, IsPhaseLength, IsExtension-unique}
+use Rattle.nf_phase_run_laws.proofs.Common.{IsExtension-ends, Cause, Standing, Bounds, Goes, Runs, goes, standing_after, IsPhase-some, IsPhaseLength-some}
+use Rattle.nf_phase_run_laws.proofs.Common.{WellRun, WellRun-goes, IsPhase-goes, goes_knows, IsOpen, closed-at_extension}
+use Rattle.nf_thin_def.specs.PhaseRun.{at_horizon, at_phases, fails}
 use Rattle.nf_phase_run_laws.proofs.Once.{first_parts, other_length, same_end}
 
 -- ---- lengths of phases

@@ -1,17 +1,13 @@
 -- The answers of a checker.
 use Rattle.std.proofs.Common.{◌≡◌, ◌≢◌, ◌↔◌, ℕ, ◌<◌, inl, length, refl, sym, ◌∙◌, arith, Ok}
-use Rattle.nf_phase_run_laws.proofs.Common.{ℚ, Passing, Network, IsNetwork, Flow, Equilibrium, Sides, check_list, CanBeChecked, AllHold, Equilibrium-holding}
-use Rattle.nf_phase_run_laws.proofs.Common.{AllHold-equilibrium}
+use Rattle.nf_phase_run_laws.proofs.Common.{ℚ, Passing, Network, IsNetwork, Flow, Equilibrium, Sides, check_list, CanBeChecked, AllHold}
+use Rattle.nf_phase_run_laws.proofs.Common.{Equilibrium-holding, AllHold-equilibrium, Answer, Yes, No, Test, Label, Inflow, InflowRates, OutflowRates}
+use Rattle.nf_phase_run_laws.proofs.Common.{Arrivals, Outflow, Queue, Balance, SinkBefore, SinkAfter, Route, rule_of, ComesBefore, Breaks, BreaksFirst}
+use Rattle.nf_phase_run_laws.proofs.Common.{not-broken, check_list-checks, AllButRoutesHold}
 use Rattle.nf_net_laws.proofs.ReportFacts.{have_rates}
 use Rattle.nf_check_def.specs.declared.CheckRule.{CheckRule}
 use Rattle.nf_check_def.specs.declared.CheckRule.TheVariants.{C8}
 use Rattle.nf_check_def.specs.declared.Subject.{Subject}
-use Rattle.nf_check_def.specs.declared.Answer.{Answer}
-use Rattle.nf_check_def.specs.declared.Answer.TheVariants.{Yes, No}
-use Rattle.nf_check_def.specs.Rules.{Test, Label, Inflow, InflowRates, OutflowRates, Arrivals, Outflow, Queue, Balance, SinkBefore, SinkAfter, Route, rule_of, ComesBefore, Breaks, BreaksFirst}
-use Rattle.nf_check_laws.proofs.Broken.{not-broken}
-use Rattle.nf_check_laws.proofs.Checking.{check_list-checks}
-use Rattle.nf_phase_run_laws.specs.VerdictLaws.{AllButRoutesHold}
 use Rattle.nf_phase_run_laws.proofs.Carried.{routes_hold}
 
 -- ---- an equilibrium can be checked, and is answered yes

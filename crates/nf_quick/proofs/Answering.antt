@@ -1,25 +1,16 @@
 -- The answer of `quickest`, from the pushes and the computations after them.
-use Rattle.std.proofs.Common.{◌≡◌, ℕ, ◌≤◌, Bool, true, false, inl, inr, List, unwrap_or, refl, sym, ap, ◌∙◌}
-use Rattle.std.specs.Prelude.{Result, Ok, Err, IfOk, is_some}
-use Rattle.nf_rational.specs.Rational.{ℚ}
-use Rattle.nf_rational.specs.Operations.{0ℚ}
-use Rattle.nf_rational.specs.Order.{◌≤ℚ◌, ◌<ℚ◌, le_ℚ}
+use Rattle.std.proofs.Common.{◌≡◌, ℕ, ◌≤◌, Bool, true, false, inl, inr, List, unwrap_or, refl, sym, ap, ◌∙◌, Result, Ok, Err, IfOk, is_some}
+use Rattle.nf_quick.proofs.Common.{ℚ, 0ℚ, ◌≤ℚ◌, ◌<ℚ◌, le_ℚ, le_of_test, lt_of_test, Passing, Halt, Checked, Stops, at_part, ◌>>=◌, Network, IsNetwork}
+use Rattle.nf_quick.proofs.Common.{IsLimited, Quick, QuickStanding, Pushed, Done, OverBudget, QuickOutcome, FoundQuick, Budget, start_of, nothing}
+use Rattle.nf_quick.proofs.Common.{push_up_to, finish_list, answer_list, quickest_of, IsQuickFlow, ok_of_part, stopped, goes_on, of_halt, IsPushResult}
+use Rattle.nf_quick.proofs.Common.{IsAnswered, IsInOrder}
 use Rattle.nf_rational_laws.proofs.Order.{≤ℚ_antisymm}
-use Rattle.nf_rational_laws.proofs.Tests.{le_of_test, lt_of_test}
-use Rattle.nf_frac_def.specs.Passing.{Passing}
-use Rattle.nf_frac_def.specs.declared.Halt.{Halt}
 use Rattle.nf_frac_def.specs.declared.Part.TheVariants as Part
-use Rattle.nf_frac_def.specs.Checked.{Checked, Stops, at_part, ◌>>=◌}
-use Rattle.nf_model.specs.Network.{Network, IsNetwork}
-use Rattle.nf_quick_def.specs.Steps.{IsLimited}
-use Rattle.nf_quick_def.specs.Quick.{Quick, QuickStanding, Pushed, Done, OverBudget, QuickOutcome, FoundQuick, Budget, start_of, nothing, push_up_to, finish_list, answer_list, quickest_of, quickest_list}
-use Rattle.nf_quick_def.specs.Answers.{IsQuickFlow}
+use Rattle.nf_quick_def.specs.Quick.{quickest_list}
 use Rattle.nf_quick_laws.proofs.Start.{IsSound-zeros, flow_value-zeros, cost_of-zeros}
 use Rattle.nf_quick_laws.proofs.Joined.{IsReached, EndsWell, EndsWell-list}
 use Rattle.nf_quick_laws.proofs.Nothing.{IsQuickFlow-list, IsMade-list, EndsAtBudget-list}
-use Rattle.nf_residual.proofs.Stopping.{ok_of_part, stopped, goes_on}
 use Rattle.nf_quick.specs.declared.fault.QuickFault.{QuickFault}
-use Rattle.nf_quick.specs.Answered.{of_halt, IsPushResult, IsAnswered, IsInOrder}
 
 module _ (passes : Passing) (net : Network) (amount : ℚ) (augments : ℕ) where
   -- ---- the amount 0

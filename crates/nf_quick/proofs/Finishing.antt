@@ -1,19 +1,12 @@
 -- The result for a flow and its time: walks, distances from source and sink, the cut and its value, in this order.
-use Rattle.std.proofs.Common.{◌≡◌, ℕ, List, Option, length, sym, ap, ◌∙◌}
-use Rattle.std.specs.Prelude.{Ok, Err}
-use Rattle.nf_rational.specs.Rational.{ℚ}
-use Rattle.nf_frac_def.specs.Passing.{Passing}
-use Rattle.nf_frac_def.specs.declared.Halt.{Halt}
+use Rattle.std.proofs.Common.{◌≡◌, ℕ, List, Option, length, sym, ap, ◌∙◌, Ok, Err}
+use Rattle.nf_quick.proofs.Common.{ℚ, Passing, Halt, Checked, Stops, at_part, ◌>>=◌, Network, distances_list, Quick, stopped, stops, goes_on, stops_as}
 use Rattle.nf_frac_def.specs.declared.Part.TheVariants as Part
 use Rattle.nf_frac_def.specs.declared.PassedAt.{PassedAt}
-use Rattle.nf_frac_def.specs.Checked.{Checked, Stops, at_part, ◌>>=◌}
-use Rattle.nf_model.specs.Network.{Network}
 use Rattle.nf_model.specs.Quickest.{Fed}
-use Rattle.nf_quick_def.specs.Rounds.{distances_list}
 use Rattle.nf_quick_def.specs.Walks.{walks_off}
 use Rattle.nf_quick_def.specs.Cuts.{node_times_list, value_list}
-use Rattle.nf_quick_def.specs.Quick.{Quick, finish_list}
-use Rattle.nf_residual.proofs.Stopping.{stopped, stops, goes_on, stops_as}
+use Rattle.nf_quick_def.specs.Quick.{finish_list}
 
 module _ (passes : Passing) (net : Network) (amount : ℚ) (flows given : List ℚ) (time : ℚ) (same : given ≡ flows) where
   abbrev all : Checked Quick

@@ -1,3 +1,4 @@
+mod Common
 pub mod PushByPush
 pub mod Answering
 pub mod Finishing

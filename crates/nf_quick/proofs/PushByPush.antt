@@ -1,20 +1,9 @@
 -- Pushes of shortest walks in succession.
-use Rattle.std.proofs.Common.{◌≡◌, ℕ, suc, ◌+◌, ◌-◌, ◌<◌, ◌≤◌, Option, Some, None, sym, ap, subst, ◌∙◌, arith}
-use Rattle.std.specs.Prelude.{Ok, Err}
-use Rattle.nf_rational.specs.Rational.{ℚ}
-use Rattle.nf_rational.specs.Operations.{0ℚ}
-use Rattle.nf_rational.specs.Order.{◌≤ℚ◌}
+use Rattle.std.proofs.Common.{◌≡◌, ℕ, suc, ◌+◌, ◌-◌, ◌<◌, ◌≤◌, Option, Some, None, sym, ap, subst, ◌∙◌, arith, Ok, Err}
+use Rattle.nf_quick.proofs.Common.{ℚ, 0ℚ, ◌≤ℚ◌, Passing, Halt, Checked, Stops, at_part, ◌>>=◌, Network, IsSound, Walk, QuickStanding, Pushed, Done}
+use Rattle.nf_quick.proofs.Common.{OverBudget, start_of, push_on, next_list, ended, push_and, push_up_to, of_halt, IsPushResult, stops, goes_on, stops_as}
 use Rattle.nf_rational_laws.proofs.Chains.{≤ℚ_refl}
-use Rattle.nf_frac_def.specs.Passing.{Passing}
-use Rattle.nf_frac_def.specs.declared.Halt.{Halt}
 use Rattle.nf_frac_def.specs.declared.Part.TheVariants as Part
-use Rattle.nf_frac_def.specs.Checked.{Checked, Stops, at_part, ◌>>=◌}
-use Rattle.nf_model.specs.Network.{Network}
-use Rattle.nf_quick_def.specs.Flows.{IsSound}
-use Rattle.nf_quick_def.specs.Rounds.{Walk}
-use Rattle.nf_quick_def.specs.Quick.{QuickStanding, Pushed, Done, OverBudget, start_of, push_on, next_list, ended, push_and, push_up_to}
-use Rattle.nf_quick.specs.Answered.{of_halt, IsPushResult}
-use Rattle.nf_residual.proofs.Stopping.{stops, goes_on, stops_as}
 
 -- The remaining pushes give the result of all pushes.
 pub record PushesOn (passes : Passing) (net : Network) (amount : ℚ) (augments : ℕ) (s : QuickStanding) (k : ℕ) : Type 0 where

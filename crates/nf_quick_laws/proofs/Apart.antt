@@ -1,9 +1,10 @@
 -- The first of all residual walks visits no node twice, so it uses no link twice. Its prefixes are shortest walks. It doesn't leave its
 -- last node, nor return to its first one.
-use Rattle.std.proofs.Common.{◌≡◌, ◌≢◌, ℕ, ◌+◌, ◌<◌, ◌≤◌, List, [], ◌∷◌, ◌++◌, length, ◌⊎◌, inl, inr, ⊎_elim, Bool, true, false, sym, ap, subst, refl, ◌∙◌, append_assoc, arith, length-append}
+use Rattle.std.proofs.Common.{◌≡◌, ◌≢◌, ℕ, ◌+◌, ◌<◌, ◌≤◌, List, [], ◌∷◌, ◌++◌, length, ◌⊎◌, inl, inr, ⊎_elim, Bool, true, false, sym, ap, subst, refl, ◌∙◌}
+use Rattle.std.proofs.Common.{append_assoc, arith, length-append}
 use Rattle.nf_quick_laws.proofs.Common.{append-nil, ℚ, 0ℚ, ◌+ℚ◌, ◌≤ℚ◌, ◌<ℚ◌, reading_of, ≤ℚ_of_lt, ≤ℚ_of_same, not_both_ℚ, le, eq, linear_le, linear_eq}
-use Rattle.nf_quick_laws.proofs.Common.{Network, Step, Leads, IsResidualWalk, step_length, walk_length, AreFewerOrFirst, IsAtMost, IsLeastLength, IsFirstWalk}
-use Rattle.nf_quick_laws.proofs.Common.{reach_of}
+use Rattle.nf_quick_laws.proofs.Common.{Network, Step, Leads, IsResidualWalk, step_length, walk_length, AreFewerOrFirst, IsAtMost, IsLeastLength}
+use Rattle.nf_quick_laws.proofs.Common.{IsFirstWalk, reach_of}
 use Rattle.nf_quick_laws.proofs.ResidualWalks.{IsResidualWalk-append, IsResidualWalk-one, walk_length-append, Leads-begin, Leads-turn}
 
 -- ---- the order

@@ -1,12 +1,11 @@
 -- The forward minus the backward crossings of a link by a walk. They balance at each node except the ends of the walk. Weighted with the
 -- transit times, they sum to the walk's length.
-use Rattle.std.proofs.Common.{◌≡◌, ◌≢◌, ℕ, zero, suc, List, [], ◌∷◌, ◌⊎◌, inl, inr, ⊎_elim, Bool, true, false, if◌then◌else◌, eqb, Some, slice_get, sym, ap, subst, refl, ◌∙◌, suc-ne-zero}
-use Rattle.nf_rational_laws.proofs.Facts.{term_and_none}
-use Rattle.nf_rational_laws.proofs.Signs.{first_is_zero}
-use Rattle.nf_quick_laws.proofs.Common.{eqb_tells, ℚ, 0ℚ, 1ℚ, ◌+ℚ◌, ◌-ℚ◌, ◌*ℚ◌, reading_of, eq, eq_times, linear_eq, both_are_zero, first_and_zero}
-use Rattle.nf_quick_laws.proofs.Common.{term_and_zero, zero_of_zero_times, same_terms, same_differences, same_sums, Link, Network, sum_in, sum_out, sum_in-same}
-use Rattle.nf_quick_laws.proofs.Common.{sum_out-same, sum_in-none, sum_out-none, transit_of-is, only_at, out_less_in, Step, begin_of, end_of, directed, Leads}
-use Rattle.nf_quick_laws.proofs.Common.{IsResidualWalk, step_length, walk_length, cost_from, crossed, same_Some}
+use Rattle.std.proofs.Common.{◌≡◌, ◌≢◌, ℕ, zero, suc, List, [], ◌∷◌, ◌⊎◌, inl, inr, ⊎_elim, Bool, true, false, if◌then◌else◌, eqb, Some, slice_get, sym, ap}
+use Rattle.std.proofs.Common.{subst, refl, ◌∙◌, suc-ne-zero}
+use Rattle.nf_quick_laws.proofs.Common.{term_and_none, first_is_zero, eqb_tells, ℚ, 0ℚ, 1ℚ, ◌+ℚ◌, ◌-ℚ◌, ◌*ℚ◌, reading_of, eq, eq_times, linear_eq}
+use Rattle.nf_quick_laws.proofs.Common.{both_are_zero, first_and_zero, term_and_zero, zero_of_zero_times, same_terms, same_differences, same_sums, Link}
+use Rattle.nf_quick_laws.proofs.Common.{Network, sum_in, sum_out, sum_in-same, sum_out-same, sum_in-none, sum_out-none, transit_of-is, only_at, out_less_in}
+use Rattle.nf_quick_laws.proofs.Common.{Step, begin_of, end_of, directed, Leads, IsResidualWalk, step_length, walk_length, cost_from, crossed, same_Some}
 use Rattle.nf_quick_laws.proofs.Apart.{EachStep, Takes, AreApart}
 
 -- ---- link by link

@@ -1,6 +1,7 @@
 -- If no closed residual walk has negative length, each residual walk can be shortened to one with fewer steps than there are nodes, which
 -- is no longer.
-use Rattle.std.proofs.Common.{◌≡◌, ◌≢◌, ℕ, zero, suc, ◌+◌, ◌<◌, ◌≤◌, List, [], ◌∷◌, ◌++◌, length, ◌⊎◌, inl, inr, ⊎_elim, Bool, true, false, eqb, sym, ap, subst, refl, ◌∙◌, append_assoc, arith, length-append}
+use Rattle.std.proofs.Common.{◌≡◌, ◌≢◌, ℕ, zero, suc, ◌+◌, ◌<◌, ◌≤◌, List, [], ◌∷◌, ◌++◌, length, ◌⊎◌, inl, inr, ⊎_elim, Bool, true, false, eqb, sym, ap}
+use Rattle.std.proofs.Common.{subst, refl, ◌∙◌, append_assoc, arith, length-append}
 use Rattle.nf_quick_laws.proofs.Common.{IsDistinct, list_any, eqb_tells, append-nil, ℚ, 0ℚ, ◌+ℚ◌, ◌≤ℚ◌, ◌<ℚ◌, reading_of, ≤ℚ_antisymm, lt_or_le_ℚ, le, eq}
 use Rattle.nf_quick_laws.proofs.Common.{linear_le, Link, Network, IsNetwork, distinct_more, distinct_none, few_below, Step, end_of, Leads, IsResidualWalk}
 use Rattle.nf_quick_laws.proofs.Common.{walk_length, IsAtMost, reach_of, ≤ℚ_refl, ≤ℚ_trans, or_rest}

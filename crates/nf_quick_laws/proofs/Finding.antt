@@ -1,9 +1,11 @@
 -- Round by round: after k rounds the known path of each node is a residual walk, and is at most each walk of at most k steps.
-use Rattle.std.proofs.Common.{◌≡◌, ◌≢◌, ℕ, zero, suc, ◌+◌, ◌<◌, ◌≤◌, List, [], ◌∷◌, ◌++◌, length, ◌⊎◌, inl, inr, ⊎_elim, Bool, true, false, eqb, Option, Some, None, slice_get, Ok, replicate, sym, ap, subst, refl, ◌∙◌, arith, length-append}
-use Rattle.nf_quick_laws.proofs.Common.{eqb_tells, length-set, length-replicate, ℚ, 0ℚ, ◌+ℚ◌, reading_of, eq, linear_eq, Passing, result_of, number_at, Link}
-use Rattle.nf_quick_laws.proofs.Common.{Network, IsLink, IsNetwork, transit_of-is, Step, begin_of, end_of, directed, can_go, Leads, IsResidualWalk, step_length}
-use Rattle.nf_quick_laws.proofs.Common.{walk_length, Reach, IsAtMost, reach_of, same_Some, same_Ok}
-use Rattle.nf_quick_def.specs.Rounds.{Known, known_at, op_of, steps_from, round_list, rounds_list, first_known}
+use Rattle.std.proofs.Common.{◌≡◌, ◌≢◌, ℕ, zero, suc, ◌+◌, ◌<◌, ◌≤◌, List, [], ◌∷◌, ◌++◌, length, ◌⊎◌, inl, inr, ⊎_elim, Bool, true, false, eqb, Option}
+use Rattle.std.proofs.Common.{Some, None, slice_get, Ok, replicate, sym, ap, subst, refl, ◌∙◌, arith, length-append}
+use Rattle.nf_quick_laws.proofs.Common.{eqb_tells, length-set, length-replicate, ℚ, 0ℚ, ◌+ℚ◌, reading_of, eq, linear_eq, Passing, result_of, number_at}
+use Rattle.nf_quick_laws.proofs.Common.{Link, Network, IsLink, IsNetwork, transit_of-is, Step, begin_of, end_of, directed, can_go, Leads, IsResidualWalk}
+use Rattle.nf_quick_laws.proofs.Common.{step_length, walk_length, Reach, IsAtMost, reach_of, same_Some, same_Ok, Known, known_at, op_of, steps_from}
+use Rattle.nf_quick_laws.proofs.Common.{rounds_list, first_known}
+use Rattle.nf_quick_def.specs.Rounds.{round_list}
 use Rattle.nf_quick_laws.proofs.ResidualWalks.{IsResidualWalk-append, IsResidualWalk-one, walk_length-append}
 use Rattle.nf_quick_laws.proofs.Apart.{IsResidualWalk-split, sum_last}
 use Rattle.nf_quick_laws.proofs.Orders.{IsAtMost-refl, IsAtMost-trans, IsAtMost-more}

@@ -1,12 +1,12 @@
 -- The result of all rounds: the first of all residual walks to each node to which one leads. Exact operations never exceed a bound, so such
 -- a walk and a least length exist.
-use Rattle.std.proofs.Common.{◌≡◌, ℕ, zero, suc, ◌+◌, ◌-◌, ◌<◌, ◌≤◌, List, [], ◌∷◌, ◌++◌, length, ◌⊎◌, inl, inr, Bool, true, false, Option, Some, None, Ok, sym, ap, subst, refl, ◌∙◌, arith}
-use Rattle.nf_quick_laws.proofs.Common.{ℚ, Passing, number_at, Link, Network, IsNetwork, Step, begin_of, end_of, can_go, IsResidualWalk, walk_length}
-use Rattle.nf_quick_laws.proofs.Common.{Reach, IsAtMost, IsLeastLength, IsFirstWalk, reach_of, EachHasLeast, NoneNegative, IsFoundAt, same_Some, none-some}
-use Rattle.nf_frac_def.specs.Checked.{Checked, fold_checked, ◌>>=◌}
-use Rattle.nf_frac_def.specs.Passing.{never}
-use Rattle.nf_frac_def.proofs.Exact.{checked-never}
-use Rattle.nf_quick_def.specs.Rounds.{Known, known_at, op_of, offered, along, along_step, steps_from, round_list, rounds_list, reaches_list, first_known}
+use Rattle.std.proofs.Common.{◌≡◌, ℕ, zero, suc, ◌+◌, ◌-◌, ◌<◌, ◌≤◌, List, [], ◌∷◌, ◌++◌, length, ◌⊎◌, inl, inr, Bool, true, false, Option, Some, None, Ok}
+use Rattle.std.proofs.Common.{sym, ap, subst, refl, ◌∙◌, arith}
+use Rattle.nf_quick_laws.proofs.Common.{ℚ, Passing, number_at, Link, Network, IsNetwork, Step, begin_of, end_of, can_go, IsResidualWalk, walk_length, Reach}
+use Rattle.nf_quick_laws.proofs.Common.{IsAtMost, IsLeastLength, IsFirstWalk, reach_of, EachHasLeast, NoneNegative, IsFoundAt, same_Some, none-some}
+use Rattle.nf_quick_laws.proofs.Common.{Checked, fold_checked, ◌>>=◌, never, checked-never, Known, known_at, op_of, offered, along, along_step, steps_from}
+use Rattle.nf_quick_laws.proofs.Common.{rounds_list, first_known}
+use Rattle.nf_quick_def.specs.Rounds.{round_list, reaches_list}
 use Rattle.nf_quick_laws.proofs.Apart.{IsAtMost-length}
 use Rattle.nf_quick_laws.proofs.Orders.{IsAtMost-trans}
 use Rattle.nf_quick_laws.proofs.Offers.{AtMostAt}

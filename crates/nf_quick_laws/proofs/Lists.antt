@@ -1,8 +1,9 @@
 -- The results of the operation sequences, if no operation passes: the first residual walk with its room, and the least lengths.
 use Rattle.std.proofs.Common.{◌≡◌, ℕ, ◌<◌, List, Option, Some, None, slice_get, unwrap_or, option_map, map, Ok, sym, subst, ◌∙◌}
-use Rattle.nf_quick_laws.proofs.Common.{length-map, slice_get-map, same_Some, ℚ, 0ℚ, Passing, Checked, fold_checked, Network, IsNetwork, Step, IsResidualWalk}
-use Rattle.nf_quick_laws.proofs.Common.{IsLimited, Reach, IsLeastLength, IsRoom, IsShortest, AreLeastLengths, NoneNegative, IsFoundAt, same_Ok}
-use Rattle.nf_quick_def.specs.Rounds.{Known, known_at, Walk, room_after, reaches_list, distances_list, with_room, shortest_list}
+use Rattle.nf_quick_laws.proofs.Common.{length-map, slice_get-map, same_Some, ℚ, 0ℚ, Passing, Checked, fold_checked, Network, IsNetwork, Step}
+use Rattle.nf_quick_laws.proofs.Common.{IsResidualWalk, IsLimited, Reach, IsLeastLength, IsRoom, IsShortest, AreLeastLengths, NoneNegative, IsFoundAt}
+use Rattle.nf_quick_laws.proofs.Common.{same_Ok, Known, known_at, Walk, room_after, reaches_list, with_room}
+use Rattle.nf_quick_def.specs.Rounds.{distances_list, shortest_list}
 use Rattle.nf_quick_laws.proofs.Offers.{bind-ok}
 use Rattle.nf_quick_laws.proofs.Found.{IsFoundAt-list, reaches-count, IsLeastLength-first}
 use Rattle.nf_quick_laws.proofs.PushList.{RoomFound, RoomFound-fold, can_go_each, unbounded_walk}

@@ -1,11 +1,11 @@
 -- A push along the first residual walk, of an amount for which it has room, keeps a flow sound.
 use Rattle.std.proofs.Common.{◌≡◌, ◌≢◌, ℕ, ◌<◌, List, [], ◌∷◌, ◌⊎◌, inl, inr, ⊎_elim, Bool, true, false, Option, Some, None, sym, ap, subst, refl, ◌∙◌}
-use Rattle.nf_rational_laws.proofs.Facts.{moved_by_one}
-use Rattle.nf_quick_laws.proofs.Common.{same_Some, append-nil, ℚ, 0ℚ, 1ℚ, ◌+ℚ◌, ◌-ℚ◌, ◌*ℚ◌, ◌≤ℚ◌, ◌<ℚ◌, lt_ℚ, reading_of, less_of_test, le, lt, eq, eq_times}
-use Rattle.nf_quick_laws.proofs.Common.{linear_le, linear_eq, moved_by_zero, zero_not_above, number_at, Link, Network, IsLink, IsNetwork, hops, sum_in, sum_out}
-use Rattle.nf_quick_laws.proofs.Common.{transit_of, sum_in-same, sum_out-same, sum_in-none, sum_in-line, sum_out-line, only_at, only_at-here, only_at-else}
-use Rattle.nf_quick_laws.proofs.Common.{Step, begin_of, end_of, directed, can_go, Leads, IsResidualWalk, step_length, walk_length, IsSound, flow_value, cost_of}
-use Rattle.nf_quick_laws.proofs.Common.{IsLeastLength, IsFirstWalk, HasRoomAlong, HasRoom, HasRoomOn, crossed, IsPushed, EachHasLeast}
+use Rattle.nf_quick_laws.proofs.Common.{moved_by_one, same_Some, append-nil, ℚ, 0ℚ, 1ℚ, ◌+ℚ◌, ◌-ℚ◌, ◌*ℚ◌, ◌≤ℚ◌, ◌<ℚ◌, lt_ℚ, reading_of, less_of_test, le}
+use Rattle.nf_quick_laws.proofs.Common.{lt, eq, eq_times, linear_le, linear_eq, moved_by_zero, zero_not_above, number_at, Link, Network, IsLink, IsNetwork}
+use Rattle.nf_quick_laws.proofs.Common.{hops, sum_in, sum_out, transit_of, sum_in-same, sum_out-same, sum_in-none, sum_in-line, sum_out-line, only_at}
+use Rattle.nf_quick_laws.proofs.Common.{only_at-here, only_at-else, Step, begin_of, end_of, directed, can_go, Leads, IsResidualWalk, step_length}
+use Rattle.nf_quick_laws.proofs.Common.{walk_length, IsSound, flow_value, cost_of, IsLeastLength, IsFirstWalk, HasRoomAlong, HasRoom, HasRoomOn, crossed}
+use Rattle.nf_quick_laws.proofs.Common.{IsPushed, EachHasLeast}
 use Rattle.nf_quick_laws.proofs.ResidualWalks.{Leads-turn}
 use Rattle.nf_quick_laws.proofs.Potentials.{ArePotentials, ArePotentials-walk, ArePotentials-between, ArePotentials-least, IsLeastLength-one}
 use Rattle.nf_quick_laws.proofs.Apart.{EachStep, AreApart, IsFine, front_least, all_fine, all_apart}

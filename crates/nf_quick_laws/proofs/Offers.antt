@@ -1,8 +1,9 @@
 -- One round: each known path is kept or improved, each residual step from a known node is offered, and there are no other entries.
-use Rattle.std.proofs.Common.{◌≡◌, ◌≢◌, ℕ, zero, suc, ◌<◌, List, [], ◌∷◌, ◌++◌, length, ◌⊎◌, inl, inr, ⊎_elim, Bool, true, false, if◌then◌else◌, eqb, Option, Some, None, Ok, Err, set, sym, ap, subst, refl, ◌∙◌, arith}
-use Rattle.nf_quick_laws.proofs.Common.{eqb_tells, length-set, ℚ, Passing, result_of, Checked, checked, fold_checked, ◌>>=◌, checked-is, number_at, Link, Step}
-use Rattle.nf_quick_laws.proofs.Common.{begin_of, end_of, can_go, Reach, IsAtMost, is_better, Known, known_at, better_of, offered, op_of, along, along_step}
-use Rattle.nf_quick_laws.proofs.Common.{same_Some, none-some, same_Ok}
+use Rattle.std.proofs.Common.{◌≡◌, ◌≢◌, ℕ, zero, suc, ◌<◌, List, [], ◌∷◌, ◌++◌, length, ◌⊎◌, inl, inr, ⊎_elim, Bool, true, false, if◌then◌else◌, eqb}
+use Rattle.std.proofs.Common.{Option, Some, None, Ok, Err, set, sym, ap, subst, refl, ◌∙◌, arith}
+use Rattle.nf_quick_laws.proofs.Common.{eqb_tells, length-set, ℚ, Passing, result_of, Checked, checked, fold_checked, ◌>>=◌, checked-is, number_at, Link}
+use Rattle.nf_quick_laws.proofs.Common.{Step, begin_of, end_of, can_go, Reach, IsAtMost, is_better, Known, known_at, better_of, offered, op_of, along}
+use Rattle.nf_quick_laws.proofs.Common.{along_step, same_Some, none-some, same_Ok}
 use Rattle.nf_quick_laws.proofs.Orders.{IsAtMost-refl, IsAtMost-trans, is_better-true, is_better-false}
 
 -- ---- a checked operation that doesn't pass has its exact value

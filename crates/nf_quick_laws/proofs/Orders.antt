@@ -1,5 +1,6 @@
 -- The order of paths is total and transitive, the test decides it, and extending both by a step preserves it.
-use Rattle.std.proofs.Common.{◌≡◌, ◌≢◌, ℕ, suc, ◌+◌, ◌<◌, ◌≤◌, ◌==◌, ◌&&◌, ◌||◌, nat_lt, List, [], ◌∷◌, ◌++◌, length, ◌⊎◌, inl, inr, ⊎_elim, Bool, true, false, not, leb, sym, refl, ◌∙◌, arith, length-append}
+use Rattle.std.proofs.Common.{◌≡◌, ◌≢◌, ℕ, suc, ◌+◌, ◌<◌, ◌≤◌, ◌==◌, ◌&&◌, ◌||◌, nat_lt, List, [], ◌∷◌, ◌++◌, length, ◌⊎◌, inl, inr, ⊎_elim, Bool, true}
+use Rattle.std.proofs.Common.{false, not, leb, sym, refl, ◌∙◌, arith, length-append}
 use Rattle.nf_quick_laws.proofs.Common.{leb_tells, ℚ, ◌+ℚ◌, ◌≤ℚ◌, ◌<ℚ◌, lt_ℚ, reading_of, ≤ℚ_antisymm, lt_or_le_ℚ, less_of_test, not_less_of_test, lt, eq}
 use Rattle.nf_quick_laws.proofs.Common.{linear_lt, linear_eq, Step, place, Reach, AreFirst, AreFewerOrFirst, IsAtMost, are_before, are_fewer_or_before}
 use Rattle.nf_quick_laws.proofs.Common.{is_better, and_parts, not-false, not-true, or_parts, eqb-true, eqb-false, ltb-true, ltb-false, <ℚ_trans}

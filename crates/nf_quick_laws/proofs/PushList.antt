@@ -1,11 +1,12 @@
 -- The push list, if no operation passes, is a push. The room computed along a walk is the greatest amount that has room on it.
-use Rattle.std.proofs.Common.{◌≡◌, ◌≢◌, ℕ, zero, suc, ◌<◌, List, [], ◌∷◌, length, ◌⊎◌, inl, inr, ⊎_elim, Bool, true, false, if◌then◌else◌, eqb, Option, Some, None, unwrap_or, option_map, Ok, set, sym, ap, subst, refl, ◌∙◌, arith}
-use Rattle.nf_quick_laws.proofs.Common.{eqb_tells, length-set, ℚ, 0ℚ, 1ℚ, ◌+ℚ◌, ◌-ℚ◌, ◌*ℚ◌, ◌≤ℚ◌, ◌<ℚ◌, reading_of, less_of_test, le, eq, eq_times, linear_le}
-use Rattle.nf_quick_laws.proofs.Common.{linear_eq, Passing, result_of, Checked, checked, fold_checked, Difference, checked-is, number_at, Link, Network, IsLink}
-use Rattle.nf_quick_laws.proofs.Common.{Step, begin_of, end_of, directed, can_go, IsResidualWalk, IsUnboundedWalk, HasRoomAlong, HasRoom, HasRoomOn, op_of}
-use Rattle.nf_quick_laws.proofs.Common.{lesser, capacity_of, room_along, room_after, IsPushed, ≤ℚ_refl, ≤ℚ_trans, min_left, min_right, min_keeps, same_Ok}
-use Rattle.nf_quick_laws.proofs.Common.{plus_zero_times, less_ps}
-use Rattle.nf_quick_def.specs.Pushes.{push_step, push_list}
+use Rattle.std.proofs.Common.{◌≡◌, ◌≢◌, ℕ, zero, suc, ◌<◌, List, [], ◌∷◌, length, ◌⊎◌, inl, inr, ⊎_elim, Bool, true, false, if◌then◌else◌, eqb, Option}
+use Rattle.std.proofs.Common.{Some, None, unwrap_or, option_map, Ok, set, sym, ap, subst, refl, ◌∙◌, arith}
+use Rattle.nf_quick_laws.proofs.Common.{eqb_tells, length-set, ℚ, 0ℚ, 1ℚ, ◌+ℚ◌, ◌-ℚ◌, ◌*ℚ◌, ◌≤ℚ◌, ◌<ℚ◌, reading_of, less_of_test, le, eq, eq_times}
+use Rattle.nf_quick_laws.proofs.Common.{linear_le, linear_eq, Passing, result_of, Checked, checked, fold_checked, Difference, checked-is, number_at, Link}
+use Rattle.nf_quick_laws.proofs.Common.{Network, IsLink, Step, begin_of, end_of, directed, can_go, IsResidualWalk, IsUnboundedWalk, HasRoomAlong, HasRoom}
+use Rattle.nf_quick_laws.proofs.Common.{HasRoomOn, op_of, lesser, capacity_of, room_along, room_after, IsPushed, ≤ℚ_refl, ≤ℚ_trans, min_left, min_right}
+use Rattle.nf_quick_laws.proofs.Common.{min_keeps, same_Ok, plus_zero_times, less_ps, push_step}
+use Rattle.nf_quick_def.specs.Pushes.{push_list}
 use Rattle.nf_quick_laws.proofs.Apart.{EachStep}
 use Rattle.nf_quick_laws.proofs.Crossings.{choose, choose_not}
 use Rattle.nf_quick_laws.proofs.Offers.{bind-ok}

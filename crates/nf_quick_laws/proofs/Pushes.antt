@@ -1,7 +1,7 @@
 -- The push list along the shortest walk keeps a flow sound.
 use Rattle.std.proofs.Common.{◌≡◌, ℕ, ◌<◌, List, [], ◌∷◌, length, Bool, true, false, Option, Some, None, Ok, sym, subst}
-use Rattle.nf_quick_laws.proofs.Common.{slice_get_within, ℚ, 0ℚ, ◌+ℚ◌, ◌≤ℚ◌, ◌<ℚ◌, reading_of, le, linear_le, Passing, Network, IsNetwork, Step, IsResidualWalk}
-use Rattle.nf_quick_laws.proofs.Common.{IsSound, HasRoomAlong, HasRoomOn, Walk, push_list, IsShortestWalk, IsPush, ≤ℚ_trans}
+use Rattle.nf_quick_laws.proofs.Common.{slice_get_within, ℚ, 0ℚ, ◌+ℚ◌, ◌≤ℚ◌, ◌<ℚ◌, reading_of, le, linear_le, Passing, Network, IsNetwork, Step}
+use Rattle.nf_quick_laws.proofs.Common.{IsResidualWalk, IsSound, HasRoomAlong, HasRoomOn, Walk, push_list, IsShortestWalk, IsPush, ≤ℚ_trans}
 use Rattle.nf_quick_laws.proofs.Apart.{EachStep}
 use Rattle.nf_quick_laws.proofs.Found.{EachHasLeast-sound}
 use Rattle.nf_quick_laws.proofs.PushList.{IsPushed-list}

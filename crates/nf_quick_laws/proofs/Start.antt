@@ -1,10 +1,9 @@
 -- The flow 0 is sound, and each walk of the network is a residual walk for it.
 use Rattle.std.proofs.Common.{◌≡◌, ℕ, List, [], ◌∷◌, length, Bool, true, false, Option, Some, None, replicate, sym, ap, subst, refl, ◌∙◌}
-use Rattle.nf_model.proofs.Entries.{number_at-zeros}
-use Rattle.nf_quick_laws.proofs.Common.{length-replicate, ℚ, 0ℚ, ◌≤ℚ◌, ◌<ℚ◌, ≤ℚ_of_lt, ≤ℚ_of_same, nn_plus, less_of_test, test_of_less, number_at, Hop, IsWalk}
-use Rattle.nf_quick_laws.proofs.Common.{transit_of, Link, Network, IsLink, IsNetwork, hops, hop_of, sum_out, sum_in-same, sum_out-same, sum_in-none}
-use Rattle.nf_quick_laws.proofs.Common.{sum_out-none, transit_of-is, link_at, Step, directed, is_below, can_go, IsResidualWalk, walk_length, IsSound, flow_value}
-use Rattle.nf_quick_laws.proofs.Common.{cost_of, ≤ℚ_refl, zero_not_above}
+use Rattle.nf_quick_laws.proofs.Common.{number_at-zeros, length-replicate, ℚ, 0ℚ, ◌≤ℚ◌, ◌<ℚ◌, ≤ℚ_of_lt, ≤ℚ_of_same, nn_plus, less_of_test, test_of_less}
+use Rattle.nf_quick_laws.proofs.Common.{number_at, Hop, IsWalk, transit_of, Link, Network, IsLink, IsNetwork, hops, hop_of, sum_out, sum_in-same}
+use Rattle.nf_quick_laws.proofs.Common.{sum_out-same, sum_in-none, sum_out-none, transit_of-is, link_at, Step, directed, is_below, can_go, IsResidualWalk}
+use Rattle.nf_quick_laws.proofs.Common.{walk_length, IsSound, flow_value, cost_of, ≤ℚ_refl, zero_not_above}
 use Rattle.nf_quick_laws.proofs.Crossings.{cost_from-none}
 
 module _ (net : Network) (good : IsNetwork net) where

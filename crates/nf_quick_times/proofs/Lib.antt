@@ -1,3 +1,4 @@
+mod Common
 pub mod NodeByNode
 pub mod SupplyOn
 pub mod PieceByPiece

@@ -1,19 +1,12 @@
 -- The cut times node by node, and the value of a cut link by link.
-use Rattle.std.proofs.Common.{◌≡◌, ℕ, ◌+◌, ◌<◌, ◌≤◌, List, [], ◌∷◌, ◌++◌, length, drop, get_or, Option, Some, None, slice_get, unwrap_or, refl, sym, ap, ◌∙◌}
-use Rattle.std.specs.Prelude.{Ok, Err}
+use Rattle.std.proofs.Common.{◌≡◌, ℕ, ◌+◌, ◌<◌, ◌≤◌, List, [], ◌∷◌, ◌++◌, length, drop, get_or, Option, Some, None, slice_get, unwrap_or, refl, sym, ap}
+use Rattle.std.proofs.Common.{◌∙◌, Ok, Err}
+use Rattle.nf_quick_times.proofs.Common.{drop_more, drop_all, slice_get_within, get_or_from_slice_get, ℚ, 0ℚ, Passing, PassedAt, Checked, at_part, each}
+use Rattle.nf_quick_times.proofs.Common.{fold_checked, each_goes, each_stops, each_ends, Link, node_time, node_time_at, value_after}
 use Rattle.std.specs.List.{enumerate_from}
-use Rattle.std.proofs.lemmas.List.{drop_more, drop_all}
-use Rattle.std.proofs.lemmas.Option.{slice_get_within, get_or_from_slice_get}
-use Rattle.nf_rational.specs.Rational.{ℚ}
-use Rattle.nf_rational.specs.Operations.{0ℚ}
-use Rattle.nf_frac_def.specs.Passing.{Passing}
 use Rattle.nf_frac_def.specs.declared.Part.TheVariants as Part
-use Rattle.nf_frac_def.specs.declared.PassedAt.{PassedAt}
-use Rattle.nf_frac_def.specs.Checked.{Checked, at_part, each, fold_checked}
 use Rattle.nf_frac_def.proofs.Each.{with_front}
-use Rattle.nf_curve.proofs.Exits.{each_goes, each_stops, each_ends}
-use Rattle.nf_model.specs.Network.{Link}
-use Rattle.nf_quick_def.specs.Cuts.{node_time, node_time_at, node_times_list, value_after, value_list}
+use Rattle.nf_quick_def.specs.Cuts.{node_times_list, value_list}
 use Rattle.nf_residual.proofs.Folding.{FoldsOn, fold_all, fold_stops, fold_more}
 
 -- The cut times so far, and those from a node on.

@@ -1,23 +1,13 @@
 -- The least departure, searched piece by piece.
-use Rattle.std.proofs.Common.{◌≡◌, ℕ, zero, suc, ◌+◌, List, [], ◌∷◌, drop, Bool, true, false, Option, Some, None, slice_get, option_map, refl, sym, ap, subst, ◌∙◌, add-one}
-use Rattle.std.specs.Prelude.{Result, Ok, Err, IfOk}
-use Rattle.std.proofs.lemmas.List.{drop_more}
-use Rattle.std.proofs.lemmas.Option.{slice_get_within, get_or_from_slice_get}
-use Rattle.nf_rational.specs.Rational.{ℚ}
-use Rattle.nf_rational.specs.Operations.{0ℚ}
-use Rattle.nf_rational.specs.Order.{◌≤ℚ◌, ◌<ℚ◌, le_ℚ, lt_ℚ}
-use Rattle.nf_rational_laws.proofs.Tests.{le_of_test, lt_of_test}
-use Rattle.nf_frac_def.specs.Passing.{Passing}
+use Rattle.std.proofs.Common.{◌≡◌, ℕ, zero, suc, ◌+◌, List, [], ◌∷◌, drop, Bool, true, false, Option, Some, None, slice_get, option_map, refl, sym, ap}
+use Rattle.std.proofs.Common.{subst, ◌∙◌, add-one, Result, Ok, Err, IfOk}
+use Rattle.nf_quick_times.proofs.Common.{drop_more, slice_get_within, get_or_from_slice_get, ℚ, 0ℚ, ◌≤ℚ◌, ◌<ℚ◌, le_ℚ, lt_ℚ, le_of_test, lt_of_test, Passing}
+use Rattle.nf_quick_times.proofs.Common.{PassedAt, Checked, at_part, ◌>>=◌, Piece, Network, ArePieces, supplied, StartsRise-pieces, plus_piece}
+use Rattle.nf_quick_times.proofs.Common.{checked_supply, within_piece, last_piece, by_next, departs, departure_of, IsDeparture, if_ok}
 use Rattle.nf_frac_def.specs.declared.Part.TheVariants as Part
-use Rattle.nf_frac_def.specs.declared.PassedAt.{PassedAt}
-use Rattle.nf_frac_def.specs.Checked.{Checked, at_part, ◌>>=◌}
-use Rattle.nf_model.specs.Network.{Piece, Network, ArePieces, supplied}
-use Rattle.nf_model_laws.proofs.Supply.{StartsRise-pieces}
-use Rattle.nf_net.specs.Supply.{plus_piece, checked_supply}
 use Rattle.nf_net.proofs.Supplied.{value_supplied}
-use Rattle.nf_quick_def.specs.Departures.{within_piece, last_piece, by_next, departs, departure_of, departure_list, IsDeparture}
+use Rattle.nf_quick_def.specs.Departures.{departure_list}
 use Rattle.nf_quick_laws.proofs.Departing.{IsBefore, rate_before_next, before_next, before_first, IsDeparture-list}
-use Rattle.nf_curve.proofs.Exits.{if_ok}
 use Rattle.nf_residual.proofs.Stopping.{ok_of_part, stopped}
 use Rattle.nf_quick_times.proofs.SupplyOn.{supply_goes_on, first_supply}
 

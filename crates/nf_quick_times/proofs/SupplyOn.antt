@@ -1,22 +1,13 @@
 -- The supply by the next start equals the supply by this start plus the amount of the piece between.
-use Rattle.std.proofs.Common.{◌≡◌, ℕ, zero, suc, Bool, if◌then◌else◌, List, [], ◌∷◌, Some, slice_get, sym, ap, subst, ◌∙◌}
-use Rattle.std.specs.Prelude.{Ok}
-use Rattle.std.proofs.lemmas.Option.{same_Some}
-use Rattle.nf_rational.specs.Rational.{ℚ}
-use Rattle.nf_rational.specs.Operations.{0ℚ}
-use Rattle.nf_rational.specs.Order.{◌≤ℚ◌, ◌<ℚ◌}
-use Rattle.nf_rational_laws.proofs.Tests.{test_of_less, test_of_not_less}
+use Rattle.std.proofs.Common.{◌≡◌, ℕ, zero, suc, Bool, if◌then◌else◌, List, [], ◌∷◌, Some, slice_get, sym, ap, subst, ◌∙◌, Ok}
+use Rattle.nf_quick_times.proofs.Common.{same_Some, ℚ, 0ℚ, ◌≤ℚ◌, ◌<ℚ◌, test_of_less, test_of_not_less, Passing, Checked, ◌>>=◌, Piece, StartsRise}
+use Rattle.nf_quick_times.proofs.Common.{end_before, plus_piece, supplied_after}
 use Rattle.nf_rational_laws.proofs.Order.{≤ℚ_of_lt}
 use Rattle.nf_rational_laws.proofs.Polynomial.{reading_of}
 use Rattle.nf_rational_laws.proofs.Linear.{le, lt, linear_lt}
 use Rattle.nf_rational_laws.proofs.Chains.{≤ℚ_refl, ≤ℚ_trans}
 use Rattle.nf_rational_laws.proofs.Extremes.{min_is_right}
-use Rattle.nf_frac_def.specs.Passing.{Passing}
-use Rattle.nf_frac_def.specs.Checked.{Checked, ◌>>=◌}
 use Rattle.nf_frac_def.proofs.Binding.{bind_same, bind_end}
-use Rattle.nf_model.specs.Network.{Piece}
-use Rattle.nf_model_laws.proofs.Supply.{StartsRise}
-use Rattle.nf_net.specs.Supply.{end_before, plus_piece, supplied_after}
 use Rattle.nf_residual.proofs.LegByLeg.{bind_more}
 
 at_or_after : (q : Piece) (later : List Piece) (k : ℕ) (piece : Piece) → StartsRise (q ∷ later) → slice_get (q ∷ later) k ≡ Some piece → q.start ≤ℚ piece.start

@@ -1,13 +1,8 @@
 -- Growing tables of walks of unbounded links.
-use Rattle.std.proofs.Common.{◌≡◌, ℕ, zero, suc, ◌<◌, List, [], ◌∷◌, ◌++◌, length, set, replicate, true, false, not, ◌&&◌, ◌⊎◌, inl, inr, ⊎_elim, eqb, ◌≢◌, Option, Some, None, refl, sym, ap, subst, ◌∙◌, arith}
-use Rattle.std.specs.Prelude.{is_none, is_some}
-use Rattle.std.proofs.lemmas.List.{length-set, length-replicate}
-use Rattle.std.proofs.lemmas.Bool.Decides.{eqb_tells}
-use Rattle.nf_rational.specs.Rational.{ℚ}
-use Rattle.nf_rational_laws.proofs.Results.{not_both}
-use Rattle.nf_model.specs.Network.{Link, Network, IsLink, IsNetwork}
-use Rattle.nf_quick_def.specs.Steps.{IsUnboundedWalk}
-use Rattle.nf_quick_walks.specs.Ways.{Ways, walk_to, leads_on, LeadsToNew, NoneLeadsOn, AreWays, AreAllWays}
+use Rattle.std.proofs.Common.{◌≡◌, ℕ, zero, suc, ◌<◌, List, [], ◌∷◌, ◌++◌, length, set, replicate, true, false, not, ◌&&◌, ◌⊎◌, inl, inr, ⊎_elim, eqb, ◌≢◌}
+use Rattle.std.proofs.Common.{Option, Some, None, refl, sym, ap, subst, ◌∙◌, arith, is_none, is_some}
+use Rattle.nf_quick_walks.proofs.Common.{length-set, length-replicate, eqb_tells, ℚ, not_both, Link, Network, IsLink, IsNetwork, IsUnboundedWalk, Ways}
+use Rattle.nf_quick_walks.proofs.Common.{walk_to, leads_on, LeadsToNew, NoneLeadsOn, AreWays, AreAllWays}
 
 -- ---- the number of nodes without a walk
 abbrev pub unknown : Ways → ℕ

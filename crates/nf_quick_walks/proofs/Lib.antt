@@ -1,3 +1,4 @@
+mod Common
 pub mod WalkByWalk
 pub mod SpentLinks
 pub mod OnePush

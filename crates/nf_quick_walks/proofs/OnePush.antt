@@ -1,22 +1,11 @@
 -- The next shortest walk, and its push.
-use Rattle.std.proofs.Common.{◌≡◌, List, [], ◌∷◌, ◌++◌, Bool, true, false, Option, Some, None, sym, ap, subst, ◌∙◌}
-use Rattle.std.specs.Prelude.{Ok, Err, IfSome, if◌then◌else◌}
-use Rattle.nf_rational.specs.Rational.{ℚ}
-use Rattle.nf_rational.specs.Operations.{0ℚ}
-use Rattle.nf_rational.specs.Order.{◌≤ℚ◌, ◌<ℚ◌}
+use Rattle.std.proofs.Common.{◌≡◌, List, [], ◌∷◌, ◌++◌, Bool, true, false, Option, Some, None, sym, ap, subst, ◌∙◌, Ok, Err, IfSome, if◌then◌else◌}
+use Rattle.nf_quick_walks.proofs.Common.{ℚ, 0ℚ, ◌≤ℚ◌, ◌<ℚ◌, Passing, Sum, PassedAt, Checked, at_part, checked, checked_at, ◌>>=◌, Network, Walk}
+use Rattle.nf_quick_walks.proofs.Common.{shortest_list, IsShortestWalk, IsShortest, Times, push_list, time_list, Augment, QuickStanding, is_early, push_on}
+use Rattle.nf_quick_walks.proofs.Common.{next_of, next_list, ok_of_part, stopped, goes_on}
 use Rattle.nf_rational_laws.proofs.Signs.{nn_plus_ps}
-use Rattle.nf_frac_def.specs.Passing.{Passing}
-use Rattle.nf_frac_def.specs.declared.Op.TheVariants.{Sum}
 use Rattle.nf_frac_def.specs.declared.Part.TheVariants as Part
-use Rattle.nf_frac_def.specs.declared.PassedAt.{PassedAt}
-use Rattle.nf_frac_def.specs.Checked.{Checked, at_part, checked, checked_at, ◌>>=◌}
-use Rattle.nf_model.specs.Network.{Network}
-use Rattle.nf_quick_def.specs.Rounds.{Walk, shortest_list}
-use Rattle.nf_quick_def.specs.Answers.{IsShortestWalk, IsShortest}
-use Rattle.nf_quick_def.specs.Pushes.{Times, push_list, time_list}
-use Rattle.nf_quick_def.specs.Quick.{Augment, QuickStanding, is_early, push_on, next_of, next_list}
 use Rattle.nf_frac_def.proofs.Exact.{checked-is}
-use Rattle.nf_residual.proofs.Stopping.{ok_of_part, stopped, goes_on}
 
 -- the sum of a rate of at least 0 and one above 0
 pub some_sum : (passes : Passing) (so_far rate all : ℚ) → 0ℚ ≤ℚ so_far → 0ℚ <ℚ rate → Ok all ≡ checked_at passes Part.Quick Sum so_far rate → 0ℚ <ℚ all

@@ -1,24 +1,11 @@
 -- Spent links stay spent while walks are removed.
-use Rattle.std.proofs.Common.{◌≡◌, ◌≢◌, ℕ, zero, suc, ◌+◌, ◌<◌, ◌≤◌, ◌==◌, ◌&&◌, ◌⊎◌, inl, inr, ⊎_elim, Bool, true, false, if◌then◌else◌, List, [], ◌∷◌, ◌++◌, length, set, replicate, get_or, Option, Some, None, slice_get, unwrap_or, refl, sym, ap, subst, ◌∙◌, add-one, arith}
-use Rattle.std.specs.Prelude.{Ok}
-use Rattle.std.proofs.lemmas.List.{drop_all}
-use Rattle.std.proofs.lemmas.Option.{slice_get_cases, same_Some}
+use Rattle.std.proofs.Common.{◌≡◌, ◌≢◌, ℕ, zero, suc, ◌+◌, ◌<◌, ◌≤◌, ◌==◌, ◌&&◌, ◌⊎◌, inl, inr, ⊎_elim, Bool, true, false, if◌then◌else◌, List, [], ◌∷◌}
+use Rattle.std.proofs.Common.{◌++◌, length, set, replicate, get_or, Option, Some, None, slice_get, unwrap_or, refl, sym, ap, subst, ◌∙◌, add-one, arith, Ok}
+use Rattle.nf_quick_walks.proofs.Common.{drop_all, slice_get_cases, same_Some, ℚ, 0ℚ, lt_ℚ, Passing, Difference, checked, fold_checked, at_part, same_Ok}
+use Rattle.nf_quick_walks.proofs.Common.{not_both, number_at, Link, first_out, take_link, take_list, ok_of_part, is_out, IsSpent, AreSpent, HaveFlow}
 use Rattle.std.proofs.lemmas.Bool.{and_parts}
-use Rattle.nf_rational.specs.Rational.{ℚ}
-use Rattle.nf_rational.specs.Operations.{0ℚ}
-use Rattle.nf_rational.specs.Order.{lt_ℚ}
-use Rattle.nf_frac_def.specs.Passing.{Passing}
-use Rattle.nf_frac_def.specs.declared.Op.TheVariants.{Difference}
 use Rattle.nf_frac_def.specs.declared.Part.TheVariants as Part
-use Rattle.nf_frac_def.specs.Checked.{checked, fold_checked, at_part}
 use Rattle.nf_frac_def.proofs.Binding.{bind_ok}
-use Rattle.nf_rational_laws.proofs.Results.{same_Ok}
-use Rattle.nf_rational_laws.proofs.Results.{not_both}
-use Rattle.nf_model.specs.Entries.{number_at}
-use Rattle.nf_model.specs.Network.{Link}
-use Rattle.nf_quick_def.specs.Walks.{first_out, take_link, take_list}
-use Rattle.nf_residual.proofs.Stopping.{ok_of_part}
-use Rattle.nf_quick_walks.specs.Spent.{is_out, IsSpent, AreSpent, HaveFlow}
 use Rattle.nf_quick_walks.proofs.WalkByWalk.{LooksOn, looks_first, looks_more}
 
 -- ---- the search continues after the spent links

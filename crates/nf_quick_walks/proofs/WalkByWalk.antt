@@ -1,26 +1,15 @@
 -- The decomposition of a flow, walk by walk.
-use Rattle.std.proofs.Common.{◌≡◌, ℕ, suc, ◌+◌, ◌-◌, ◌<◌, ◌≤◌, ◌==◌, List, [], ◌∷◌, ◌++◌, length, drop, take, get_or, Bool, true, false, ⊎_elim, eqb, ◌≢◌, Option, Some, None, slice_get, unwrap_or, option_map, refl, sym, ap, subst, ◌∙◌, append_assoc, append-nil, take_all, add-one, arith}
-use Rattle.std.specs.Prelude.{Ok, Err, if◌then◌else◌}
-use Rattle.std.specs.List.{AllByRecursion}
-use Rattle.std.proofs.lemmas.List.{drop_more, take_more}
-use Rattle.std.proofs.lemmas.Option.{slice_get_within, get_or_from_slice_get, unwrap_or-slice_get}
-use Rattle.std.proofs.lemmas.Bool.Decides.{eqb_tells}
-use Rattle.nf_rational.specs.Rational.{ℚ}
-use Rattle.nf_rational.specs.Operations.{0ℚ}
-use Rattle.nf_rational_laws.proofs.Results.{not_both}
+use Rattle.std.proofs.Common.{◌≡◌, ℕ, suc, ◌+◌, ◌-◌, ◌<◌, ◌≤◌, ◌==◌, List, [], ◌∷◌, ◌++◌, length, drop, take, get_or, Bool, true, false, ⊎_elim, eqb, ◌≢◌}
+use Rattle.std.proofs.Common.{Option, Some, None, slice_get, unwrap_or, option_map, refl, sym, ap, subst, ◌∙◌, append_assoc, append-nil, take_all, add-one}
+use Rattle.std.proofs.Common.{arith, Ok, Err, if◌then◌else◌}
+use Rattle.nf_quick_walks.proofs.Common.{AllByRecursion, drop_more, take_more, slice_get_within, get_or_from_slice_get, unwrap_or-slice_get, eqb_tells, ℚ}
+use Rattle.nf_quick_walks.proofs.Common.{0ℚ, not_both, Passing, PassedAt, Checked, at_part, ◌>>=◌, number_at, Link, Network, IsLink, first_out, head_of}
+use Rattle.nf_quick_walks.proofs.Common.{way_from, way_out, least_along, take_list, walk_and, walks_off, stopped, goes_on, is_out}
 use Rattle.nf_rational_laws.proofs.Entries.{all_push}
-use Rattle.nf_frac_def.specs.Passing.{Passing}
 use Rattle.nf_frac_def.specs.declared.Part.TheVariants as Part
-use Rattle.nf_frac_def.specs.declared.PassedAt.{PassedAt}
-use Rattle.nf_frac_def.specs.Checked.{Checked, at_part, ◌>>=◌}
 use Rattle.nf_frac_def.proofs.Each.{with_front}
 use Rattle.nf_curve.proofs.Exits.{front_err, front_more, front_ends}
-use Rattle.nf_model.specs.Entries.{number_at}
-use Rattle.nf_model.specs.Network.{Link, Network, IsLink}
 use Rattle.nf_model.specs.Quickest.{Fed}
-use Rattle.nf_quick_def.specs.Walks.{first_out, head_of, way_from, way_out, least_along, take_list, walk_and, walks_off}
-use Rattle.nf_residual.proofs.Stopping.{stopped, goes_on}
-use Rattle.nf_quick_walks.specs.Spent.{is_out}
 
 -- ---- the flows of the links, with one more
 pub flow_more : (all so_far next : List ℚ) (k : ℕ) (x : ℚ) → k < length all → so_far ≡ take k all → x ≡ number_at all k → next ≡ so_far ++ x ∷ [] → next ≡ take (k + 1) all

@@ -1,6 +1,6 @@
 -- The entries of lists.
-use Rattle.std.proofs.Common.{◌≡◌, ◌⊎◌, inl, inr, ⊎_elim, ℕ, zero, suc, ◌+◌, ◌<◌, List, [], ◌∷◌, ◌++◌, length, slice_get, get_or, unwrap_or, set, take, drop, replicate, sym, ap, ◌∙◌, refl, arith, option_map}
-use Rattle.std.specs.Prelude.{Option, Some, map}
+use Rattle.std.proofs.Common.{◌≡◌, ◌⊎◌, inl, inr, ⊎_elim, ℕ, zero, suc, ◌+◌, ◌<◌, List, [], ◌∷◌, ◌++◌, length, slice_get, get_or, unwrap_or, set, take}
+use Rattle.std.proofs.Common.{drop, replicate, sym, ap, ◌∙◌, refl, arith, option_map, Option, Some, map}
 use Rattle.std.specs.List.{last_or, enumerate_from, range_with_len, AllByRecursion}
 use Rattle.std.proofs.lemmas.List.FromFn.{get_or-range_with_len, length-range_with_len}
 use Rattle.std.proofs.lemmas.Option.{slice_get-map, slice_get-get_or, same_Some, none-some}

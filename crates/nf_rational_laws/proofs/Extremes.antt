@@ -1,7 +1,6 @@
 -- The lesser and the greater of two numbers.
 use Rattle.std.proofs.Common.{◌≡◌, ⊎_elim, sym, subst, ◌∙◌}
-use Rattle.nf_rational.specs.Rational.{ℚ}
-use Rattle.nf_rational.specs.Order.{◌≤ℚ◌, ◌<ℚ◌, min_ℚ, max_ℚ}
+use Rattle.nf_rational_laws.proofs.Common.{ℚ, ◌≤ℚ◌, ◌<ℚ◌, min_ℚ, max_ℚ}
 use Rattle.nf_rational_laws.proofs.Order.{≤ℚ_of_lt, ≤ℚ_of_same, ≤ℚ_antisymm, not_both_ℚ}
 use Rattle.nf_rational_laws.proofs.Tests.{min_ℚ_cases, max_ℚ_cases}
 

@@ -1,11 +1,11 @@
 -- The laws of the rational numbers as a field.
 use Rattle.std.proofs.Common.{◌≡◌, [], ◌∷◌, refl, ◌∙◌, ap}
+use Rattle.nf_rational_laws.proofs.Common.{ℚ, 0ℚ, 1ℚ, whole, ◌+ℚ◌, ◌*ℚ◌, neg_ℚ}
 use lib.IntN.{ℤ, pos, negsuc, ◌+ℤ◌, ◌*ℤ◌, neg_ℤ}
 use Rattle.nf_rational_laws.proofs.Ints.{neg_ℤ-is}
 use Rattle.nf_rational_laws.proofs.Polynomial.{Ring, ring, reading}
 use Rattle.nf_rational_laws.proofs.IntegerRing.{ints_ring}
-use Rattle.nf_rational.specs.Rational.{ℚ}
-use Rattle.nf_rational.specs.Operations.{0ℚ, 1ℚ, whole, ◌+ℚ◌, ◌-ℚ◌, ◌*ℚ◌, neg_ℚ}
+use Rattle.nf_rational.specs.Operations.{◌-ℚ◌}
 use Rattle.nf_rational_laws.proofs.Ratio.{Is, Is-self, Is-same, Is-plus, Is-times, Is-minus, Is-less, Is-whole}
 
 plus_comm' : {x y : ℚ} (n d m e : ℤ) → Is x n d → Is y m e → x +ℚ y ≡ y +ℚ x

@@ -1,3 +1,4 @@
+mod Common
 pub mod Ints
 pub mod Polynomial
 pub mod IntegerRing

@@ -2,16 +2,17 @@
 --     linear_le ρ facts (search reading_of) tt : x ≤ y, and likewise linear_lt, linear_eq and linear_false
 -- ρ lists the atoms; `facts` is a list of `le h`, `lt h`, `eq h` and `le_times nonneg h`.
 -- The search's default depth of 5 finds nearly every term; a few need `(search reading_of depth 12)`.
-use Rattle.std.proofs.Common.{◌≡◌, ℕ, zero, suc, ◌+◌, ◌*◌, ltb, List, [], ◌∷◌, ◌++◌, ⊎_elim, Bool, true, false, not, cond, ◌&&◌, ◌||◌, T, refl, sym, ◌∙◌, ap}
+use Rattle.std.proofs.Common.{◌≡◌, ℕ, zero, suc, ◌+◌, ◌*◌, ltb, List, [], ◌∷◌, ◌++◌, ⊎_elim, Bool, true, false, not, cond, ◌&&◌, ◌||◌, T, refl, sym, ◌∙◌}
+use Rattle.std.proofs.Common.{ap}
+use Rattle.nf_rational_laws.proofs.Common.{ℚ, 0ℚ, whole, ◌+ℚ◌, ◌-ℚ◌, ◌*ℚ◌, ◌≤ℚ◌, ◌<ℚ◌}
 use mathlib.Core.Path.{ap₂}
 use lib.IntN.{ℤ, pos, negsuc, ◌+ℤ◌, ◌*ℤ◌, neg_ℤ}
-use Rattle.nf_rational_laws.proofs.Polynomial.{sub, mul, Poly, none, term, norm, norm-is, value, is_nil, Reads, code, code-is, ring, reading, r_of, join, scale, join-is, scale-is, same_list}
-use Rattle.nf_rational.specs.Rational.{ℚ}
-use Rattle.nf_rational.specs.Operations.{0ℚ, whole, ◌+ℚ◌, ◌-ℚ◌, ◌*ℚ◌}
-use Rattle.nf_rational.specs.Order.{◌≤ℚ◌, ◌<ℚ◌}
+use Rattle.nf_rational_laws.proofs.Polynomial.{sub, mul, Poly, none, term, norm, norm-is, value, is_nil, Reads, code, code-is, ring, reading, r_of, join}
+use Rattle.nf_rational_laws.proofs.Polynomial.{scale, join-is, scale-is, same_list}
 use Rattle.nf_rational_laws.proofs.Field.{rationals}
 use Rattle.nf_rational_laws.proofs.Order.{less_nn, less_ps, nn_plus, ps_plus, nn_times, ps_times, lt_or_le_ℚ, <ℚ_irrefl, ≤ℚ_of_lt, ≤ℚ_of_same, ≤ℚ_antisymm}
-use Rattle.nf_rational_laws.proofs.Signs.{no_less, more, no_less-is, more-is, not_negative, above, and_left, and_right, or_cases, along_nn, along_ps, nn_plus_ps, not_negative-is, above-is, times_one, read_less, zero_from_same, times_zero}
+use Rattle.nf_rational_laws.proofs.Signs.{no_less, more, no_less-is, more-is, not_negative, above, and_left, and_right, or_cases, along_nn, along_ps}
+use Rattle.nf_rational_laws.proofs.Signs.{nn_plus_ps, not_negative-is, above-is, times_one, read_less, zero_from_same, times_zero}
 
 -- ---- rows: a polynomial that is at least 0, above 0, or 0
 pub data Kind : Type 0 where

@@ -1,14 +1,11 @@
 -- Ratios whose common factor is taken out, and sums over the least common denominator.
-use Rattle.std.proofs.Common.{◌≡◌, ℕ, ◌*◌, ◌/◌, ◌<◌, ◌≤◌, sym, ap}
+use Rattle.std.proofs.Common.{◌≡◌, ℕ, ◌*◌, ◌/◌, ◌<◌, ◌≤◌, sym, ap, [], ◌∷◌}
+use Rattle.nf_rational_laws.proofs.Common.{◌+ℚ◌, gcd, IsGcd-gcd, ℚ, ratio, part_pos}
 use lib.IntN.{ℤ, pos, ◌+ℤ◌, ◌*ℤ◌, neg_ℤ}
 use native.Mathlib.Nat.{le_of_dvd, mul-pos, div-mul_cancel}
-use Rattle.std.proofs.Common.{[], ◌∷◌}
 use Rattle.nf_rational_laws.proofs.Polynomial.{combine, using, done, reading}
 use Rattle.nf_rational_laws.proofs.IntegerRing.{ints_ring}
-use Rattle.nf_rational.specs.Operations.{◌+ℚ◌}
 use Rattle.nf_rational_laws.proofs.Ratio.{Is-self, Is-same, Is-plus, Is-ratio}
-use Rattle.nf_rational.specs.Gcd.{gcd, IsGcd-gcd}
-use Rattle.nf_rational.specs.Rational.{ℚ, ratio, part_pos}
 
 pub gcd-le : (a d : ℕ) → 0 < d → gcd a d ≤ d
 gcd-le a d some = le_of_dvd some (IsGcd-gcd a d).1

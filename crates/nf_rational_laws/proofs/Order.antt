@@ -1,5 +1,6 @@
 -- The order of the rational numbers.
 use Rattle.std.proofs.Common.{◌≡◌, ℕ, suc, [], ◌∷◌, ◌⊎◌, inl, inr, ⊎_elim, refl, subst, arith}
+use Rattle.nf_rational_laws.proofs.Common.{ℚ, 0ℚ, ◌+ℚ◌, ◌-ℚ◌, ◌*ℚ◌, ◌≤ℚ◌, ◌<ℚ◌}
 use lib.IntN.{ℤ, pos, negsuc, ◌+ℤ◌, ◌-ℤ◌, ◌*ℤ◌, neg_ℤ, zero-*ℤ}
 use lib.Signed.{◌≤ℤ◌, ◌<ℤ◌, clash_ℤ}
 use borrow.Author.Differences.{ints}
@@ -7,11 +8,9 @@ use Rattle.nf_rational_laws.proofs.Ints.{pos_in, le-times, lt-times, le-cancel, 
 use Rattle.nf_rational.specs.Gcd.{gcd}
 use Rattle.nf_rational_laws.proofs.Polynomial.{ring, reading}
 use Rattle.nf_rational_laws.proofs.IntegerRing.{ints_ring}
-use Rattle.nf_rational.specs.Rational.{ℚ, ratio}
-use Rattle.nf_rational_laws.proofs.Ratio.{same_cross}
-use Rattle.nf_rational.specs.Operations.{0ℚ, whole, ◌+ℚ◌, ◌-ℚ◌, ◌*ℚ◌}
-use Rattle.nf_rational.specs.Order.{◌≤ℚ◌, ◌<ℚ◌}
-use Rattle.nf_rational_laws.proofs.Ratio.{Is, Is-self, Is-plus, Is-times, Is-less, Is-whole}
+use Rattle.nf_rational.specs.Rational.{ratio}
+use Rattle.nf_rational_laws.proofs.Ratio.{same_cross, Is, Is-self, Is-plus, Is-times, Is-less, Is-whole}
+use Rattle.nf_rational.specs.Operations.{whole}
 
 pub zero_num : 0ℚ.num ≡ pos 0
 unfolding whole ratio gcd

@@ -1,21 +1,15 @@
 -- The product of two fractions, reduced crosswise before it is formed.
 use Rattle.std.proofs.Common.{◌≡◌, ℕ, zero, suc, ◌*◌, ◌/◌, ◌<◌, [], ◌∷◌, refl, sym, ◌∙◌, ap, subst, arith}
+use Rattle.nf_rational_laws.proofs.Common.{IsGcd, IsGcd-swap, same_from_IsGcd, gcd, IsGcd-gcd, ℚ, ratio, abs_quot, part_pos, parts_reduced, ◌*ℚ◌, num-ratio}
+use Rattle.nf_rational_laws.proofs.Common.{den-ratio}
 use Prim.Native.Nat.{◌∣◌}
 use native.Mathlib.Nat.{dvd_trans, dvd-mul_right, dvd-zero, one-dvd, div-mul_cancel, mul_comm, mul-pos}
 use lib.IntN.{ℤ, pos, negsuc, ◌*ℤ◌, neg_ℤ, nat_abs}
 use lib.Signed.{quot_z}
-use Rattle.std.specs.Int.{IsGcd}
-use Rattle.std.proofs.lemmas.Nat.Gcd.{IsGcd-swap, same_from_IsGcd}
-use Rattle.nf_rational.specs.Gcd.{gcd, IsGcd-gcd}
-use Rattle.nf_rational_laws.proofs.Ratio.{dvd_of_dvd-mul}
+use Rattle.nf_rational_laws.proofs.Ratio.{dvd_of_dvd-mul, quot_times, Is-self, Is-same, Is-times, Is-ratio}
 use Rattle.nf_rational_laws.proofs.Polynomial.{combine, using, done, reading}
 use Rattle.nf_rational_laws.proofs.IntegerRing.{ints_ring}
-use Rattle.nf_rational.specs.Rational.{ℚ, ratio, abs_quot, part_pos, parts_reduced}
-use Rattle.nf_rational_laws.proofs.Ratio.{quot_times}
-use Rattle.nf_rational.specs.Operations.{◌*ℚ◌}
-use Rattle.nf_rational_laws.proofs.Ratio.{Is-self, Is-same, Is-times, Is-ratio}
 use Rattle.nf_rational_laws.proofs.Ints.{abs_neg}
-use Rattle.nf_rational.proofs.Lowest.{num-ratio, den-ratio}
 
 -- ---- numbers with no common factor
 pub apart_parts : (n d a c : ℕ) → IsGcd n d 1 → a ∣ n → c ∣ d → IsGcd a c 1

@@ -1,13 +1,12 @@
 -- Quotients of rational numbers: b · (a / b) = a, and it is the only such number.
 use Rattle.std.proofs.Common.{◌≡◌, ◌≢◌, ℕ, zero, suc, ◌<◌, [], ◌∷◌, refl, sym, ◌∙◌, ap, subst, arith}
+use Rattle.nf_rational_laws.proofs.Common.{ℚ, 0ℚ, 1ℚ, ◌*ℚ◌, neg_ℚ, signed_as, ◌<ℚ◌}
 use lib.IntN.{ℤ, pos, negsuc, ◌*ℤ◌, neg_ℤ, nat_abs}
 use lib.Signed.{◌<ℤ◌}
 use Rattle.nf_rational_laws.proofs.Ints.{pos_in}
 use Rattle.nf_rational_laws.proofs.Polynomial.{ring, combine, using, done, reading, reading_of}
 use Rattle.nf_rational_laws.proofs.IntegerRing.{ints_ring}
-use Rattle.nf_rational.specs.Rational.{ℚ}
-use Rattle.nf_rational.specs.Operations.{0ℚ, 1ℚ, ◌*ℚ◌, ◌/ℚ◌, neg_ℚ, inv_ℚ, signed_as}
-use Rattle.nf_rational.specs.Order.{◌<ℚ◌}
+use Rattle.nf_rational.specs.Operations.{◌/ℚ◌, inv_ℚ}
 use Rattle.nf_rational_laws.proofs.Ratio.{Is-self, Is-same, Is-times, Is-whole, Is-ratio}
 use Rattle.nf_rational_laws.proofs.Field.{rationals}
 use Rattle.nf_rational_laws.proofs.Order.{ps_in, ps_out, <ℚ_irrefl}

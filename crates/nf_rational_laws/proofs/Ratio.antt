@@ -1,13 +1,11 @@
 -- Numerators and denominators of rationals: ratios by cross products, and `Is x n d`, "x is n over d, reduced or not".
 use Rattle.std.proofs.Common.{◌≡◌, ℕ, zero, suc, ◌*◌, ◌/◌, ◌<◌, [], ◌∷◌, refl, sym, ◌∙◌, ap, subst, arith}
+use Rattle.nf_rational_laws.proofs.Common.{IsGcd, IsGcd-swap, gcd, IsGcd-gcd, IsGcd-scaled, ℚ, same_parts}
 use Prim.Native.Nat.{◌∣◌}
 use native.Mathlib.Nat.{div-mul_cancel, mul_comm, dvd_antisymm, dvd-mul_left, mul-pos, mul-one}
 use lib.IntN.{ℤ, pos, negsuc, ◌+ℤ◌, ◌*ℤ◌, neg_ℤ, nat_abs}
 use lib.Signed.{quot_z, ◌<ℤ◌}
-use Rattle.std.specs.Int.{IsGcd}
-use Rattle.std.proofs.lemmas.Nat.Gcd.{IsGcd-swap}
-use Rattle.nf_rational.specs.Gcd.{gcd, IsGcd-gcd, IsGcd-scaled}
-use Rattle.nf_rational.specs.Rational.{ℚ, ratio, same_parts}
+use Rattle.nf_rational.specs.Rational.{ratio}
 use Rattle.nf_rational.specs.Operations.{whole, ◌+ℚ◌, ◌-ℚ◌, ◌*ℚ◌, neg_ℚ}
 use Rattle.nf_rational_laws.proofs.Ints.{cancel, abs-mul, neg-times, cancel_ℤ, pos-times, pos_in}
 use Rattle.nf_rational_laws.proofs.Polynomial.{combine, using, done, reading}

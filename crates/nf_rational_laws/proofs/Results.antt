@@ -1,6 +1,5 @@
 -- Results, options and truth values that are equal, or can't be.
-use Rattle.std.proofs.Common.{◌≡◌, ◌⊎◌, inl, inr, Bool, true, false, not, ◌||◌, refl, Result, Ok, Err}
-use Rattle.std.specs.Prelude.{Option, Some, None, IsOk, is_none}
+use Rattle.std.proofs.Common.{◌≡◌, ◌⊎◌, inl, inr, Bool, true, false, not, ◌||◌, refl, Result, Ok, Err, Option, Some, None, IsOk, is_none}
 
 pub same_Ok : {A E : Type 0} (x y : A) → ◌≡◌ {A = Result A E} (Ok x) (Ok y) → x ≡ y
 same_Ok x y e = cc

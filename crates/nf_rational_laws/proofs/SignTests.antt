@@ -1,9 +1,6 @@
 -- A slack that moves towards 0 changes, and a number above 0 is not 0.
 use Rattle.std.proofs.Common.{◌≡◌, ◌≢◌, Bool, true, false, ◌&&◌, sym, ap, refl, ◌∙◌, ◌||◌}
-use Rattle.std.proofs.lemmas.Bool.{and_parts, and_from}
-use Rattle.nf_rational.specs.Rational.{ℚ}
-use Rattle.nf_rational.specs.Operations.{0ℚ}
-use Rattle.nf_rational.specs.Order.{le_ℚ, lt_ℚ}
+use Rattle.nf_rational_laws.proofs.Common.{and_parts, and_from, ℚ, 0ℚ, le_ℚ, lt_ℚ}
 use Rattle.nf_rational_laws.proofs.Tests.{le_of_test, test_of_le, not_less_itself}
 use Rattle.nf_rational.specs.Signs.{is_positive, are_opposite, is_same, is_zero}
 use Rattle.nf_rational_laws.proofs.Order.{≤ℚ_of_same, ≤ℚ_antisymm}

@@ -1,11 +1,9 @@
 -- Signs of sums of products, read off their coefficients.
 use Rattle.std.proofs.Common.{◌≡◌, zero, suc, List, [], ◌∷◌, ◌⊎◌, inl, inr, ⊎_elim, Bool, true, false, ◌&&◌, ◌||◌, T, refl, sym, ◌∙◌, ap, subst}
+use Rattle.nf_rational_laws.proofs.Common.{ℚ, 0ℚ, 1ℚ, whole, ◌+ℚ◌, ◌-ℚ◌, ◌*ℚ◌, ◌≤ℚ◌, ◌<ℚ◌}
 use mathlib.Core.Path.{ap₂}
 use lib.IntN.{ℤ, pos, negsuc}
 use Rattle.nf_rational_laws.proofs.Polynomial.{Expr, sub, Poly, none, term, value, mon, eval, is_nil, Reads, code, code-is, ring, reading}
-use Rattle.nf_rational.specs.Rational.{ℚ}
-use Rattle.nf_rational.specs.Operations.{0ℚ, 1ℚ, whole, ◌+ℚ◌, ◌-ℚ◌, ◌*ℚ◌}
-use Rattle.nf_rational.specs.Order.{◌≤ℚ◌, ◌<ℚ◌}
 use Rattle.nf_rational_laws.proofs.Field.{rationals, +ℚ_idl, +ℚ_comm, zero-*ℚ, *ℚ_comm, one-*ℚ}
 use Rattle.nf_rational_laws.proofs.Order.{nn_plus, ps_plus, nn_whole, ps_whole, ≤ℚ_of_same}
 pub use Rattle.nf_rational_laws.proofs.Polynomial.{and_left, and_right}

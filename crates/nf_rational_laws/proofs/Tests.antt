@@ -1,12 +1,10 @@
 -- The tests of the order, and the lesser and the greater of two numbers.
 use Rattle.std.proofs.Common.{◌≡◌, ◌⊎◌, inl, inr, ⊎_elim, Bool, true, false, not, cond, refl, sym, ap, ◌∙◌, arith}
-use Rattle.std.proofs.lemmas.Bool.{not-true, not-false}
+use Rattle.nf_rational_laws.proofs.Common.{not-true, not-false, ℚ, 0ℚ, ◌≤ℚ◌, ◌<ℚ◌}
 use lib.IntN.{ℤ, pos, ◌*ℤ◌}
 use lib.Signed.{◌≤ℤ◌, ◌<ℤ◌, le_z}
 use borrow.Author.Differences.{ints}
-use Rattle.nf_rational.specs.Rational.{ℚ}
-use Rattle.nf_rational.specs.Operations.{0ℚ}
-use Rattle.nf_rational.specs.Order.{◌≤ℚ◌, ◌<ℚ◌, le_ℚ, lt_ℚ, min_ℚ, max_ℚ}
+use Rattle.nf_rational.specs.Order.{le_ℚ, lt_ℚ, min_ℚ, max_ℚ}
 use Rattle.nf_rational_laws.proofs.Order.{<ℚ_irrefl, ≤ℚ_antisymm, not_both_ℚ}
 
 -- what a test says

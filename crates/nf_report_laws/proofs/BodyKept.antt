@@ -1,11 +1,12 @@
 -- Each line after the head leads to a parser state whose lines are those read so far.
-use Rattle.std.proofs.Common.{◌≡◌, ◌⊎◌, inl, inr, ⊎_elim, ℕ, zero, suc, ◌<◌, ◌≤◌, ◌==◌, Bool, true, false, not, ◌||◌, nat_lt, List, [], ◌∷◌, ◌++◌, length, flat_map, set, Option, Some, None, Result, Ok, Err, refl, sym, ap, subst, ◌∙◌, codes, arith, append_assoc, append-nil}
+use Rattle.std.proofs.Common.{◌≡◌, ◌⊎◌, inl, inr, ⊎_elim, ℕ, zero, suc, ◌<◌, ◌≤◌, ◌==◌, Bool, true, false, not, ◌||◌, nat_lt, List, [], ◌∷◌, ◌++◌, length}
+use Rattle.std.proofs.Common.{flat_map, set, Option, Some, None, Result, Ok, Err, refl, sym, ap, subst, ◌∙◌, codes, arith, append_assoc, append-nil}
 use Rattle.nf_report_laws.proofs.Common.{length-set, AllByRecursion, ltb-false, or_parts, not-false, ℚ, State, Tight, Full, Zero, Link, IsLink, Pattern}
-use Rattle.nf_report_laws.proofs.Common.{HasState, Name, has_name, place_of, name_at, Named, state_word, written_state, place_below, name_at-place, ReportRule, P3}
-use Rattle.nf_report_laws.proofs.Common.{P5, P6, P7, P9, P13, P14, or_rule, Kind, OfLabel, OfNever, OfInflow, OfOutflow, OfQueue, CurveKey, key_word}
-use Rattle.nf_report_laws.proofs.Common.{curve_keys, Stage, InBody, AtEnd, ReportDraft, begins_with, with_current, has_all, state_in, state_of_link}
-use Rattle.nf_report_laws.proofs.Common.{capacity_of, capacity_at, end_line, LineKind, OfCurve, OfState, OfEnd, never_kinds, line_kind, line_of_kind, body_line}
-use Rattle.nf_report_laws.proofs.Common.{nothing_more, staged_line, report_line, same_Ok}
+use Rattle.nf_report_laws.proofs.Common.{HasState, Name, has_name, place_of, name_at, Named, state_word, written_state, place_below, name_at-place}
+use Rattle.nf_report_laws.proofs.Common.{ReportRule, P3, P5, P6, P7, P9, P13, P14, or_rule, Kind, OfLabel, OfNever, OfInflow, OfOutflow, OfQueue, CurveKey}
+use Rattle.nf_report_laws.proofs.Common.{key_word, curve_keys, Stage, InBody, AtEnd, ReportDraft, begins_with, with_current, has_all, state_in}
+use Rattle.nf_report_laws.proofs.Common.{state_of_link, capacity_of, capacity_at, end_line, LineKind, OfCurve, OfState, OfEnd, never_kinds, line_kind}
+use Rattle.nf_report_laws.proofs.Common.{line_of_kind, body_line, nothing_more, staged_line, report_line, same_Ok}
 use Rattle.nf_report_def.specs.ReportLines as lines
 use Rattle.nf_report_laws.proofs.Outcomes.{both_ok, no_err, where_true, where_false, or_ok, named_is}
 use Rattle.nf_report_laws.proofs.ReportShape.{curve_lines, IsRead, state_lines_of, end_lines}

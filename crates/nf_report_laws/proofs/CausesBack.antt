@@ -1,14 +1,10 @@
 -- The words of a cause are read as that cause, and nothing else is.
 use Rattle.std.proofs.Common.{◌≡◌, ℕ, List, [], ◌∷◌, Option, Some, None, Ok, refl, sym, ap, subst, ◌∙◌, codes}
 use Rattle.nf_report_laws.proofs.Common.{ℚ, ◌>>=◌, digits_of, count_of, printed, Cause, part_word, op_word, count_word, cause_words, P6, P8, P9, or_rule}
-use Rattle.nf_report_laws.proofs.Common.{printed_number, place_in, part_of, op_of_word, done_cause, phases_cause, patterns_cause, passed_cause, nopattern_cause}
-use Rattle.nf_report_laws.proofs.Common.{CauseKind, IsDone, IsPhases, IsPatterns, IsPassed, IsNoPattern, cause_kind, cause_of_kind, cause_in, IsCount}
-use Rattle.nf_report_laws.proofs.Common.{IsReadableCause, same_Ok}
-use Rattle.nf_frac_def.specs.declared.Op.{Op}
-use Rattle.nf_frac_def.specs.declared.Op.TheVariants.{Sum, Difference, Product, Quotient}
-use Rattle.nf_frac_def.specs.declared.Part.{Part}
-use Rattle.nf_frac_def.specs.declared.Part.TheVariants.{Slack, Table, Verdict, Extend, Advance, Curve, Load, Check, Quick}
-use Rattle.nf_net_def.specs.declared.Cause.TheVariants.{Phases, Patterns, Passed, NoPattern}
+use Rattle.nf_report_laws.proofs.Common.{printed_number, place_in, part_of, op_of_word, done_cause, phases_cause, patterns_cause, passed_cause}
+use Rattle.nf_report_laws.proofs.Common.{nopattern_cause, CauseKind, IsDone, IsPhases, IsPatterns, IsPassed, IsNoPattern, cause_kind, cause_of_kind}
+use Rattle.nf_report_laws.proofs.Common.{cause_in, IsCount, IsReadableCause, same_Ok, Op, Sum, Difference, Product, Quotient, Part, Slack, Table, Verdict}
+use Rattle.nf_report_laws.proofs.Common.{Extend, Advance, Curve, Load, Check, Quick, Phases, Patterns, Passed, NoPattern}
 use Rattle.nf_report_laws.proofs.Outcomes.{both_ok, or_ok, no_err, named_is}
 use Rattle.nf_report_laws.proofs.NumbersBack.{number_back, number_is, count_back, count_is, place_back, place_is}
 

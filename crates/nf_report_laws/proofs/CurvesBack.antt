@@ -1,16 +1,16 @@
 -- The lines of curves, in their order, are read as these curves.
-use Rattle.std.proofs.Common.{◌≡◌, ℕ, suc, Bool, true, false, not, ◌&&◌, ◌==◌, if◌then◌else◌, List, [], ◌∷◌, ◌++◌, length, map, flat_map, Option, Some, None, is_none, Result, Ok, Err, refl, sym, ap, subst, ◌∙◌, codes, bytes_eq, arith, append_assoc, append-nil}
-use Rattle.nf_report_laws.proofs.Common.{AllByRecursion, last_or, and_from, ℚ, 0ℚ, le_ℚ, test_of_le, test_of_less, ◌>>=◌, Point, TimesRise, IsCurve, printed}
-use Rattle.nf_report_laws.proofs.Common.{Name, Named, IsFraction, point_lines, trace_lines, bytes_eq-self, is_same, ReportRule, P5, P7, P11, P12, or_rule}
-use Rattle.nf_report_laws.proofs.Common.{first_named, Kind, OfLabel, OfNever, OfInflow, OfOutflow, OfQueue, CurveKey, key_word, key_of, InBody, ReadCurve}
-use Rattle.nf_report_laws.proofs.Common.{ReportDraft, are_alike, begins_with, is_key, with_current, Opened, begun, opened, comes_after, with_point}
-use Rattle.nf_report_laws.proofs.Common.{point_numbers, rate_word, with_rate, point_line, trace_line, never_line, never_kinds, line_of_kind, report_line}
-use Rattle.nf_report_laws.proofs.Common.{IsFractionPoint, AreFractionPoints, IsFractionOrNone}
+use Rattle.std.proofs.Common.{◌≡◌, ℕ, suc, Bool, true, false, not, ◌&&◌, ◌==◌, if◌then◌else◌, List, [], ◌∷◌, ◌++◌, length, map, flat_map, Option, Some}
+use Rattle.std.proofs.Common.{None, is_none, Result, Ok, Err, refl, sym, ap, subst, ◌∙◌, codes, bytes_eq, arith, append_assoc, append-nil}
+use Rattle.nf_report_laws.proofs.Common.{AllByRecursion, last_or, and_from, ℚ, 0ℚ, le_ℚ, test_of_le, test_of_less, ◌>>=◌, Point, TimesRise, IsCurve}
+use Rattle.nf_report_laws.proofs.Common.{printed, Name, Named, IsFraction, point_lines, trace_lines, bytes_eq-self, is_same, ReportRule, P5, P7, P11, P12}
+use Rattle.nf_report_laws.proofs.Common.{or_rule, first_named, Kind, OfLabel, OfNever, OfInflow, OfOutflow, OfQueue, CurveKey, key_word, key_of, InBody}
+use Rattle.nf_report_laws.proofs.Common.{ReadCurve, ReportDraft, are_alike, begins_with, is_key, with_current, Opened, begun, opened, comes_after}
+use Rattle.nf_report_laws.proofs.Common.{with_point, point_numbers, rate_word, with_rate, point_line, trace_line, never_line, never_kinds, line_of_kind}
+use Rattle.nf_report_laws.proofs.Common.{report_line, IsFractionPoint, AreFractionPoints, IsFractionOrNone, last-append}
 use Rattle.nf_rational_laws.proofs.Order.{≤ℚ_of_same}
 use Rattle.nf_report_laws.proofs.NumbersBack.{numbers_back, rate_text, rate_back}
 use Rattle.nf_report_laws.proofs.ReportShape.{lines_of_kind, curve_lines, IsOfKind, IsRead, plain_curve}
 use Rattle.nf_report_laws.proofs.ReportSteps.{next_of, Reads, reads-append, key_self, other_key}
-use Rattle.nf_rational_laws.proofs.Entries.{last-append}
 
 -- ---- times that rise, seen from the point before
 abbrev pub InTime : Option Point → List Point → Type 0

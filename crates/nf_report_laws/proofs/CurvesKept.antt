@@ -1,11 +1,12 @@
 -- Each line of a curve leads to complete and current curves whose lines are those read so far.
-use Rattle.std.proofs.Common.{◌≡◌, ℕ, suc, ◌+◌, Bool, true, false, not, if◌then◌else◌, List, [], ◌∷◌, ◌++◌, length, flat_map, Option, Some, None, is_none, Result, Ok, Err, refl, sym, ap, subst, ◌∙◌, codes, arith, append_assoc, append-nil, length-append}
-use Rattle.nf_report_laws.proofs.Common.{AllByRecursion, last_or, map-append, ℚ, 0ℚ, less_of_test, Point, TimesRise, IsCurve, printed, Name, Named, IsFraction}
-use Rattle.nf_report_laws.proofs.Common.{point_lines, trace_lines, ReportRule, P6, P7, P11, P12, Kind, OfLabel, OfNever, OfInflow, OfOutflow, OfQueue, CurveKey}
-use Rattle.nf_report_laws.proofs.Common.{key_word, key_of, curve_keys, ReadCurve, ReportDraft, are_alike, begins_with, is_key, with_current, Opened, begun}
-use Rattle.nf_report_laws.proofs.Common.{opened, comes_after, with_point, point_numbers, rate_word, with_rate, point_line, trace_line, never_line}
-use Rattle.nf_report_laws.proofs.Common.{IsFractionPoint, AreFractionPoints, IsFractionOrNone, not_both, same_Ok, same_of_test, not-false, every_append}
-use Rattle.std.proofs.lemmas.Grind.{flat_map-append}
+use Rattle.std.proofs.Common.{◌≡◌, ℕ, suc, ◌+◌, Bool, true, false, not, if◌then◌else◌, List, [], ◌∷◌, ◌++◌, length, flat_map, Option, Some, None, is_none}
+use Rattle.std.proofs.Common.{Result, Ok, Err, refl, sym, ap, subst, ◌∙◌, codes, arith, append_assoc, append-nil, length-append}
+use Rattle.nf_report_laws.proofs.Common.{AllByRecursion, last_or, map-append, ℚ, 0ℚ, less_of_test, Point, TimesRise, IsCurve, printed, Name, Named}
+use Rattle.nf_report_laws.proofs.Common.{IsFraction, point_lines, trace_lines, ReportRule, P6, P7, P11, P12, Kind, OfLabel, OfNever, OfInflow, OfOutflow}
+use Rattle.nf_report_laws.proofs.Common.{OfQueue, CurveKey, key_word, key_of, curve_keys, ReadCurve, ReportDraft, are_alike, begins_with, is_key}
+use Rattle.nf_report_laws.proofs.Common.{with_current, Opened, begun, opened, comes_after, with_point, point_numbers, rate_word, with_rate, point_line}
+use Rattle.nf_report_laws.proofs.Common.{trace_line, never_line, IsFractionPoint, AreFractionPoints, IsFractionOrNone, not_both, same_Ok, same_of_test}
+use Rattle.nf_report_laws.proofs.Common.{not-false, every_append, flat_map-append}
 use Rattle.nf_report_laws.proofs.Outcomes.{both_ok, no_err, where_true, where_false}
 use Rattle.nf_report_laws.proofs.NumbersBack.{ArePrinted, numbers_are, rate_text, rate_is}
 use Rattle.nf_report_laws.proofs.ReportShape.{lines_of_kind, curve_lines, IsReadPoints, IsReadTrace, IsOfKind, IsRead}

@@ -1,7 +1,6 @@
 -- A property that each line of an accepted side file preserves is preserved by all lines.
 use Rattle.std.proofs.Common.{◌≡◌, ℕ, List, [], ◌∷◌, Bool, true, false, Option, Some, None, Result, Ok, Err, refl, subst}
-use Rattle.nf_report_laws.proofs.Common.{◌>>=◌, ReadLine, read_lines, content_lines, is_head, first_rule, unless_rule, same_Ok}
-use Rattle.nf_text_def.specs.Faults.{LineFault, first_fault}
+use Rattle.nf_report_laws.proofs.Common.{◌>>=◌, ReadLine, read_lines, content_lines, is_head, first_rule, unless_rule, same_Ok, LineFault, first_fault}
 use Rattle.nf_side_def.specs.Frame.{Broken, Frame, in_line, add_lines, draft_of, broken_bytes, by_bytes, file_in}
 use Rattle.nf_report_laws.proofs.Outcomes.{no_err, Both, both_ok, where_true}
 

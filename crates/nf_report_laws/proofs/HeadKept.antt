@@ -1,9 +1,10 @@
 -- The parser state after the four lines of the head.
-use Rattle.std.proofs.Common.{◌≡◌, ◌↔◌, ℕ, Bool, true, false, not, ◌||◌, List, [], ◌∷◌, Option, Some, None, is_none, Ok, refl, sym, ap, subst, ◌∙◌, codes, bytes_eq}
-use Rattle.nf_report_laws.proofs.Common.{ℚ, 0ℚ, ◌≤ℚ◌, lt_ℚ, not_less_of_test, digits_of, printed, Cause, cause_words, Named, IsFraction, same_names, is_same}
-use Rattle.nf_report_laws.proofs.Common.{P4, P5, P6, P8, P10, printed_number, cause_in, AtVersion, AtHorizon, AtReached, AtCause, InBody, AtEnd, ReportDraft}
-use Rattle.nf_report_laws.proofs.Common.{empty_report, are_alike, is_version, after_keyword, number_alone, horizon_line, reached_line, cause_line, IsReadableCause}
-use Rattle.nf_report_laws.proofs.Common.{and_parts, or_parts, same_Ok, test_of_same, same_of_test}
+use Rattle.std.proofs.Common.{◌≡◌, ◌↔◌, ℕ, Bool, true, false, not, ◌||◌, List, [], ◌∷◌, Option, Some, None, is_none, Ok, refl, sym, ap, subst, ◌∙◌, codes}
+use Rattle.std.proofs.Common.{bytes_eq}
+use Rattle.nf_report_laws.proofs.Common.{ℚ, 0ℚ, ◌≤ℚ◌, lt_ℚ, not_less_of_test, digits_of, printed, Cause, cause_words, Named, IsFraction, same_names}
+use Rattle.nf_report_laws.proofs.Common.{is_same, P4, P5, P6, P8, P10, printed_number, cause_in, AtVersion, AtHorizon, AtReached, AtCause, InBody, AtEnd}
+use Rattle.nf_report_laws.proofs.Common.{ReportDraft, empty_report, are_alike, is_version, after_keyword, number_alone, horizon_line, reached_line}
+use Rattle.nf_report_laws.proofs.Common.{cause_line, IsReadableCause, and_parts, or_parts, same_Ok, test_of_same, same_of_test}
 use Rattle.nf_report_laws.proofs.Outcomes.{both_ok, no_err, where_true, where_false, or_ok}
 use Rattle.nf_report_laws.proofs.NumbersBack.{number_is}
 use Rattle.nf_report_laws.proofs.CausesBack.{cause_is}

@@ -1,9 +1,10 @@
 -- The curves of a flow have the keys of the network, no two neighbours of which are the same.
-use Rattle.std.proofs.Common.{◌≡◌, ℕ, ◌==◌, Bool, true, false, List, [], ◌∷◌, ◌++◌, length, map, flat_map, Option, Some, None, refl, sym, ap, subst, ◌∙◌, arith, bytes_eq, append_assoc}
-use Rattle.std.specs.List.{AllByRecursion, IsDistinct}
-use Rattle.nf_report_laws.proofs.Common.{eqb-true, map-append, Point, Trace, Flow, Name, with_names, without, Named, ends, IsNamed, bytes_eq-self, Kind}
-use Rattle.nf_report_laws.proofs.Common.{OfLabel, OfNever, OfInflow, OfOutflow, OfQueue, CurveKey, key_of, curve_keys, ReadCurve, every_append, not_both}
-use Rattle.nf_net_laws.proofs.LinkFacts.{distinct_left}
+use Rattle.std.proofs.Common.{◌≡◌, ℕ, ◌==◌, Bool, true, false, List, [], ◌∷◌, ◌++◌, length, map, flat_map, Option, Some, None, refl, sym, ap, subst, ◌∙◌}
+use Rattle.std.proofs.Common.{arith, bytes_eq, append_assoc}
+use Rattle.nf_report_laws.proofs.Common.{AllByRecursion, eqb-true, map-append, Point, Trace, Flow, Name, with_names, without, Named, ends, IsNamed}
+use Rattle.nf_report_laws.proofs.Common.{bytes_eq-self, Kind, OfLabel, OfNever, OfInflow, OfOutflow, OfQueue, CurveKey, key_of, curve_keys, ReadCurve}
+use Rattle.nf_report_laws.proofs.Common.{every_append, not_both, distinct_left}
+use Rattle.std.specs.List.{IsDistinct}
 use Rattle.nf_report_laws.proofs.ReportShape.{IsReadPoints, IsReadTrace, IsRead, label_curves, never_curves, link_curves, curves_from, AreRead}
 use Rattle.nf_report_laws.proofs.CurvesBack.{IsAllowed, Differ, Adjacent, keys_of}
 

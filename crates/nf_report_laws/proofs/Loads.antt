@@ -2,7 +2,8 @@
 use Rattle.std.proofs.Common.{◌≡◌, ℕ, zero, suc, List, [], ◌∷◌, ◌++◌, length, map, set, None, slice_get, unwrap_or, Ok, refl, ap, subst, ◌∙◌}
 use Rattle.nf_report_laws.proofs.Common.{length-set, AllByRecursion, ◌>>=◌, read_lines, content_lines, Piece, ArePieces, Name, Named, unless_rule, same_Ok}
 use Rattle.nf_report_def.specs.declared.LoadRule.TheVariants.{L4, L9, L10, L11, L12}
-use Rattle.nf_report_def.specs.LoadsFile.{LoadEntry, Rate, End, LoadsDraft, most_lines_of_a_link, pieces_at, load_entry, load_rule_of, load_after, add_load, if_ended, loads_frame, loads_in}
+use Rattle.nf_report_def.specs.LoadsFile.{LoadEntry, Rate, End, LoadsDraft, most_lines_of_a_link, pieces_at, load_entry, load_rule_of, load_after, add_load}
+use Rattle.nf_report_def.specs.LoadsFile.{if_ended, loads_frame, loads_in}
 use Rattle.nf_report_laws.proofs.FrameKept.{no_rule, draft_kept, file_is}
 use Rattle.nf_report_laws.proofs.Outcomes.{both_ok, where_true, where_false}
 use Rattle.nf_report_laws.proofs.PiecesKept.{GoOn, go_on_pieces, piece_kept}

@@ -1,12 +1,12 @@
 -- Printed numbers and counts are read as what they are printed of, and nothing else is.
-use Rattle.std.proofs.Common.{◌≡◌, ℕ, Bool, true, false, if◌then◌else◌, List, Option, Some, None, Result, Ok, Err, refl, sym, ap, subst, ◌∙◌, bytes_eq, codes}
+use Rattle.std.proofs.Common.{◌≡◌, ℕ, Bool, true, false, if◌then◌else◌, List, Option, Some, None, Result, Ok, Err, refl, sym, ap, subst, ◌∙◌, bytes_eq}
+use Rattle.std.proofs.Common.{codes}
+use Rattle.nf_report_laws.proofs.Common.{same_Some, ℚ, ◌>>=◌, printed, count_word, IsFraction, same_names, bytes_eq-self, P8, or_rule, if_printed}
+use Rattle.nf_report_laws.proofs.Common.{printed_number, some_place, place_in, point_numbers, some_rate, rate_word, Point, IsCount, IsCountOrNone}
+use Rattle.nf_report_laws.proofs.Common.{IsFractionPoint, IsFractionOrNone, same_Ok, digits_of}
 use Rattle.std.specs.Result.{result_ok}
-use Rattle.std.proofs.lemmas.Option.{same_Some}
-use Rattle.nf_report_laws.proofs.Common.{ℚ, ◌>>=◌, printed, count_word, IsFraction, same_names, bytes_eq-self, P8, or_rule, if_printed, printed_number}
-use Rattle.nf_report_laws.proofs.Common.{some_place, place_in, point_numbers, some_rate, rate_word, Point, IsCount, IsCountOrNone, IsFractionPoint}
-use Rattle.nf_report_laws.proofs.Common.{IsFractionOrNone, same_Ok}
 use Rattle.nf_frac_words.specs.declared.NumberFault.{NumberFault}
-use Rattle.nf_frac_words.specs.Digits.{digits_of, count_of}
+use Rattle.nf_frac_words.specs.Digits.{count_of}
 use Rattle.nf_frac_words.specs.Numbers.{number_of, parts_of}
 use Rattle.nf_frac_words.proofs.Counts.{digits_from_count, count_from_digits}
 use Rattle.nf_frac_words.proofs.ReadBack.{number_read}

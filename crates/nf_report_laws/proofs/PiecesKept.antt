@@ -1,7 +1,6 @@
 -- Pieces that lines give one by one, each behind those before it by the rules of a piece.
 use Rattle.std.proofs.Common.{◌≡◌, ℕ, zero, suc, List, [], ◌∷◌, ◌++◌, length, Bool, false, ◌||◌, nat_le, Option, Some, None, subst}
-use Rattle.nf_report_laws.proofs.Common.{last_or, or_parts, ℚ, 0ℚ, ◌≤ℚ◌, ◌<ℚ◌, lt_of_test, Piece, IsPiece, ArePieces, piece_rule}
-use Rattle.std.proofs.lemmas.Option.{none-some, same_Some}
+use Rattle.nf_report_laws.proofs.Common.{last_or, or_parts, ℚ, 0ℚ, ◌≤ℚ◌, ◌<ℚ◌, lt_of_test, Piece, IsPiece, ArePieces, piece_rule, none-some, same_Some}
 use Rattle.nf_net_def.specs.NetLines.{is_negative, is_not_after}
 use Rattle.nf_report_laws.proofs.FrameKept.{rules_out}
 use Rattle.nf_net_laws.proofs.DraftKept.{from_not_negative}

@@ -1,17 +1,13 @@
 -- The lines of a report are made of plain words, and are short.
 use Rattle.std.proofs.Common.{◌≡◌, ℕ, ◌*◌, ◌^◌, ◌<◌, ◌≤◌, true, List, [], ◌∷◌, length, flat_map, refl, arith, codes, Option, Some, None, lit<}
 use Rattle.nf_report_laws.proofs.Common.{AllByRecursion, join_with_byte, ℚ, State, Tight, Full, Zero, Point, Pattern, digits_of, Cause, part_word, op_word}
-use Rattle.nf_report_laws.proofs.Common.{count_word, cause_words, Name, is_name, IsFraction, point_lines, trace_lines, state_word, every_append, Kind, OfLabel}
-use Rattle.nf_report_laws.proofs.Common.{OfNever, OfInflow, OfOutflow, OfQueue, ReadCurve, IsCount, IsCountOrNone, AreFractionPoints, IsReadableCause}
-use Rattle.nf_frac_def.specs.declared.Op.{Op}
-use Rattle.nf_frac_def.specs.declared.Op.TheVariants.{Sum, Difference, Product, Quotient}
-use Rattle.nf_frac_def.specs.declared.Part.{Part}
-use Rattle.nf_frac_def.specs.declared.Part.TheVariants.{Slack, Table, Verdict, Extend, Advance, Curve, Load, Check, Quick}
+use Rattle.nf_report_laws.proofs.Common.{count_word, cause_words, Name, is_name, IsFraction, point_lines, trace_lines, state_word, every_append, Kind}
+use Rattle.nf_report_laws.proofs.Common.{OfLabel, OfNever, OfInflow, OfOutflow, OfQueue, ReadCurve, IsCount, IsCountOrNone, AreFractionPoints}
+use Rattle.nf_report_laws.proofs.Common.{IsReadableCause, Op, Sum, Difference, Product, Quotient, Part, Slack, Table, Verdict, Extend, Advance, Curve, Load}
+use Rattle.nf_report_laws.proofs.Common.{Check, Quick, Phases, Patterns, Passed, NoPattern, AreWords, AreShort}
 use Rattle.nf_frac_words.proofs.Digits.{some_digits}
 use Rattle.nf_frac_words.proofs.Bytes.{digits_of_bytes}
-use Rattle.nf_net_def.specs.declared.Cause.TheVariants.{Phases, Patterns, Passed, NoPattern}
 use Rattle.nf_net_laws.proofs.ShortWords.{length_digits, number_bytes, IsShortWord, short_name, short_number, short_key, length_join, plain_words}
-use Rattle.nf_net_laws.specs.LineLaws.{AreWords, AreShort}
 use Rattle.nf_report_laws.proofs.ReportShape.{lines_of_kind, curve_lines, IsOfKind, IsRead, state_lines_of, end_lines, head_lines}
 
 -- ---- words

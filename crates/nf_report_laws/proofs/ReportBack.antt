@@ -1,14 +1,15 @@
 -- The text of a report is read as that report.
-use Rattle.std.proofs.Common.{◌≡◌, ◌↔◌, ⊎_elim, ℕ, zero, suc, ◌<◌, Bool, true, false, not, ◌||◌, if◌then◌else◌, List, [], ◌∷◌, ◌++◌, length, map, flat_map, Option, Some, None, is_none, slice_get, Ok, Err, refl, sym, ap, subst, ◌∙◌, codes, arith, lit<}
-use Rattle.nf_report_laws.proofs.Common.{AllByRecursion, list_all, ℚ, 0ℚ, ◌≤ℚ◌, lt_ℚ, test_of_not_less, ◌>>=◌, read_lines, line_of_words, State, Tight, Full}
-use Rattle.nf_report_laws.proofs.Common.{Zero, Link, IsLink, Pattern, HasState, digits_of, Cause, cause_words, Name, is_name, Named, names_of, IsFraction}
-use Rattle.nf_report_laws.proofs.Common.{IsNamed, Report, report_lines, report_text, bytes_eq-self, every_append, is_same, P4, P8, P10, or_rule, OfLabel}
-use Rattle.nf_report_laws.proofs.Common.{OfNever, CurveKey, key_of, curve_keys, AtHorizon, AtReached, AtCause, InBody, AtEnd, ReadCurve, ReportDraft}
-use Rattle.nf_report_laws.proofs.Common.{empty_report, are_alike, with_current, state_of_link, capacity_of, capacity_at, IsCount, IsReadableCause, and_parts}
-use Rattle.nf_report_laws.proofs.Common.{test_of_same, same_of_test}
+use Rattle.std.proofs.Common.{◌≡◌, ◌↔◌, ⊎_elim, ℕ, zero, suc, ◌<◌, Bool, true, false, not, ◌||◌, if◌then◌else◌, List, [], ◌∷◌, ◌++◌, length, map, flat_map}
+use Rattle.std.proofs.Common.{Option, Some, None, is_none, slice_get, Ok, Err, refl, sym, ap, subst, ◌∙◌, codes, arith, lit<}
+use Rattle.nf_report_laws.proofs.Common.{AllByRecursion, list_all, ℚ, 0ℚ, ◌≤ℚ◌, lt_ℚ, test_of_not_less, ◌>>=◌, read_lines, line_of_words, State, Tight}
+use Rattle.nf_report_laws.proofs.Common.{Full, Zero, Link, IsLink, Pattern, HasState, digits_of, Cause, cause_words, Name, is_name, Named, names_of}
+use Rattle.nf_report_laws.proofs.Common.{IsFraction, IsNamed, Report, report_lines, report_text, bytes_eq-self, every_append, is_same, P4, P8, P10, or_rule}
+use Rattle.nf_report_laws.proofs.Common.{OfLabel, OfNever, CurveKey, key_of, curve_keys, AtHorizon, AtReached, AtCause, InBody, AtEnd, ReadCurve}
+use Rattle.nf_report_laws.proofs.Common.{ReportDraft, empty_report, are_alike, with_current, state_of_link, capacity_of, capacity_at, IsCount}
+use Rattle.nf_report_laws.proofs.Common.{IsReadableCause, and_parts, test_of_same, same_of_test, distinct_left, all_left, report_draft, report_of_draft}
+use Rattle.nf_report_laws.proofs.Common.{if_at_end, report_by_bytes, entry}
 use Rattle.nf_net_laws.proofs.ReadBack.{plain_lines_from, no_fault_from}
-use Rattle.nf_net_laws.proofs.LinkFacts.{distinct_left, all_left}
-use Rattle.nf_report_def.specs.ReportFile.{report_draft, report_of_draft, if_at_end, report_by_bytes, report_in}
+use Rattle.nf_report_def.specs.ReportFile.{report_in}
 use Rattle.nf_report_laws.proofs.NumbersBack.{number_back}
 use Rattle.nf_report_laws.proofs.CausesBack.{cause_back}
 use Rattle.nf_report_laws.proofs.ReportShape.{curve_lines, curves_from, AreRead, state_lines_of, end_lines, head_lines, lines_by_curves, gives_flow}
@@ -18,7 +19,6 @@ use Rattle.nf_report_laws.proofs.KeysBack.{link_keys, keys_from, keys_adjacent, 
 use Rattle.nf_report_laws.proofs.StatesBack.{in_states, states_read, states_behind}
 use Rattle.nf_report_laws.proofs.PlainReport.{IsShortLine, are_words, are_short, curves_short, states_short, end_short, head_short}
 use Rattle.nf_rational_laws.proofs.Chains.{≤ℚ_trans}
-use Rattle.nf_rational_laws.proofs.Entries.{entry}
 
 -- ---- tests
 

@@ -1,12 +1,13 @@
 -- A text that is read as a report is the text of that report, which is well formed and readable.
-use Rattle.std.proofs.Common.{◌≡◌, inl, ℕ, zero, suc, List, [], ◌∷◌, ◌++◌, length, map, flat_map, replicate, Option, Some, None, Result, Ok, refl, sym, ap, subst, ◌∙◌}
+use Rattle.std.proofs.Common.{◌≡◌, inl, ℕ, zero, suc, List, [], ◌∷◌, ◌++◌, length, map, flat_map, replicate, Option, Some, None, Result, Ok, refl, sym, ap}
+use Rattle.std.proofs.Common.{subst, ◌∙◌}
 use Rattle.nf_report_laws.proofs.Common.{ℚ, 0ℚ, ◌≤ℚ◌, line_of_words, read_line, read_lines, State, Full, HasState, cause_words, Named, IsFraction, IsNamed}
 use Rattle.nf_report_laws.proofs.Common.{Report, IsWellFormed, report_text, OfLabel, OfInflow, OfOutflow, OfQueue, Stage, AtVersion, AtHorizon, AtReached}
-use Rattle.nf_report_laws.proofs.Common.{AtCause, InBody, AtEnd, ReportDraft, empty_report, IsReadable, same_Ok}
-use Rattle.nf_text_def.specs.Lines.{TextLine, lines}
-use Rattle.nf_text_def.specs.Faults.{LineFault, first_fault}
+use Rattle.nf_report_laws.proofs.Common.{AtCause, InBody, AtEnd, ReportDraft, empty_report, IsReadable, same_Ok, TextLine, lines, LineFault, first_fault}
+use Rattle.nf_report_laws.proofs.Common.{ReportBroken, as_report_rule, points_read, traces_read, report_lines_from, report_draft, report_of_draft}
+use Rattle.nf_report_laws.proofs.Common.{if_at_end, report_by_bytes}
 use Rattle.nf_net_laws.proofs.Wholes.{text_whole}
-use Rattle.nf_report_def.specs.ReportFile.{ReportBroken, as_report_rule, points_read, traces_read, report_lines_from, report_draft, report_of_draft, if_at_end, report_by_bytes, report_in}
+use Rattle.nf_report_def.specs.ReportFile.{report_in}
 use Rattle.nf_report_laws.proofs.Outcomes.{both_ok, no_err}
 use Rattle.nf_report_laws.proofs.ReportShape.{curve_lines, curves_from, state_lines_of, end_lines, head_lines, lines_by_curves, gives_flow}
 use Rattle.nf_report_laws.proofs.ReportSteps.{next_of, words_of, lines_are_read, words_text}

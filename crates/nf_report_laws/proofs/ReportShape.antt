@@ -1,10 +1,10 @@
 -- The curves of a flow in the order of a report, and the lines of a report by these.
-use Rattle.std.proofs.Common.{◌≡◌, ℕ, zero, suc, ◌+◌, Bool, false, cond, List, [], ◌∷◌, ◌++◌, length, map, filter, flat_map, None, slice_get, unwrap_or, refl, sym, ap, ◌∙◌, codes, bytes_eq, arith, append_assoc, append-nil}
-use Rattle.nf_report_laws.proofs.Common.{AllByRecursion, range_with_len, ℚ, Point, IsCurve, Trace, Flow, points_at, Pattern, digits_of, printed, Name, name_at}
-use Rattle.nf_report_laws.proofs.Common.{Named, cause_words, IsFraction, Report, point_lines, trace_lines, trace_at, written_state, report_lines, Kind, OfLabel}
-use Rattle.nf_report_laws.proofs.Common.{OfNever, OfInflow, OfOutflow, OfQueue, key_word, key_of, ReadCurve, curves_of_kind, points_read, traces_read}
-use Rattle.nf_report_laws.proofs.Common.{AreFractionPoints}
-use Rattle.std.proofs.lemmas.Grind.{flat_map-append}
+use Rattle.std.proofs.Common.{◌≡◌, ℕ, zero, suc, ◌+◌, Bool, false, cond, List, [], ◌∷◌, ◌++◌, length, map, filter, flat_map, None, slice_get, unwrap_or}
+use Rattle.std.proofs.Common.{refl, sym, ap, ◌∙◌, codes, bytes_eq, arith, append_assoc, append-nil}
+use Rattle.nf_report_laws.proofs.Common.{AllByRecursion, range_with_len, ℚ, Point, IsCurve, Trace, Flow, points_at, Pattern, digits_of, printed, Name}
+use Rattle.nf_report_laws.proofs.Common.{name_at, Named, cause_words, IsFraction, Report, point_lines, trace_lines, trace_at, written_state, report_lines}
+use Rattle.nf_report_laws.proofs.Common.{Kind, OfLabel, OfNever, OfInflow, OfOutflow, OfQueue, key_word, key_of, ReadCurve, curves_of_kind, points_read}
+use Rattle.nf_report_laws.proofs.Common.{traces_read, AreFractionPoints, flat_map-append}
 use Rattle.std.proofs.lemmas.List.Elements.{filter-append}
 
 -- ---- a curve that was read, and its lines

@@ -1,10 +1,10 @@
 -- A report is read line by line, where each line is the line of its words.
-use Rattle.std.proofs.Common.{◌≡◌, ℕ, ◌+◌, Bool, true, false, List, [], ◌∷◌, ◌++◌, map, flat_map, Option, Some, None, Result, Ok, Err, refl, sym, ap, subst, ◌∙◌, bytes_eq, if◌then◌else◌}
-use Rattle.nf_report_laws.proofs.Common.{AllByRecursion, ◌>>=◌, words, line_of_words, is_plain, read_line, Name, Named, same_names, bytes_eq-self, ReportRule}
-use Rattle.nf_report_laws.proofs.Common.{P3, Kind, OfLabel, OfNever, OfInflow, OfOutflow, OfQueue, CurveKey, key_word, key_of, is_key, ReportDraft, report_line}
-use Rattle.nf_report_laws.proofs.Common.{ReportBroken, next_words, in_report_line, report_lines_from, and_parts, and_from}
-use Rattle.nf_text_def.specs.Lines.{TextLine}
-use Rattle.nf_net_laws.specs.LineLaws.{whole_line, plain_from}
+use Rattle.std.proofs.Common.{◌≡◌, ℕ, ◌+◌, Bool, true, false, List, [], ◌∷◌, ◌++◌, map, flat_map, Option, Some, None, Result, Ok, Err, refl, sym, ap, subst}
+use Rattle.std.proofs.Common.{◌∙◌, bytes_eq, if◌then◌else◌}
+use Rattle.nf_report_laws.proofs.Common.{AllByRecursion, ◌>>=◌, words, line_of_words, is_plain, read_line, Name, Named, same_names, bytes_eq-self}
+use Rattle.nf_report_laws.proofs.Common.{ReportRule, P3, Kind, OfLabel, OfNever, OfInflow, OfOutflow, OfQueue, CurveKey, key_word, key_of, is_key}
+use Rattle.nf_report_laws.proofs.Common.{ReportDraft, report_line, ReportBroken, next_words, in_report_line, report_lines_from, and_parts, and_from}
+use Rattle.nf_report_laws.proofs.Common.{TextLine, whole_line, plain_from}
 use Rattle.nf_report_laws.proofs.Outcomes.{both_ok, no_err}
 
 -- the words of the line that comes next: behind all of these it is the one after them

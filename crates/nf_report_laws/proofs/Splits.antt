@@ -2,7 +2,8 @@
 use Rattle.std.proofs.Common.{◌≡◌, suc, List, [], ◌∷◌, ◌++◌, length, map, refl, sym, ap, subst, ◌∙◌, append_assoc}
 use Rattle.nf_report_laws.proofs.Common.{AllByRecursion, ℚ, Point, Trace, Flow, Name, Named, Kind, OfLabel, OfNever, OfInflow, OfOutflow, OfQueue, CurveKey}
 use Rattle.nf_report_laws.proofs.Common.{key_of, curve_keys, ReadCurve}
-use Rattle.nf_report_laws.proofs.ReportShape.{IsReadPoints, IsReadTrace, IsOfKind, IsRead, plain_curve, trace_curve, label_curves, never_curves, link_curves, curves_from, AreRead}
+use Rattle.nf_report_laws.proofs.ReportShape.{IsReadPoints, IsReadTrace, IsOfKind, IsRead, plain_curve, trace_curve, label_curves, never_curves, link_curves}
+use Rattle.nf_report_laws.proofs.ReportShape.{curves_from, AreRead}
 use Rattle.nf_report_laws.proofs.CurvesBack.{keys_of}
 use Rattle.nf_report_laws.proofs.KeysBack.{link_keys}
 

@@ -1,8 +1,9 @@
 -- The lines of the states are read as the pattern that they are printed of.
-use Rattle.std.proofs.Common.{◌≡◌, ℕ, suc, ◌+◌, ◌<◌, ◌≤◌, true, not, ◌||◌, nat_lt, if◌then◌else◌, List, [], ◌∷◌, ◌++◌, length, replicate, set, Option, Some, None, slice_get, Ok, Err, refl, sym, ap, subst, ◌∙◌, codes, bytes_eq, arith, append_assoc, length-append}
-use Rattle.nf_report_laws.proofs.Common.{IsDistinct, le-ltb, ℚ, ◌>>=◌, State, Tight, Full, Zero, Pattern, HasState, Name, has_name, place_of, name_at, Cause}
-use Rattle.nf_report_laws.proofs.Common.{Named, state_word, has_at, place_at, P7, P9, or_rule, OfLabel, OfNever, OfInflow, OfOutflow, OfQueue, InBody}
-use Rattle.nf_report_laws.proofs.Common.{ReadCurve, ReportDraft, with_current, state_in, state_of_link, capacity_at, report_line}
+use Rattle.std.proofs.Common.{◌≡◌, ℕ, suc, ◌+◌, ◌<◌, ◌≤◌, true, not, ◌||◌, nat_lt, if◌then◌else◌, List, [], ◌∷◌, ◌++◌, length, replicate, set, Option, Some}
+use Rattle.std.proofs.Common.{None, slice_get, Ok, Err, refl, sym, ap, subst, ◌∙◌, codes, bytes_eq, arith, append_assoc, length-append}
+use Rattle.nf_report_laws.proofs.Common.{IsDistinct, le-ltb, ℚ, ◌>>=◌, State, Tight, Full, Zero, Pattern, HasState, Name, has_name, place_of, name_at}
+use Rattle.nf_report_laws.proofs.Common.{Cause, Named, state_word, has_at, place_at, P7, P9, or_rule, OfLabel, OfNever, OfInflow, OfOutflow, OfQueue}
+use Rattle.nf_report_laws.proofs.Common.{InBody, ReadCurve, ReportDraft, with_current, state_in, state_of_link, capacity_at, report_line}
 use Rattle.nf_report_laws.proofs.ReportShape.{state_lines_of}
 use Rattle.nf_report_laws.proofs.ReportSteps.{next_of, Reads}
 use Rattle.nf_report_laws.proofs.CurvesBack.{IsBehind}

@@ -1,20 +1,12 @@
 -- The lines of a report after its head.
-use Rattle.std.proofs.Common.{◌≡◌, ◌≢◌, ℕ, suc, ◌<◌, ◌≤◌, Bool, true, false, not, ◌||◌, cond, nat_lt, List, [], ◌∷◌, length, drop, Option, Some, None, Result, Ok, Err, refl, sym, ap, ◌∙◌, arith}
-use Rattle.std.specs.Prelude.{is_none, is_some, if◌then◌else◌, set}
-use Rattle.std.proofs.lemmas.Bool.{le-ltb}
-use Rattle.nf_model.specs.declared.State.{State}
-use Rattle.std.specs.List.{last_or}
-use Rattle.nf_rational.specs.Rational.{ℚ}
-use Rattle.nf_frac_def.specs.Checked.{◌>>=◌}
-use Rattle.nf_net_def.specs.Named.{Named}
-use Rattle.nf_report_def.specs.declared.ReportRule.{ReportRule}
-use Rattle.nf_report_def.specs.declared.ReportRule.TheVariants.{P5, P6, P7, P8, P9, P11, P12, P13}
-use Rattle.nf_report_def.specs.ReportCauses.{or_rule, printed_number}
-use Rattle.nf_report_def.specs.ReportLines.{Kind, LineKind, ReportDraft, Opened, key_word, opened, comes_after, rate_word, with_rate, with_point, are_alike, begins_with, point_line, trace_line, line_kind, line_of_kind, body_line, has_all, with_current, state_in, state_of_link, state_line, capacity_at}
-use Rattle.nf_text.specs.Within.{word_at}
+use Rattle.std.proofs.Common.{◌≡◌, ◌≢◌, ℕ, suc, ◌<◌, ◌≤◌, Bool, true, false, not, ◌||◌, cond, nat_lt, List, [], ◌∷◌, length, drop, Option, Some, None}
+use Rattle.std.proofs.Common.{Result, Ok, Err, refl, sym, ap, ◌∙◌, arith, is_none, is_some, if◌then◌else◌, set}
+use Rattle.nf_report_lines.proofs.Common.{le-ltb, State, last_or, ℚ, ◌>>=◌, Named, ReportRule, P5, P6, P7, P8, P9, P11, P12, P13, or_rule, printed_number}
+use Rattle.nf_report_lines.proofs.Common.{Kind, LineKind, ReportDraft, Opened, key_word, opened, comes_after, rate_word, with_rate, with_point, are_alike}
+use Rattle.nf_report_lines.proofs.Common.{begins_with, point_line, trace_line, line_kind, line_of_kind, body_line, has_all, with_current, state_in}
+use Rattle.nf_report_lines.proofs.Common.{state_of_link, state_line, capacity_at, word_at, seen_line_kind, state_read}
 use Rattle.nf_report_lines.specs.declared.body.LineKind as code
 use Rattle.nf_side.specs.NameAt.{IsNameAt}
-use Rattle.nf_report_lines.specs.Lines.{seen_line_kind, state_read}
 use Rattle.nf_report_lines.proofs.WordCounts.{first_word}
 
 -- ---- a line by its first word

@@ -1,30 +1,19 @@
 -- What a draft is seen as when something is added to it.
-use Rattle.std.proofs.Common.{◌≡◌, ◌≢◌, ◌⊎◌, inl, inr, ⊎_elim, ℕ, zero, suc, ◌+◌, ◌<◌, ◌≤◌, Bool, true, false, ◌&&◌, cond, bytes_eq, nat_eq, List, [], ◌∷◌, ◌++◌, length, drop, Option, Some, None, Result, Ok, Err, refl, sym, ap, subst, ◌∙◌, arith, length-append, replicate, set}
-use Rattle.std.specs.Prelude.{slice_get, unwrap_or}
-use Rattle.nf_rational.specs.Rational.{ℚ}
-use Rattle.nf_rational.specs.Operations.{0ℚ}
-use Rattle.nf_model.specs.declared.State.{State}
-use Rattle.std.proofs.lemmas.List.{drop_all}
+use Rattle.std.proofs.Common.{◌≡◌, ◌≢◌, ◌⊎◌, inl, inr, ⊎_elim, ℕ, zero, suc, ◌+◌, ◌<◌, ◌≤◌, Bool, true, false, ◌&&◌, cond, bytes_eq, nat_eq, List, [], ◌∷◌}
+use Rattle.std.proofs.Common.{◌++◌, length, drop, Option, Some, None, Result, Ok, Err, refl, sym, ap, subst, ◌∙◌, arith, length-append, replicate, set}
+use Rattle.std.proofs.Common.{slice_get, unwrap_or}
+use Rattle.nf_report_lines.proofs.Common.{ℚ, 0ℚ, State, drop_all, Trace, Name, Named, ReportRule, P7, P14, Stage, CurveKey, ReadCurve, ReportDraft, Opened}
+use Rattle.nf_report_lines.proofs.Common.{key_of, key_word, curve_keys, with_current, with_rate, has_all, is_key, begun, opened, key_at, key_of_number}
+use Rattle.nf_report_lines.proofs.Common.{is_some_key, seen_stage, seen_curve, seen_done, seen_current, with_open, begun_count, seen_draft, LacksIdleOnly}
+use Rattle.nf_report_lines.proofs.Common.{IsWithinNetwork, begun_by, opened_by, closed, drafted, IsNeverNext, word_at, ◌>>=◌}
 use Rattle.std.proofs.lemmas.Bool.Decides.{eqb_tells}
-use Rattle.nf_curve.specs.declared.flow.Trace.{Trace}
-use Rattle.nf_net_def.specs.Names.{Name}
-use Rattle.nf_net_def.specs.Named.{Named}
-use Rattle.nf_report_def.specs.declared.ReportRule.{ReportRule}
-use Rattle.nf_report_def.specs.declared.ReportRule.TheVariants.{P7, P14}
 use Rattle.nf_report_def.specs.ReportFile.{if_at_end}
-use Rattle.nf_report_lines.specs.declared.draft.Stage.{Stage}
 use Rattle.nf_report_lines.specs.declared.draft.Stage.TheVariants as stages
 use Rattle.nf_report_def.specs.ReportLines as lines
-use Rattle.nf_report_def.specs.ReportLines.{CurveKey, ReadCurve, ReportDraft, Opened, key_of, key_word, curve_keys, with_current, with_rate, has_all, is_key, begun, opened}
-use Rattle.nf_report_lines.specs.Keys.{key_at, key_of_number, is_some_key}
 use Rattle.nf_report_lines.specs.declared.draft.Draft.{Draft}
 use Rattle.nf_report_lines.specs.declared.entry.RatedPoint.{RatedPoint}
 use Rattle.nf_report_lines.specs.declared.entry.Opening.TheVariants.{Begins}
 use Rattle.nf_report_lines.specs.declared.entry.Entry.TheVariants.{OfCurve, Never, OfLink}
-use Rattle.nf_report_lines.specs.Drafts.{seen_stage, seen_curve, seen_done, seen_current, with_open, begun_count, seen_draft, LacksIdleOnly, IsWithinNetwork}
-use Rattle.nf_report_lines.specs.Entries.{begun_by, opened_by, closed, drafted, IsNeverNext}
-use Rattle.nf_text.specs.Within.{word_at}
-use Rattle.nf_frac_def.specs.Checked.{◌>>=◌}
 use Rattle.nf_report_lines.proofs.WordCounts.{one_behind}
 
 -- ---- keys that are left

@@ -1,19 +1,10 @@
 -- The lines of a report's head, by the words after the first one.
-use Rattle.std.proofs.Common.{◌≡◌, ℕ, ◌<◌, Bool, true, false, not, ◌||◌, cond, List, length, drop, Result, Ok, Err, refl, ◌∙◌, ap, bytes_eq, codes}
-use Rattle.std.specs.Prelude.{Option, Some, None, is_none, is_some}
-use Rattle.std.specs.Bool.{beq}
-use Rattle.std.proofs.lemmas.Bool.{true≢false, false≢true, or_right, or_left}
-use Rattle.nf_rational.specs.Rational.{ℚ}
-use Rattle.nf_rational.specs.Operations.{0ℚ}
-use Rattle.nf_rational.specs.Order.{lt_ℚ}
-use Rattle.nf_frac_def.specs.Checked.{◌>>=◌}
-use Rattle.nf_rational.specs.Signs.{is_same}
-use Rattle.nf_text.specs.Within.{word_at}
+use Rattle.std.proofs.Common.{◌≡◌, ℕ, ◌<◌, Bool, true, false, not, ◌||◌, cond, List, length, drop, Result, Ok, Err, refl, ◌∙◌, ap, bytes_eq, codes, Option}
+use Rattle.std.proofs.Common.{Some, None, is_none, is_some}
+use Rattle.nf_report_lines.proofs.Common.{beq, true≢false, false≢true, or_right, or_left, ℚ, 0ℚ, lt_ℚ, ◌>>=◌, is_same, word_at, ReportRule, P5, P10}
+use Rattle.nf_report_lines.proofs.Common.{cause_in, ReportDraft, AtReached, AtCause, InBody, after_keyword, number_alone, are_alike, horizon_line}
+use Rattle.nf_report_lines.proofs.Common.{reached_line, cause_line}
 use Rattle.nf_net_def.specs.declared.Cause.{Cause}
-use Rattle.nf_report_def.specs.declared.ReportRule.{ReportRule}
-use Rattle.nf_report_def.specs.declared.ReportRule.TheVariants.{P5, P10}
-use Rattle.nf_report_def.specs.ReportCauses.{cause_in}
-use Rattle.nf_report_def.specs.ReportLines.{ReportDraft, AtReached, AtCause, InBody, after_keyword, number_alone, are_alike, horizon_line, reached_line, cause_line}
 use Rattle.nf_report_lines.proofs.WordCounts.{Words, first_word}
 
 behind_is : (key : List ℕ) (words : Words) → 0 < length words → bytes_eq (word_at words 0) key ≡ true → after_keyword key words ≡ Ok (drop 1 words)

@@ -1,16 +1,11 @@
 -- The keys of a report's curves by their numbers.
-use Rattle.std.proofs.Common.{◌≡◌, ℕ, zero, suc, ◌+◌, ◌*◌, ◌/◌, ◌%◌, ◌<◌, ◌≤◌, List, [], ◌∷◌, ◌++◌, length, map, Some, None, refl, ap, ◌∙◌, arith, length-append}
+use Rattle.std.proofs.Common.{◌≡◌, ℕ, zero, suc, ◌+◌, ◌*◌, ◌/◌, ◌%◌, ◌<◌, ◌≤◌, List, [], ◌∷◌, ◌++◌, length, map, Some, None, refl, ap, ◌∙◌, arith}
+use Rattle.std.proofs.Common.{length-append, slice_get}
+use Rattle.nf_report_lines.proofs.Common.{length-map, Name, name_at, Named, as_many_names, CurveKey, key_of, curve_keys, link_keys, kind_of_three}
 use Rattle.std.proofs.Math.Nat.{div-add-mod, mod-lt}
-use Rattle.std.specs.Prelude.{slice_get}
-use Rattle.std.proofs.lemmas.List.{length-map}
 use Rattle.std.proofs.lemmas.Option.{slice_get_past}
-use Rattle.nf_net_def.specs.Names.{Name, name_at}
-use Rattle.nf_net_def.specs.Named.{Named}
 use Rattle.nf_net_def.specs.WellNamed.{IsNamed}
-use Rattle.nf_net.proofs.Limits.{as_many_names}
 use Rattle.nf_report_def.specs.ReportLines as lines
-use Rattle.nf_report_def.specs.ReportLines.{CurveKey, key_of, curve_keys}
-use Rattle.nf_report_lines.specs.Keys.{link_keys, kind_of_three}
 
 -- ---- how many there are
 length_link_keys : (names : List Name) → length (link_keys names) ≡ 3 * length names

@@ -1,16 +1,11 @@
 -- The last point of a curve, and times that come after it.
 use Rattle.std.proofs.Common.{◌≡◌, ⊎_elim, ℕ, zero, suc, ◌+◌, ◌<◌, true, false, List, [], ◌∷◌, length, Option, Some, None, refl, sym, ap, subst, ◌∙◌, arith}
-use Rattle.std.specs.Prelude.{slice_get}
-use Rattle.std.specs.List.{last_or}
-use Rattle.nf_rational.specs.Rational.{ℚ}
-use Rattle.nf_rational.specs.Operations.{0ℚ}
-use Rattle.nf_rational.specs.Order.{◌<ℚ◌, lt_ℚ}
+use Rattle.std.proofs.Common.{slice_get}
+use Rattle.nf_report_lines.proofs.Common.{last_or, ℚ, 0ℚ, ◌<ℚ◌, lt_ℚ, is_same, comes_after}
 use Rattle.nf_rational_laws.proofs.Tests.{less_of_test}
 use Rattle.nf_model.specs.Curve.{Point}
-use Rattle.nf_rational.specs.Signs.{is_same}
 use Rattle.nf_curve.specs.Points.{last_time}
 use Rattle.nf_curve_laws.proofs.Operations.{is_same_cases}
-use Rattle.nf_report_def.specs.ReportLines.{comes_after}
 
 last_from : (o : Option Point) (points : List Point) (k : ℕ) (p : Point) → slice_get points k ≡ Some p → length points ≡ k + 1 → last_or o points ≡ Some p
 last_from o [] k p e many = absurd (omega arith)

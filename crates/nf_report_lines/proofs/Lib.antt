@@ -1,3 +1,4 @@
+mod Common
 pub mod KeyNumbers
 pub mod WordCounts
 pub mod DraftSteps

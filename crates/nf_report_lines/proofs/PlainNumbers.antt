@@ -1,19 +1,16 @@
 -- Words that are the printed forms of numbers, read digit by digit.
-use Rattle.std.proofs.Common.{◌≡◌, ℕ, zero, suc, ◌+◌, ◌-◌, ◌*◌, ◌<◌, ◌≤◌, Bool, true, false, List, [], ◌∷◌, ◌++◌, length, take, drop, get_or, ℤ, pos, negsuc, refl, sym, ap, subst, ◌∙◌, arith}
+use Rattle.std.proofs.Common.{◌≡◌, ℕ, zero, suc, ◌+◌, ◌-◌, ◌*◌, ◌<◌, ◌≤◌, Bool, true, false, List, [], ◌∷◌, ◌++◌, length, take, drop, get_or, ℤ, pos}
+use Rattle.std.proofs.Common.{negsuc, refl, sym, ap, subst, ◌∙◌, arith, ◌==◌, if◌then◌else◌, neg_ℤ, nat_abs, ◌≤ℤ◌, Some, None}
+use Rattle.nf_report_lines.proofs.Common.{take-append-drop, take_all, drop_more, and_from, cond-false, ne_eqb, ℚ, are_digits, value_of, digits_of}
+use Rattle.nf_report_lines.proofs.Common.{signed_digits_of, if_printed, printed_number}
 use Rattle.std.proofs.lemmas.Int.{ints}
-use Rattle.std.specs.Prelude.{◌==◌, if◌then◌else◌, neg_ℤ, nat_abs, ◌≤ℤ◌, Some, None}
 use Rattle.std.specs.Char.{is_ascii_digit}
 use Rattle.std.proofs.Math.Seq.{take-suc}
-use Rattle.std.proofs.lemmas.List.{take-append-drop, take_all, drop_more}
-use Rattle.std.proofs.lemmas.Bool.{and_from, cond-false, ne_eqb}
-use Rattle.nf_rational.specs.Rational.{ℚ}
-use Rattle.nf_frac_words.specs.Digits.{are_digits, value_of, digits_of}
-use Rattle.nf_frac_words.specs.Printed.{signed_digits_of, printed_parts, printed}
+use Rattle.nf_frac_words.specs.Printed.{printed_parts, printed}
 use Rattle.nf_frac_words.proofs.Digits.{are_digits-append, value_after-append}
 use Rattle.nf_frac_words.proofs.ReadBack.{number_read}
 use Rattle.nf_net_def.specs.Numbers.{greatest}
 use Rattle.nf_net_laws.proofs.NameFacts.{bytes_eq-self}
-use Rattle.nf_report_def.specs.ReportCauses.{if_printed, printed_number}
 
 -- ---- one digit more
 take_next : (bytes : List ℕ) (place : ℕ) → place < length bytes → take (place + 1) bytes ≡ take place bytes ++ get_or bytes place 0 ∷ []

@@ -1,10 +1,9 @@
 -- The words of a line, by their number.
-use Rattle.std.proofs.Common.{◌≡◌, ℕ, ◌<◌, Bool, true, false, cond, List, [], ◌∷◌, length, drop, Option, Some, None, refl, sym, ◌∙◌, ap, arith, bytes_eq, codes, Err}
-use Rattle.nf_frac_def.specs.Checked.{◌>>=◌}
-use Rattle.nf_text.specs.Within.{word_at}
+use Rattle.std.proofs.Common.{◌≡◌, ℕ, ◌<◌, Bool, true, false, cond, List, [], ◌∷◌, length, drop, Option, Some, None, refl, sym, ◌∙◌, ap, arith, bytes_eq}
+use Rattle.std.proofs.Common.{codes, Err}
+use Rattle.nf_report_lines.proofs.Common.{◌>>=◌, word_at, P9, or_rule, CauseKind, IsDone, IsPhases, IsPatterns, IsPassed, IsNoPattern, cause_kind}
+use Rattle.nf_report_lines.proofs.Common.{cause_of_kind, cause_in}
 use Rattle.nf_side.proofs.WordCounts.{one_word, two_words, three_words, four_words}
-use Rattle.nf_report_def.specs.declared.ReportRule.TheVariants.{P9}
-use Rattle.nf_report_def.specs.ReportCauses.{or_rule, CauseKind, IsDone, IsPhases, IsPatterns, IsPassed, IsNoPattern, cause_kind, cause_of_kind, cause_in}
 
 abbrev pub Words : Type 0
 Words = List (List ℕ)

@@ -1,8 +1,6 @@
 -- What holds of each entry of a list, from what holds of a prefix.
-use Rattle.std.proofs.Common.{◌≡◌, ℕ, zero, suc, ◌+◌, ◌<◌, ◌≤◌, List, [], ◌∷◌, length, map, take, get_or, refl, subst, add-one}
-use Rattle.std.specs.Prelude.{Some, slice_get}
-use Rattle.std.specs.List.{AllByRecursion}
-use Rattle.std.proofs.lemmas.List.{take_all}
+use Rattle.std.proofs.Common.{◌≡◌, ℕ, zero, suc, ◌+◌, ◌<◌, ◌≤◌, List, [], ◌∷◌, length, map, take, get_or, refl, subst, add-one, Some, slice_get}
+use Rattle.nf_report_pages.proofs.Common.{AllByRecursion, take_all}
 use Rattle.std.proofs.lemmas.Option.{slice_get_read}
 
 module _ {A : Type 0} (P : A → Type 0) where

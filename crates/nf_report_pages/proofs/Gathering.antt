@@ -1,13 +1,8 @@
 -- What a sink took of a text that is written page by page, part by part.
-use Rattle.std.proofs.Common.{◌≡◌, ℕ, List, [], ◌++◌, refl, sym, ap, ◌∙◌, subst, append_assoc, append-nil, arith}
-use Rattle.std.specs.Prelude.{flat_map, Option, Some, None, Result, Ok, Err, IsErr}
-use Rattle.std.proofs.lemmas.Grind.{flat_map-append}
+use Rattle.std.proofs.Common.{◌≡◌, ℕ, List, [], ◌++◌, refl, sym, ap, ◌∙◌, subst, append_assoc, append-nil, arith, flat_map, Option, Some, None, Result, Ok}
+use Rattle.std.proofs.Common.{Err, IsErr}
+use Rattle.nf_report_pages.proofs.Common.{flat_map-append, SinkState, Wrote, Wrote-append, Wrote-longer, line_of_words, Line, Kept, Gathered, GatheredLines}
 use Rattle.nf_edge.specs.Taken.{with_more}
-use Rattle.nf_edge.specs.Writing.{SinkState, Wrote}
-use Rattle.nf_edge.proofs.Pieces.{Wrote-append, Wrote-longer}
-use Rattle.nf_text_def.specs.Words.{line_of_words}
-use Rattle.nf_report_pages.specs.Written.{Line}
-use Rattle.nf_report_pages.specs.Pages.{Kept, Gathered, GatheredLines}
 use Rattle.nf_report_pages.proofs.Written.{wrote_front}
 
 -- ---- what is kept

@@ -1,23 +1,13 @@
 -- The lines of a list, part by part.
-use Rattle.std.proofs.Common.{◌≡◌, ℕ, zero, suc, ◌+◌, ◌<◌, List, [], ◌∷◌, ◌++◌, length, take, drop, get_or, refl, sym, ap, ◌∙◌, append_assoc, append-nil, add-one, arith}
-use Rattle.std.specs.Prelude.{Option, Some, slice_get, flat_map, map}
-use Rattle.std.specs.List.{join_with_byte}
+use Rattle.std.proofs.Common.{◌≡◌, ℕ, zero, suc, ◌+◌, ◌<◌, List, [], ◌∷◌, ◌++◌, length, take, drop, get_or, refl, sym, ap, ◌∙◌, append_assoc, append-nil}
+use Rattle.std.proofs.Common.{add-one, arith, Option, Some, slice_get, flat_map, map, unwrap_or, codes}
+use Rattle.nf_report_pages.proofs.Common.{join_with_byte, range_with_len, ℚ, for_each, trace_at, Grown, seen_trace, Trace, line_of_words, Name, name_at}
+use Rattle.nf_report_pages.proofs.Common.{point_lines, trace_lines, Line, after_words, written_point, written_trace, never_lines}
 use Rattle.std.proofs.Math.Seq.{take-length}
-use Rattle.std.specs.Prelude.{unwrap_or, codes}
-use Rattle.std.specs.List.{range_with_len}
 use Rattle.std.proofs.lemmas.List.FromFn.{length-range_with_len}
-use Rattle.nf_rational.specs.Rational.{ℚ}
 use Rattle.nf_model.specs.Equilibrium.{points_at}
 use Rattle.nf_model.specs.Equilibrium as model
-use Rattle.nf_net_def.specs.Report.{for_each, trace_at}
-use Rattle.nf_curve.specs.Points.{Grown}
-use Rattle.nf_curve.specs.Flows.{seen_trace}
-use Rattle.nf_curve.specs.declared.flow.Trace.{Trace}
-use Rattle.nf_text_def.specs.Words.{line_of_words}
-use Rattle.nf_net_def.specs.Names.{Name, name_at}
-use Rattle.nf_net_def.specs.Report.{point_lines, trace_lines}
 use Rattle.nf_rational_laws.proofs.Entries.{slice_get-below}
-use Rattle.nf_report_pages.specs.Written.{Line, after_words, written_point, written_trace, never_lines}
 
 -- ---- what a function makes of the elements, one after the other
 next_suc : {X A : Type 0} (f : X → List A) (xs : List X) (i : ℕ) (x : X) → slice_get xs i ≡ Some x → flat_map f (take i xs) ++ f x ≡ flat_map f (take (suc i) xs)

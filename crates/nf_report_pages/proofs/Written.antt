@@ -1,11 +1,6 @@
 -- What a sink took of a text, part by part.
-use Rattle.std.proofs.Common.{◌≡◌, ℕ, List, ◌++◌, refl, sym, ap, ◌∙◌, subst}
-use Rattle.std.specs.Prelude.{flat_map, Option, Result, Ok, Err, IsErr}
-use Rattle.std.proofs.lemmas.Grind.{flat_map-append}
-use Rattle.nf_edge.specs.Writing.{SinkState, Wrote}
-use Rattle.nf_edge.proofs.Pieces.{Wrote-append, Wrote-longer}
-use Rattle.nf_text_def.specs.Words.{line_of_words}
-use Rattle.nf_report_pages.specs.Written.{Line, WroteLines}
+use Rattle.std.proofs.Common.{◌≡◌, ℕ, List, ◌++◌, refl, sym, ap, ◌∙◌, subst, flat_map, Option, Result, Ok, Err, IsErr}
+use Rattle.nf_report_pages.proofs.Common.{flat_map-append, SinkState, Wrote, Wrote-append, Wrote-longer, line_of_words, Line, WroteLines}
 
 -- ---- texts
 -- the next part follows the first

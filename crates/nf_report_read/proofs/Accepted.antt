@@ -1,19 +1,13 @@
 -- The answer for a text, by its reading.
 use Rattle.std.proofs.Common.{◌≡◌, ℕ, List, Result, Ok, Err, MatchResult, IfOk, sym, ap, ◌∙◌}
+use Rattle.nf_report_read.proofs.Common.{Named, IsNamed, report_in, FileFault, ReportRule, Report, IfBroken, seen_report, ReturnsReport}
 use Rattle.nf_rational_laws.proofs.Results.{same_Ok}
-use Rattle.nf_net_def.specs.Named.{Named}
-use Rattle.nf_net_def.specs.WellNamed.{IsNamed}
 use Rattle.nf_net_def.specs.Report as formats
 use Rattle.nf_net_def.specs.Report.{IsWellFormed, report_text}
-use Rattle.nf_report_def.specs.ReportFile.{report_in}
 use Rattle.nf_report_laws.specs.Readable.{IsReadable}
 use Rattle.nf_report_laws.proofs.ReportBack.{report_back}
 use Rattle.nf_report_laws.proofs.ReportFit.{fit}
 use Rattle.nf_report_laws.proofs.ReportKept.{report_kept}
-use Rattle.nf_text.specs.declared.fault.FileFault.{FileFault}
-use Rattle.nf_report_def.specs.declared.ReportRule.{ReportRule}
-use Rattle.nf_report_read.specs.declared.report.Report.{Report}
-use Rattle.nf_report_read.specs.Files.{IfBroken, seen_report, ReturnsReport}
 
 abbrev pub Answers : Named → List ℕ → Result Report (FileFault ReportRule) → Type 0
 Answers n text result = MatchResult result (λ report. report_in n text ≡ Ok (seen_report report)) (λ fault. IfBroken fault (λ broken. report_in n text ≡ Err broken))

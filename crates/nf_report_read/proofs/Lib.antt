@@ -1,3 +1,4 @@
+mod Common
 pub mod LineByLine
 pub mod Accepted
 pub mod Sorting

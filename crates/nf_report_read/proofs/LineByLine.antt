@@ -1,25 +1,18 @@
 -- Reading lines in order, each together with the line after it.
-use Rattle.std.proofs.Common.{◌≡◌, ℕ, suc, List, [], ◌∷◌, length, map, Option, Some, None, option_map, Result, Ok, Err, MatchOption, sym, ap, subst, ◌∙◌, arith}
-use Rattle.std.proofs.lemmas.List.{length-map}
+use Rattle.std.proofs.Common.{◌≡◌, ℕ, suc, List, [], ◌∷◌, length, map, Option, Some, None, option_map, Result, Ok, Err, MatchOption, sym, ap, subst, ◌∙◌}
+use Rattle.std.proofs.Common.{arith}
+use Rattle.nf_report_read.proofs.Common.{length-map, TextLine, lines, ReadLine, read_line, read_lines, LineFault, first_fault, first_fault_of, Named}
+use Rattle.nf_report_read.proofs.Common.{ReportDraft, report_line, empty_report, ReportBroken, next_words, in_report_line, report_lines_from, report_draft}
+use Rattle.nf_report_read.proofs.Common.{if_at_end, as_report_rule, report_by_bytes, FileFault, ReportRule, Report, seen_draft, seen_stage, words_behind}
+use Rattle.nf_report_read.proofs.Common.{IfBroken, closed_by}
 use Rattle.nf_frac_def.specs.Checked.{◌>>=◌}
-use Rattle.nf_text_def.specs.Lines.{TextLine, lines}
-use Rattle.nf_text_def.specs.Words.{ReadLine, read_line, read_lines}
-use Rattle.nf_text_def.specs.Faults.{LineFault, first_fault, first_fault_of}
-use Rattle.nf_net_def.specs.Named.{Named}
 use Rattle.nf_net_def.specs.Report as formats
 use Rattle.nf_report_def.specs.declared.ReportRule.TheVariants.{P1, P2, P4}
-use Rattle.nf_report_def.specs.ReportLines.{ReportDraft, report_line, empty_report}
-use Rattle.nf_report_def.specs.ReportFile.{ReportBroken, next_words, in_report_line, report_lines_from, report_draft, if_at_end, as_report_rule, report_by_bytes, report_in}
+use Rattle.nf_report_def.specs.ReportFile.{report_in}
 use Rattle.nf_text.specs.declared.TextFault.{TextFault}
-use Rattle.nf_text.specs.declared.fault.FileFault.{FileFault}
 use Rattle.nf_text.specs.Reading.{MatchesFault}
 use Rattle.nf_text.specs.Faults.{fault_of_text}
-use Rattle.nf_report_def.specs.declared.ReportRule.{ReportRule}
-use Rattle.nf_report_read.specs.declared.report.Report.{Report}
 use Rattle.nf_report_lines.specs.declared.draft.Draft.{Draft}
-use Rattle.nf_report_lines.specs.Drafts.{seen_draft, seen_stage}
-use Rattle.nf_report_lines.specs.Lines.{words_behind}
-use Rattle.nf_report_read.specs.Files.{IfBroken, closed_by}
 
 -- of a rule that is broken, what follows
 pub broken_more : (fault : FileFault ReportRule) (P Q : ReportBroken → Type 0) → ((broken : ReportBroken) → P broken → Q broken) → IfBroken fault P → IfBroken fault Q

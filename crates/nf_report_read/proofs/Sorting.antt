@@ -1,24 +1,15 @@
 -- Curves that are put behind the others of their kind.
-use Rattle.std.proofs.Common.{◌≡◌, ℕ, ◌<◌, Bool, true, false, cond, List, [], ◌∷◌, ◌++◌, length, map, Option, Some, None, option_map, refl, sym, ap, subst, ◌∙◌, arith, append-nil, bytes_eq}
-use Rattle.std.specs.Prelude.{unwrap_or}
-use Rattle.std.proofs.lemmas.Option.{slice_get_within}
-use Rattle.std.proofs.lemmas.List.{map-append}
+use Rattle.std.proofs.Common.{◌≡◌, ℕ, ◌<◌, Bool, true, false, cond, List, [], ◌∷◌, ◌++◌, length, map, Option, Some, None, option_map, refl, sym, ap, subst}
+use Rattle.std.proofs.Common.{◌∙◌, arith, append-nil, bytes_eq, unwrap_or}
+use Rattle.nf_report_read.proofs.Common.{slice_get_within, map-append, Trace, Named, IsNamed, CurveKey, ReadCurve, key_of, key_word, curve_keys, OfNever}
+use Rattle.nf_report_read.proofs.Common.{curves_of_kind, key_at, key_of_number, seen_key, seen_kind, seen_curve, seen_done, AreSorted, pushed}
 use Rattle.nf_rational_laws.proofs.Entries.{entry}
 use Rattle.nf_curve.specs.Flows.{seen_trace}
 use Rattle.nf_curve.specs.declared.flow.Flow.{Flow}
-use Rattle.nf_curve.specs.declared.flow.Trace.{Trace}
-use Rattle.nf_net_def.specs.Named.{Named}
-use Rattle.nf_net_def.specs.WellNamed.{IsNamed}
 use Rattle.nf_net.proofs.Limits.{few_nodes, few_idle_nodes, few_link_names}
 use Rattle.nf_report_def.specs.ReportLines as lines
-use Rattle.nf_report_def.specs.ReportLines.{CurveKey, ReadCurve, key_of, key_word, curve_keys, OfNever}
-use Rattle.nf_report_def.specs.ReportFile.{curves_of_kind}
-use Rattle.nf_report_lines.specs.Keys.{key_at, key_of_number, seen_key, seen_kind}
 use Rattle.nf_report_lines.specs.declared.keys.Key.{Key}
-use Rattle.nf_report_lines.specs.Drafts.{seen_curve, seen_done}
-use Rattle.nf_report_read.specs.Sorted.{AreSorted}
 use Rattle.nf_report_lines.proofs.KeyNumbers.{length_curve_keys}
-use Rattle.nf_report_lines.proofs.DraftSteps.{pushed}
 
 -- the key of a number that has one
 module _ (n : Named) (index : ℕ) (key : Key) (is : option_map seen_key (Some key) ≡ key_of_number n index) where

@@ -1,16 +1,8 @@
 -- A round that tries some of the arcs, in any order, gives the table of the whole round, if no arc then offers anything new.
-use Rattle.std.proofs.Common.{◌≡◌, ◌≢◌, ℕ, zero, suc, ◌<◌, List, [], ◌∷◌, length, length-set, Bool, true, false, if◌then◌else◌, ◌⊎◌, inl, inr, ⊎_elim, eqb, Option, Some, None, slice_get, refl, sym, ap, subst, ◌∙◌, arith}
-use Rattle.std.specs.Prelude.{Ok}
-use Rattle.std.proofs.lemmas.Bool.Decides.{eqb_tells}
-use Rattle.nf_frac_def.specs.Passing.{Passing}
-use Rattle.nf_frac_def.specs.Checked.{Checked, fold_checked, ◌>>=◌}
-use Rattle.nf_frac_def.proofs.Binding.{bind_ok}
-use Rattle.nf_quick_def.specs.Order.{Reach, IsAtMost, is_better}
-use Rattle.nf_quick_def.specs.Rounds.{Known, known_at, better_of, offered}
-use Rattle.nf_quick_laws.proofs.Orders.{IsAtMost-refl, IsAtMost-trans}
-use Rattle.nf_quick_laws.proofs.Offers.{better-old, known_at-set}
-use Rattle.nf_residual.specs.declared.legs.Leg.{Leg}
-use Rattle.nf_residual.specs.Legs.{along_leg}
+use Rattle.std.proofs.Common.{◌≡◌, ◌≢◌, ℕ, zero, suc, ◌<◌, List, [], ◌∷◌, length, length-set, Bool, true, false, if◌then◌else◌, ◌⊎◌, inl, inr, ⊎_elim, eqb}
+use Rattle.std.proofs.Common.{Option, Some, None, slice_get, refl, sym, ap, subst, ◌∙◌, arith, Ok}
+use Rattle.nf_residual.proofs.Common.{eqb_tells, Passing, Checked, fold_checked, ◌>>=◌, bind_ok, Reach, IsAtMost, is_better, Known, known_at, better_of}
+use Rattle.nf_residual.proofs.Common.{offered, IsAtMost-refl, IsAtMost-trans, better-old, known_at-set, Leg, along_leg}
 use Rattle.nf_residual.proofs.Offering.{set_elsewhere}
 use Rattle.nf_residual.proofs.Settled.{one_way, at_most, lost_there, gives, Offers, same_ok, settled_here, settled_then}
 

@@ -1,11 +1,8 @@
 -- Arcs chained by the nodes where they begin, from the last arc to the first.
-use Rattle.std.proofs.Common.{◌≡◌, ◌≢◌, ℕ, zero, suc, ◌+◌, ◌-◌, ◌<◌, ◌≤◌, ◌==◌, List, [], ◌∷◌, length, drop, get_or, set, replicate, Bool, true, false, if◌then◌else◌, ◌⊎◌, inl, inr, ⊎_elim, eqb, Some, slice_get, refl, sym, ap, subst, ◌∙◌, length-set, arith}
-use Rattle.std.proofs.lemmas.Bool.Decides.{eqb_tells}
-use Rattle.std.proofs.lemmas.List.{drop_more, length-replicate, get_or-replicate, get_or-set_same, get_or-set_other}
-use Rattle.std.proofs.lemmas.Option.{slice_get_within, slice_get_read, get_or_from_slice_get}
-use Rattle.nf_residual.specs.declared.legs.Leg.{Leg}
-use Rattle.nf_residual.specs.Legs.{AreLegs}
-use Rattle.nf_residual.specs.Chains.{legs_out, IsNextOut, AreChains}
+use Rattle.std.proofs.Common.{◌≡◌, ◌≢◌, ℕ, zero, suc, ◌+◌, ◌-◌, ◌<◌, ◌≤◌, ◌==◌, List, [], ◌∷◌, length, drop, get_or, set, replicate, Bool, true, false}
+use Rattle.std.proofs.Common.{if◌then◌else◌, ◌⊎◌, inl, inr, ⊎_elim, eqb, Some, slice_get, refl, sym, ap, subst, ◌∙◌, length-set, arith}
+use Rattle.nf_residual.proofs.Common.{eqb_tells, drop_more, length-replicate, get_or-replicate, get_or-set_same, get_or-set_other, slice_get_within}
+use Rattle.nf_residual.proofs.Common.{slice_get_read, get_or_from_slice_get, Leg, AreLegs, legs_out, IsNextOut, AreChains}
 
 -- ---- the arcs out of a node
 tests_same : (a b : ℕ) → a ≡ b → (a == b) ≡ true

@@ -1,24 +1,13 @@
 -- The shortest walk and the least lengths, from the result of the rounds.
-use Rattle.std.proofs.Common.{◌≡◌, ℕ, ◌<◌, true, List, length, map, option_map, Option, Some, None, refl, sym, ap, subst, ◌∙◌}
-use Rattle.std.specs.Prelude.{Ok, Err, is_some}
-use Rattle.std.specs.List.{AllByRecursion}
-use Rattle.nf_rational.specs.Rational.{ℚ}
-use Rattle.nf_frac_def.specs.Passing.{Passing}
-use Rattle.nf_frac_def.specs.declared.Halt.{Halt}
+use Rattle.std.proofs.Common.{◌≡◌, ℕ, ◌<◌, true, List, length, map, option_map, Option, Some, None, refl, sym, ap, subst, ◌∙◌, Ok, Err, is_some}
+use Rattle.nf_residual.proofs.Common.{AllByRecursion, ℚ, Passing, Halt, PassedAt, Checked, Stops, at_part, fold_checked, ◌>>=◌, Network, IsNetwork, Step}
+use Rattle.nf_residual.proofs.Common.{IsResidualWalk, IsLimited, Reach, IsSound, Known, Walk, known_at, room_after, reaches_list, with_room, IsShortest}
+use Rattle.nf_residual.proofs.Common.{AreLeastLengths, IsFoundAt, links_within}
 use Rattle.nf_frac_def.specs.declared.Part.TheVariants as Part
-use Rattle.nf_frac_def.specs.declared.PassedAt.{PassedAt}
-use Rattle.nf_frac_def.specs.Checked.{Checked, Stops, at_part, fold_checked, ◌>>=◌}
-use Rattle.nf_model.specs.Network.{Network, IsNetwork}
-use Rattle.nf_quick_def.specs.Steps.{Step, IsResidualWalk, IsLimited}
-use Rattle.nf_quick_def.specs.Order.{Reach}
-use Rattle.nf_quick_def.specs.Flows.{IsSound}
-use Rattle.nf_quick_def.specs.Rounds.{Known, Walk, known_at, room_after, reaches_list, with_room, shortest_list, distances_list}
-use Rattle.nf_quick_def.specs.Answers.{IsShortest, AreLeastLengths}
-use Rattle.nf_quick_laws.specs.ResidualLaws.{IsFoundAt}
+use Rattle.nf_quick_def.specs.Rounds.{shortest_list, distances_list}
 use Rattle.nf_quick_laws.proofs.Found.{IsFoundAt-list}
 use Rattle.nf_quick_laws.proofs.Lists.{IsShortest-list, AreLeastLengths-list}
 use Rattle.nf_quick_laws.proofs.PushList.{RoomFound, RoomFound-fold, can_go_each, unbounded_walk}
-use Rattle.nf_quick_laws.proofs.Pushes.{links_within}
 use Rattle.nf_residual.proofs.Fits.{all_of}
 use Rattle.nf_residual.proofs.Stopping.{ok_of_part, stops, goes_on, stops_as}
 

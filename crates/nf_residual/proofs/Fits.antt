@@ -1,23 +1,9 @@
 -- The steps of a shortest walk are along links that have a flow.
-use Rattle.std.proofs.Common.{◌≡◌, ℕ, ◌<◌, List, [], ◌∷◌, length, sym, ap, subst, refl, ◌∙◌}
-use Rattle.std.specs.Prelude.{Ok}
-use Rattle.std.specs.List.{AllByRecursion}
-use Rattle.nf_rational.specs.Rational.{ℚ}
-use Rattle.nf_rational.specs.Operations.{0ℚ}
-use Rattle.nf_rational.specs.Order.{◌≤ℚ◌, ◌<ℚ◌}
-use Rattle.nf_frac_def.specs.Passing.{Passing}
-use Rattle.nf_frac_def.specs.declared.Part.{Part}
-use Rattle.nf_frac_def.specs.Checked.{at_part, fold_checked}
-use Rattle.nf_frac_def.proofs.AtPart.{part_ok}
-use Rattle.nf_model.specs.Network.{Network, IsNetwork}
-use Rattle.nf_quick_def.specs.Steps.{Step}
-use Rattle.nf_quick_def.specs.Flows.{IsSound}
-use Rattle.nf_quick_def.specs.Rounds.{Walk}
-use Rattle.nf_quick_def.specs.Pushes.{push_step, push_list}
-use Rattle.nf_quick_def.specs.Answers.{IsShortestWalk}
-use Rattle.nf_quick_laws.specs.ResidualLaws.{IsPush}
+use Rattle.std.proofs.Common.{◌≡◌, ℕ, ◌<◌, List, [], ◌∷◌, length, sym, ap, subst, refl, ◌∙◌, Ok}
+use Rattle.nf_residual.proofs.Common.{AllByRecursion, ℚ, 0ℚ, ◌≤ℚ◌, ◌<ℚ◌, Passing, Part, at_part, fold_checked, part_ok, Network, IsNetwork, Step, IsSound}
+use Rattle.nf_residual.proofs.Common.{Walk, push_step, IsShortestWalk, IsPush, links_within, IsPush-list}
+use Rattle.nf_quick_def.specs.Pushes.{push_list}
 use Rattle.nf_quick_laws.proofs.Apart.{EachStep}
-use Rattle.nf_quick_laws.proofs.Pushes.{links_within, IsPush-list}
 use Rattle.nf_quick_laws.proofs.NewSteps.{IsSound-pushed}
 
 pub all_of : (n : ℕ) (steps : List Step) → EachStep (λ step. step.link < n) steps → AllByRecursion (λ (step : Step). step.link < n) steps

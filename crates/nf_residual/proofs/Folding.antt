@@ -1,13 +1,7 @@
 -- A fold over a list of checked computations.
-use Rattle.std.proofs.Common.{◌≡◌, ℕ, ◌+◌, ◌<◌, ◌≤◌, List, [], ◌∷◌, length, drop, get_or, sym, ap, subst, ◌∙◌, zero, suc, arith}
-use Rattle.std.specs.Prelude.{Ok, Err}
-use Rattle.std.specs.List.{AllByRecursion}
-use Rattle.std.proofs.lemmas.List.{drop_more, drop_all}
-use Rattle.nf_rational.specs.Rational.{ℚ}
+use Rattle.std.proofs.Common.{◌≡◌, ℕ, ◌+◌, ◌<◌, ◌≤◌, List, [], ◌∷◌, length, drop, get_or, sym, ap, subst, ◌∙◌, zero, suc, arith, Ok, Err}
+use Rattle.nf_residual.proofs.Common.{AllByRecursion, drop_more, drop_all, ℚ, PassedAt, Checked, at_part, fold_checked, fold_ok}
 use Rattle.nf_frac_def.specs.declared.Part.TheVariants as Part
-use Rattle.nf_frac_def.specs.declared.PassedAt.{PassedAt}
-use Rattle.nf_frac_def.specs.Checked.{Checked, at_part, fold_checked}
-use Rattle.nf_frac_def.proofs.Each.{fold_ok}
 use Rattle.nf_residual.proofs.Stopping.{ok_of_part, stopped}
 
 -- A property of all members holds for each.

@@ -1,18 +1,10 @@
 -- The order of walks with equally many steps, compared from the last step back.
-use Rattle.std.proofs.Common.{◌≡◌, ℕ, suc, ◌+◌, ◌-◌, ◌<◌, ◌≤◌, List, [], ◌∷◌, ◌++◌, length, Bool, true, false, nat_lt, ◌==◌, ◌&&◌, ◌||◌, not, if◌then◌else◌, ⊎_elim, eqb, ◌≢◌, sym, ap, refl, ◌∙◌, arith}
-use Rattle.std.specs.Ordering.{is_lt, is_gt}
+use Rattle.std.proofs.Common.{◌≡◌, ℕ, suc, ◌+◌, ◌-◌, ◌<◌, ◌≤◌, List, [], ◌∷◌, ◌++◌, length, Bool, true, false, nat_lt, ◌==◌, ◌&&◌, ◌||◌, not, if◌then◌else◌}
+use Rattle.std.proofs.Common.{⊎_elim, eqb, ◌≢◌, sym, ap, refl, ◌∙◌, arith}
+use Rattle.nf_residual.proofs.Common.{is_lt, is_gt, eqb_tells, length_push, Step, place, cmp_ℚ, lt_ℚ, lt-cmp, gt-cmp, Reach, are_before}
+use Rattle.nf_residual.proofs.Common.{are_fewer_or_before, is_better, lt_tells, not_both, Twig, twig_at, steps_back, way_at, one_before}
 use Rattle.std.specs.declared.cmp.Ordering.{Ordering}
 use Rattle.std.specs.declared.cmp.Ordering.TheVariants.{Less, Equal, Greater}
-use Rattle.std.proofs.lemmas.Bool.Decides.{eqb_tells}
-use Rattle.std.proofs.lemmas.List.{length_push}
-use Rattle.nf_quick_def.specs.Steps.{Step, place}
-use Rattle.nf_rational.specs.Order.{cmp_ℚ, lt_ℚ}
-use Rattle.nf_frac.proofs.Comparisons.{lt-cmp, gt-cmp}
-use Rattle.nf_quick_def.specs.Order.{Reach, are_before, are_fewer_or_before, is_better}
-use Rattle.nf_quick_laws.proofs.Orders.{lt_tells}
-use Rattle.nf_rational_laws.proofs.Results.{not_both}
-use Rattle.nf_residual.specs.declared.ways.Twig.{Twig}
-use Rattle.nf_residual.specs.Ways.{twig_at, steps_back, way_at, one_before}
 use Rattle.nf_residual.proofs.Twigs.{steps_are}
 
 abbrev are_same : List Step → List Step → Bool

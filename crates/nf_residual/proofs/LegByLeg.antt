@@ -1,18 +1,10 @@
 -- The arcs of a flow are its steps with residual capacity, and a round over the arcs equals the round over all steps.
-use Rattle.std.proofs.Common.{◌≡◌, ℕ, zero, suc, ◌+◌, ◌<◌, ◌≤◌, Bool, true, false, if◌then◌else◌, List, [], ◌∷◌, ◌++◌, length, drop, Some, slice_get, refl, sym, ap, subst, ◌∙◌, append_assoc, append-nil, add-one}
-use Rattle.std.specs.Prelude.{Ok, Err}
-use Rattle.std.proofs.lemmas.List.{drop_more, drop_all}
-use Rattle.std.proofs.lemmas.Option.{slice_get_within, get_or_from_slice_get}
-use Rattle.nf_rational.specs.Rational.{ℚ}
-use Rattle.nf_frac_def.specs.Passing.{Passing}
-use Rattle.nf_frac_def.specs.Checked.{Checked, fold_checked, ◌>>=◌}
-use Rattle.nf_frac_def.proofs.Binding.{bind_same}
-use Rattle.nf_model.specs.Entries.{number_at}
-use Rattle.nf_model.specs.Network.{Link, Network, IsNetwork}
-use Rattle.nf_quick_def.specs.Steps.{Step, begin_of, end_of, can_go}
-use Rattle.nf_quick_def.specs.Rounds.{Known, known_at, steps_from, along, along_step, round_list}
-use Rattle.nf_residual.specs.declared.legs.Leg.{Leg}
-use Rattle.nf_residual.specs.Legs.{leg_of, legs_from, AreLegs, along_leg}
+use Rattle.std.proofs.Common.{◌≡◌, ℕ, zero, suc, ◌+◌, ◌<◌, ◌≤◌, Bool, true, false, if◌then◌else◌, List, [], ◌∷◌, ◌++◌, length, drop, Some, slice_get, refl}
+use Rattle.std.proofs.Common.{sym, ap, subst, ◌∙◌, append_assoc, append-nil, add-one, Ok, Err}
+use Rattle.nf_residual.proofs.Common.{drop_more, drop_all, slice_get_within, get_or_from_slice_get, ℚ, Passing, Checked, fold_checked, ◌>>=◌, bind_same}
+use Rattle.nf_residual.proofs.Common.{number_at, Link, Network, IsNetwork, Step, begin_of, end_of, can_go, Known, known_at, steps_from, along, along_step}
+use Rattle.nf_residual.proofs.Common.{Leg, leg_of, legs_from, AreLegs, along_leg}
+use Rattle.nf_quick_def.specs.Rounds.{round_list}
 
 -- ---- folds
 pub bind_more : {A B C : Type 0} (r : Checked A) (f : A → Checked B) (g : B → Checked C) (both : A → Checked C) → ((x : A) → both x ≡ (f x >>= g)) → (r >>= both) ≡ ((r >>= f) >>= g)

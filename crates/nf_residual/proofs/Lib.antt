@@ -1,3 +1,4 @@
+mod Common
 pub mod Stopping
 pub mod Folding
 pub mod Moving

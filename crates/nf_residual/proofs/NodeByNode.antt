@@ -1,24 +1,10 @@
 -- A round node by node: the offers along the arcs out of one node, and of one node after the other.
-use Rattle.std.proofs.Common.{◌≡◌, ℕ, zero, suc, ◌+◌, ◌<◌, ◌≤◌, List, [], ◌∷◌, ◌++◌, length, length-append, drop, get_or, ◌⊎◌, inl, inr, Option, Some, None, option_map, slice_get, refl, sym, ap, subst, ◌∙◌, Bool, true, false, arith}
-use Rattle.std.specs.Prelude.{Result, Ok, Err, IfOk}
-use Rattle.std.proofs.lemmas.List.{drop_all, length-map}
-use Rattle.std.proofs.lemmas.Option.{slice_get_read}
-use Rattle.nf_rational.specs.Rational.{ℚ}
-use Rattle.nf_frac_def.specs.Passing.{Passing}
+use Rattle.std.proofs.Common.{◌≡◌, ℕ, zero, suc, ◌+◌, ◌<◌, ◌≤◌, List, [], ◌∷◌, ◌++◌, length, length-append, drop, get_or, ◌⊎◌, inl, inr, Option, Some, None}
+use Rattle.std.proofs.Common.{option_map, slice_get, refl, sym, ap, subst, ◌∙◌, Bool, true, false, arith, Result, Ok, Err, IfOk}
+use Rattle.nf_residual.proofs.Common.{drop_all, length-map, slice_get_read, ℚ, Passing, Halt, PassedAt, Checked, Gives, Stops, at_part, fold_checked}
+use Rattle.nf_residual.proofs.Common.{fold_ok, bind_ok, same_Ok, Reach, Known, known_at, along, Twig, Leg, way_at, IsPathTree, Places, place_at}
+use Rattle.nf_residual.proofs.Common.{ArePathsBelow, known_by, Grows, AreLegs, along_leg, AreSettled, StopsBy, GivesBy, legs_out, IsNextOut, AreChains}
 use Rattle.nf_frac_def.specs.declared.Part.TheVariants as Part
-use Rattle.nf_frac_def.specs.declared.Halt.{Halt}
-use Rattle.nf_frac_def.specs.declared.PassedAt.{PassedAt}
-use Rattle.nf_frac_def.specs.Checked.{Checked, Gives, Stops, at_part, fold_checked}
-use Rattle.nf_frac_def.proofs.Each.{fold_ok}
-use Rattle.nf_frac_def.proofs.Binding.{bind_ok}
-use Rattle.nf_rational_laws.proofs.Results.{same_Ok}
-use Rattle.nf_quick_def.specs.Order.{Reach}
-use Rattle.nf_quick_def.specs.Rounds.{Known, known_at, along}
-use Rattle.nf_residual.specs.declared.ways.Twig.{Twig}
-use Rattle.nf_residual.specs.declared.legs.Leg.{Leg}
-use Rattle.nf_residual.specs.Ways.{way_at, IsPathTree, Places, place_at, ArePathsBelow, known_by, Grows}
-use Rattle.nf_residual.specs.Legs.{AreLegs, along_leg, AreSettled, StopsBy, GivesBy}
-use Rattle.nf_residual.specs.Chains.{legs_out, IsNextOut, AreChains}
 use Rattle.nf_residual.proofs.Stopping.{ok_of_part}
 use Rattle.nf_residual.proofs.Twigs.{way_kept, known_at-by}
 use Rattle.nf_residual.proofs.Offering.{nothing_grows}

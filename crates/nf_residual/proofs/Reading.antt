@@ -1,12 +1,6 @@
 -- Entries read from lists: flows, path indices and paths.
-use Rattle.std.proofs.Common.{◌≡◌, ℕ, zero, suc, ◌<◌, List, [], ◌∷◌, length, get_or, Option, Some, None, option_map, refl, sym, ap, ◌∙◌, arith}
-use Rattle.std.specs.Prelude.{IfSome}
-use Rattle.std.proofs.lemmas.List.{length-map}
-use Rattle.nf_rational.specs.Rational.{ℚ}
-use Rattle.nf_model.specs.Entries.{number_at}
-use Rattle.nf_quick_def.specs.Rounds.{Known, known_at}
-use Rattle.nf_residual.specs.declared.ways.Twig.{Twig}
-use Rattle.nf_residual.specs.Ways.{twig_at, way_at, Places, place_at, known_by, ArePathsBelow}
+use Rattle.std.proofs.Common.{◌≡◌, ℕ, zero, suc, ◌<◌, List, [], ◌∷◌, length, get_or, Option, Some, None, option_map, refl, sym, ap, ◌∙◌, arith, IfSome}
+use Rattle.nf_residual.proofs.Common.{length-map, ℚ, number_at, Known, known_at, Twig, twig_at, way_at, Places, place_at, known_by, ArePathsBelow}
 use Rattle.nf_residual.proofs.Twigs.{known_at-by}
 
 pub number_read : (flows now : List ℚ) (i link : ℕ) (x : ℚ) → flows ≡ now → i ≡ link → link < length now → x ≡ get_or flows i x → x ≡ number_at now link

@@ -1,21 +1,12 @@
 -- Bellman-Ford rounds: arc by arc, and round by round.
-use Rattle.std.proofs.Common.{◌≡◌, ℕ, zero, suc, ◌+◌, ◌-◌, ◌<◌, ◌≤◌, List, [], ◌∷◌, ◌++◌, length, length-append, drop, set, replicate, get_or, true, ◌⊎◌, inl, inr, ⊎_elim, Option, Some, None, option_map, refl, sym, ap, subst, ◌∙◌, append_assoc, slice_get, arith}
-use Rattle.std.specs.Prelude.{Ok}
-use Rattle.std.proofs.lemmas.List.{drop_more, drop_all, length-set, length-replicate, length-map}
-use Rattle.std.proofs.lemmas.Option.{slice_get_within, slice_get_read}
-use Rattle.nf_rational.specs.Rational.{ℚ}
-use Rattle.nf_rational.specs.Operations.{0ℚ}
-use Rattle.nf_frac_def.specs.Passing.{Passing}
-use Rattle.nf_frac_def.specs.declared.Halt.{Halt}
+use Rattle.std.proofs.Common.{◌≡◌, ℕ, zero, suc, ◌+◌, ◌-◌, ◌<◌, ◌≤◌, List, [], ◌∷◌, ◌++◌, length, length-append, drop, set, replicate, get_or, true, ◌⊎◌}
+use Rattle.std.proofs.Common.{inl, inr, ⊎_elim, Option, Some, None, option_map, refl, sym, ap, subst, ◌∙◌, append_assoc, slice_get, arith, Ok}
+use Rattle.nf_residual.proofs.Common.{drop_more, drop_all, length-set, length-replicate, length-map, slice_get_within, slice_get_read, ℚ, 0ℚ, Passing, Halt}
+use Rattle.nf_residual.proofs.Common.{Checked, Stops, at_part, fold_checked, ◌>>=◌, Network, Reach, Known, known_at, first_known, along, round_list}
+use Rattle.nf_residual.proofs.Common.{rounds_list, Twig, Leg, first_twig, way_at, IsPathTree, Places, place_at, first_places, ArePathsBelow, known_by}
+use Rattle.nf_residual.proofs.Common.{Grows, legs_from, AreLegs, along_leg, AreSettled}
 use Rattle.nf_frac_def.specs.declared.Part.TheVariants as Part
-use Rattle.nf_frac_def.specs.Checked.{Checked, Stops, at_part, fold_checked, ◌>>=◌}
-use Rattle.nf_model.specs.Network.{Network}
-use Rattle.nf_quick_def.specs.Order.{Reach}
-use Rattle.nf_quick_def.specs.Rounds.{Known, known_at, first_known, along, round_list, rounds_list, reaches_list}
-use Rattle.nf_residual.specs.declared.ways.Twig.{Twig}
-use Rattle.nf_residual.specs.declared.legs.Leg.{Leg}
-use Rattle.nf_residual.specs.Ways.{first_twig, way_at, IsPathTree, Places, place_at, first_places, ArePathsBelow, known_by, Grows}
-use Rattle.nf_residual.specs.Legs.{legs_from, AreLegs, along_leg, AreSettled}
+use Rattle.nf_quick_def.specs.Rounds.{reaches_list}
 use Rattle.nf_residual.proofs.Stopping.{ok_of_part, stops, goes_on, stops_as}
 use Rattle.nf_residual.proofs.Twigs.{IsTree-first, way_kept, known_at-by, known_kept, known_set}
 use Rattle.nf_residual.proofs.Offering.{nothing_grows}

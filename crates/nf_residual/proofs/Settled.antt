@@ -1,23 +1,11 @@
 -- Offering a path a second time changes nothing, whatever was offered in between.
-use Rattle.std.proofs.Common.{◌≡◌, ◌≢◌, ℕ, ◌+◌, ◌*◌, ◌<◌, List, [], ◌∷◌, length, set, length-set, Bool, true, false, if◌then◌else◌, ◌⊎◌, inl, inr, ⊎_elim, eqb, Option, Some, None, sym, ap, subst, refl, ◌∙◌, arith}
-use Rattle.std.specs.Prelude.{Ok}
-use Rattle.std.proofs.lemmas.Bool.Decides.{eqb_tells}
-use Rattle.nf_rational.specs.Rational.{ℚ}
-use Rattle.nf_rational.specs.Order.{◌<ℚ◌}
+use Rattle.std.proofs.Common.{◌≡◌, ◌≢◌, ℕ, ◌+◌, ◌*◌, ◌<◌, List, [], ◌∷◌, length, set, length-set, Bool, true, false, if◌then◌else◌, ◌⊎◌, inl, inr, ⊎_elim}
+use Rattle.std.proofs.Common.{eqb, Option, Some, None, sym, ap, subst, refl, ◌∙◌, arith, Ok}
+use Rattle.nf_residual.proofs.Common.{eqb_tells, ℚ, ◌<ℚ◌, Passing, Checked, checked, ◌>>=◌, bind_ok, same_Ok, Step, place, Reach, AreFirst, AreFewerOrFirst}
+use Rattle.nf_residual.proofs.Common.{IsAtMost, is_better, Known, op_of, known_at, better_of, offered, along, IsAtMost-refl, IsAtMost-trans, is_better-true}
+use Rattle.nf_residual.proofs.Common.{is_better-false, known_at-set, Leg, along_leg, extended_by}
 use Rattle.nf_rational_laws.proofs.Polynomial.{reading_of}
 use Rattle.nf_rational_laws.proofs.Linear.{lt, eq, linear_false}
-use Rattle.nf_frac_def.specs.Passing.{Passing}
-use Rattle.nf_frac_def.specs.Checked.{Checked, checked, ◌>>=◌}
-use Rattle.nf_frac_def.proofs.Binding.{bind_ok}
-use Rattle.nf_rational_laws.proofs.Results.{same_Ok}
-use Rattle.nf_quick_def.specs.Steps.{Step, place}
-use Rattle.nf_quick_def.specs.Order.{Reach, AreFirst, AreFewerOrFirst, IsAtMost, is_better}
-use Rattle.nf_quick_def.specs.Rounds.{Known, op_of, known_at, better_of, offered, along}
-use Rattle.nf_quick_laws.proofs.Orders.{IsAtMost-refl, IsAtMost-trans, is_better-true, is_better-false}
-use Rattle.nf_quick_laws.proofs.Offers.{known_at-set}
-use Rattle.nf_residual.specs.declared.legs.Leg.{Leg}
-use Rattle.nf_residual.specs.Legs.{along_leg}
-use Rattle.nf_residual.specs.Ways.{extended_by}
 use Rattle.nf_residual.proofs.Offering.{same_set, set_elsewhere}
 
 -- ---- two paths that are at most each other are equal

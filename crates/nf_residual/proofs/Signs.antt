@@ -1,16 +1,11 @@
 -- The tests of the code: a number is above 0; the lesser of two numbers.
-use Rattle.std.proofs.Common.{◌≡◌, ℕ, Bool, true, false, not, ◌∙◌, refl, ap, arith}
+use Rattle.std.proofs.Common.{◌≡◌, ℕ, Bool, true, false, not, ◌∙◌, refl, ap, arith, Some}
+use Rattle.nf_residual.proofs.Common.{partial_lt, ℚ, 0ℚ, cmp_ℚ, times_one, zero_num, zero_den, lt-cmp}
 use mathlib.Core.Path.{ap₂}
 use lib.IntN.{ℤ, pos, ◌*ℤ◌, zero-*ℤ}
 use lib.Signed.{le_z, lt_z}
 use borrow.Author.Differences.{ints}
-use Rattle.std.specs.Prelude.{Some}
-use Rattle.std.specs.Ordering.{partial_lt}
-use Rattle.nf_rational.specs.Rational.{ℚ}
-use Rattle.nf_rational.specs.Operations.{0ℚ}
-use Rattle.nf_rational.specs.Order.{cmp_ℚ, le_ℚ, lt_ℚ}
-use Rattle.nf_rational_laws.proofs.Order.{times_one, zero_num, zero_den}
-use Rattle.nf_frac.proofs.Comparisons.{lt-cmp}
+use Rattle.nf_rational.specs.Order.{le_ℚ, lt_ℚ}
 
 flip : (n : ℤ) → not (le_z n (pos 0)) ≡ lt_z (pos 0) n
 flip n = by_test (le_z n (pos 0)) (lt_z (pos 0) n) refl refl

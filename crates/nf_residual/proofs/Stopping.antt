@@ -1,17 +1,8 @@
 -- A failure of a computation of part Quick is the failure of the computation followed by any other. Its value is passed to the next one.
-use Rattle.std.proofs.Common.{◌≡◌, List, Option, Some, None, sym, ap, subst, ◌∙◌}
-use Rattle.std.specs.Prelude.{Result, Ok, Err, unwrap_or}
-use Rattle.nf_rational.specs.Rational.{ℚ}
-use Rattle.nf_rational.specs.Operations.{0ℚ}
-use Rattle.nf_frac_def.specs.Passing.{Passing}
-use Rattle.nf_frac_def.specs.declared.Halt.{Halt}
+use Rattle.std.proofs.Common.{◌≡◌, List, Option, Some, None, sym, ap, subst, ◌∙◌, Result, Ok, Err, unwrap_or}
+use Rattle.nf_residual.proofs.Common.{ℚ, 0ℚ, Passing, Halt, PassedAt, Checked, Stops, at_part, fold_checked, seen_passed_at, ◌>>=◌, Network, Step, Reach}
+use Rattle.nf_residual.proofs.Common.{Walk, room_after, with_room}
 use Rattle.nf_frac_def.specs.declared.Part.TheVariants as Part
-use Rattle.nf_frac_def.specs.declared.PassedAt.{PassedAt}
-use Rattle.nf_frac_def.specs.Checked.{Checked, Stops, at_part, fold_checked, seen_passed_at, ◌>>=◌}
-use Rattle.nf_model.specs.Network.{Network}
-use Rattle.nf_quick_def.specs.Steps.{Step}
-use Rattle.nf_quick_def.specs.Order.{Reach}
-use Rattle.nf_quick_def.specs.Rounds.{Walk, room_after, with_room}
 
 pub ok_of_part : {A : Type 0} (r : Checked A) (x : A) → at_part Part.Quick r ≡ Ok x → r ≡ Ok x
 ok_of_part (Ok a) x e = let h = e in cc

@@ -1,14 +1,9 @@
 -- The tree of paths: adding paths changes no earlier path.
-use Rattle.std.proofs.Common.{◌≡◌, ℕ, zero, suc, ◌+◌, ◌-◌, ◌<◌, ◌≤◌, List, [], ◌∷◌, ◌++◌, reverse, length, ◌⊎◌, inl, inr, ⊎_elim, Option, Some, None, option_map, refl, sym, ap, subst, ◌∙◌, append_assoc, append-nil, arith}
-use Rattle.std.proofs.lemmas.List.{map-set, map-append, reverse-append, length_push, length-map, take_more}
-use Rattle.std.proofs.lemmas.Option.{unwrap_or-slice_get}
-use Rattle.std.specs.Prelude.{set, map, take, get_or}
-use Rattle.nf_rational.specs.Rational.{ℚ}
-use Rattle.nf_quick_def.specs.Steps.{Step}
-use Rattle.nf_quick_def.specs.Order.{Reach}
-use Rattle.nf_quick_def.specs.Rounds.{Known, known_at}
-use Rattle.nf_residual.specs.declared.ways.Twig.{Twig}
-use Rattle.nf_residual.specs.Ways.{first_twig, twig_at, steps_back, way_at, extended_by, twig_after, IsPathTree, Places, place_at, ArePathsBelow, known_by}
+use Rattle.std.proofs.Common.{◌≡◌, ℕ, zero, suc, ◌+◌, ◌-◌, ◌<◌, ◌≤◌, List, [], ◌∷◌, ◌++◌, reverse, length, ◌⊎◌, inl, inr, ⊎_elim, Option, Some, None}
+use Rattle.std.proofs.Common.{option_map, refl, sym, ap, subst, ◌∙◌, append_assoc, append-nil, arith, set, map, take, get_or}
+use Rattle.nf_residual.proofs.Common.{map-set, map-append, reverse-append, length_push, length-map, take_more, unwrap_or-slice_get, ℚ, Step, Reach, Known}
+use Rattle.nf_residual.proofs.Common.{known_at, Twig, first_twig, twig_at, steps_back, way_at, extended_by, twig_after, IsPathTree, Places, place_at}
+use Rattle.nf_residual.proofs.Common.{ArePathsBelow, known_by}
 
 -- ---- one more path
 at_end : (tree : List Twig) (twig : Twig) (i : ℕ) → (twig_at (tree ++ twig ∷ []) i ≡ twig_at tree i) ⊎ ((i ≡ length tree) × (twig_at (tree ++ twig ∷ []) i ≡ twig))

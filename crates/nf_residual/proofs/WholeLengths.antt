@@ -1,31 +1,24 @@
 -- Lengths held as whole numbers: their operations don't exceed the bound, and their order is that of the numbers.
 use Rattle.std.proofs.Common.{◌≡◌, ℕ, ◌<◌, ◌≤◌, Bool, true, false, ℤ, pos, ◌+ℤ◌, ◌-ℤ◌, ◌*ℤ◌, neg_ℤ, nat_abs, Option, Some, None, sym, ap, subst, ◌∙◌, arith}
+use Rattle.std.proofs.Common.{Ok, SomeIff, IfSome}
+use Rattle.nf_residual.proofs.Common.{int_cmp, ℚ, same_parts, ◌+ℚ◌, ◌/ℚ◌, neg_ℚ, cmp_ℚ, passes_Q, bound_of, checked, checked_at, at_part, op_of, bits_of}
+use Rattle.nf_residual.proofs.Common.{plain, cast_plain, times_one, longest_whole, along_by, IsExactStep}
 use mathlib.Core.Path.{ap₂}
-use Rattle.std.specs.Prelude.{Ok, SomeIff, IfSome}
-use Rattle.std.specs.Ordering.{int_cmp}
-use Rattle.nf_rational.specs.Rational.{ℚ, same_parts}
-use Rattle.nf_rational.specs.Operations.{whole, ◌+ℚ◌, ◌/ℚ◌, neg_ℚ}
-use Rattle.nf_rational.specs.Order.{cmp_ℚ}
+use Rattle.nf_rational.specs.Operations.{whole}
 use Rattle.nf_rational.proofs.Lowest.{den-ratio}
 use Rattle.nf_rational_laws.proofs.Field.{whole-plus, whole-times}
 use Rattle.nf_rational_laws.proofs.Quotient.{/ℚ-unique}
-use Rattle.nf_frac_def.specs.Passing.{passes_Q, bound_of}
 use Rattle.nf_frac_def.specs.declared.Part.TheVariants as Part
-use Rattle.nf_frac_def.specs.Checked.{checked, checked_at, at_part}
-use Rattle.nf_quick_def.specs.Rounds.{op_of}
 use Rattle.nf_frac.specs.Parts.{IsWithin, IsMade}
 use Rattle.nf_frac.specs.Short.{short}
 use Rattle.nf_frac.proofs.SmallSums.{sum_fits}
 use Rattle.nf_frac.proofs.Turned.{neg_within, num-neg, den-neg}
-use Rattle.nf_frac.proofs.Bits.{bits_of, plain, cast_plain}
 use Rattle.nf_frac.proofs.SmallParts.{fits_64, plain_64}
-use Rattle.nf_rational_laws.proofs.Order.{times_one}
 use mir.Syntax.{w64, w128}
 use mir.Val.{to_z, of_z, SFits}
 use mir.Facts.{to_z-of_z}
 use Rattle.nf_frac.proofs.Passing.{sum_done, difference_done}
 use Rattle.nf_frac.proofs.Made.{whole_apart, lowest_one, num-whole}
-use Rattle.nf_residual.specs.Lengths.{longest_whole, along_by, IsExactStep}
 
 -- ---- the parts of a whole number
 den_whole : (n : ℤ) → (whole n).den ≡ 1

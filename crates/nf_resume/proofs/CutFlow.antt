@@ -1,23 +1,10 @@
 -- A cut flow: its labels first, and then the curves of its links.
-use Rattle.std.proofs.Common.{◌≡◌, ℕ, ◌<◌, List, length, sym, ◌∙◌}
-use Rattle.std.specs.Prelude.{Ok, Err}
-use Rattle.nf_rational.specs.Rational.{ℚ}
-use Rattle.nf_rational.specs.Operations.{0ℚ}
-use Rattle.nf_rational.specs.Order.{◌≤ℚ◌}
-use Rattle.nf_frac_def.specs.Passing.{Passing}
-use Rattle.nf_frac_def.specs.declared.Part.{Part}
-use Rattle.nf_frac_def.specs.declared.PassedAt.{PassedAt}
-use Rattle.nf_frac_def.specs.declared.Halt.{Halt}
-use Rattle.nf_frac_def.specs.Checked.{Stops, at_part, each}
-use Rattle.nf_model.specs.Curve.{Point}
-use Rattle.nf_model.specs.Network.{Network, IsNetwork}
-use Rattle.nf_model.specs.Equilibrium.{Trace, Flow, points_at, Equilibrium}
-use Rattle.nf_curve.proofs.Exits.{was_ok, after_ok, after_err, stops_on}
-use Rattle.nf_phase_def.specs.Restoring.{value_at_end}
-use Rattle.nf_resume_def.specs.Resuming.{OfLink, CutLink, links_with, cut_short, cut_link, cut_flow_of, cut_flow}
-use Rattle.nf_resume_laws.proofs.CutFlow.{end-nn}
-use Rattle.nf_frac_def.proofs.Each.{each_length}
-use Rattle.nf_resume.specs.Cuts.{AreLists}
+use Rattle.std.proofs.Common.{◌≡◌, ℕ, ◌<◌, List, length, sym, ◌∙◌, Ok, Err}
+use Rattle.nf_resume.proofs.Common.{ℚ, 0ℚ, ◌≤ℚ◌, Passing, Part, PassedAt, Halt, Stops, at_part, each, Point, Network, IsNetwork, Flow, points_at}
+use Rattle.nf_resume.proofs.Common.{Equilibrium, was_ok, after_ok, after_err, stops_on, value_at_end, OfLink, links_with, cut_short, cut_link, cut_flow_of}
+use Rattle.nf_resume.proofs.Common.{end-nn, each_length, AreLists}
+use Rattle.nf_model.specs.Equilibrium.{Trace}
+use Rattle.nf_resume_def.specs.Resuming.{CutLink, cut_flow}
 
 -- A failure of the labels is a failure of the whole.
 pub labels_stop : (passes : Passing) (part : Part) (net : Network) (flow : Flow) (h : Halt ℚ) → Stops (λ (q : ℚ). q) h (at_part part (each (cut_short passes flow.reached) flow.labels))

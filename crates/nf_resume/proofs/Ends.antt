@@ -1,24 +1,11 @@
 -- The ends of curves, and the curves of a link in a flow.
-use Rattle.std.proofs.Common.{◌≡◌, ℕ, zero, suc, ◌+◌, ◌<◌, List, [], ◌∷◌, length, get_or, refl, sym, ap, ◌∙◌, arith}
-use Rattle.std.specs.Prelude.{Option, Some, None, slice_get, map}
+use Rattle.std.proofs.Common.{◌≡◌, ℕ, zero, suc, ◌+◌, ◌<◌, List, [], ◌∷◌, length, get_or, refl, sym, ap, ◌∙◌, arith, Option, Some, None, slice_get, map}
+use Rattle.nf_resume.proofs.Common.{ℚ, 0ℚ, Passing, Point, Link, points_at, Grown, seen_trace, Trace, value_at_end, OfLink, links_with, cut_link}
+use Rattle.nf_resume.proofs.Common.{slice_get-image, of_link, links_with-at, points_of_each, cut_ends}
 use Rattle.std.specs.List.{last_or}
 use Rattle.std.specs.Option.{option_map_or}
 use Rattle.std.proofs.lemmas.Option.{slice_get_read}
-use Rattle.nf_rational.specs.Rational.{ℚ}
-use Rattle.nf_rational.specs.Operations.{0ℚ}
-use Rattle.nf_frac_def.specs.Passing.{Passing}
-use Rattle.nf_model.specs.Curve.{Point}
-use Rattle.nf_model.specs.Network.{Link}
-use Rattle.nf_model.specs.Equilibrium.{points_at}
-use Rattle.nf_curve.specs.Points.{Grown}
-use Rattle.nf_curve.specs.Flows.{seen_trace}
-use Rattle.nf_curve.specs.declared.flow.Trace.{Trace}
-use Rattle.nf_phase_def.specs.Restoring.{value_at_end}
-use Rattle.nf_resume_def.specs.Resuming.{OfLink, links_with, cut_link}
-use Rattle.nf_rational_laws.proofs.Entries.{slice_get-image}
 use Rattle.nf_phase_laws.proofs.WellRun.{points_is}
-use Rattle.nf_resume_laws.proofs.CutFlow.{of_link, links_with-at}
-use Rattle.nf_resume.specs.Cuts.{points_of_each, cut_ends}
 
 last_is : (points : List Point) (k : ℕ) (p : Point) → slice_get points k ≡ Some p → k + 1 ≡ length points → last_or None points ≡ Some p
 last_is [] k p e n = absurd (cc)

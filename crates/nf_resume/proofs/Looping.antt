@@ -1,14 +1,7 @@
 -- A loop over the entries of a list whose steps are computations: the results so far precede the remaining ones.
-use Rattle.std.proofs.Common.{◌≡◌, ℕ, ◌+◌, ◌≤◌, List, [], ◌∷◌, ◌++◌, length, drop, sym, ap, ◌∙◌}
-use Rattle.std.specs.Prelude.{Ok, Some, slice_get}
-use Rattle.std.proofs.lemmas.List.{drop_all}
-use Rattle.nf_rational.specs.Rational.{ℚ}
-use Rattle.nf_frac_def.specs.declared.Part.{Part}
-use Rattle.nf_frac_def.specs.declared.Halt.{Halt}
-use Rattle.nf_frac_def.specs.Checked.{Checked, Stops, at_part, each}
-use Rattle.nf_frac_def.proofs.Each.{with_front, no_front}
-use Rattle.nf_curve.proofs.Exits.{each_goes, each_stops, each_ends, stops_on}
-use Rattle.nf_rational_laws.proofs.Entries.{drop_next}
+use Rattle.std.proofs.Common.{◌≡◌, ℕ, ◌+◌, ◌≤◌, List, [], ◌∷◌, ◌++◌, length, drop, sym, ap, ◌∙◌, Ok, Some, slice_get}
+use Rattle.nf_resume.proofs.Common.{drop_all, ℚ, Part, Halt, Checked, Stops, at_part, each, with_front, no_front, each_goes, each_stops, each_ends}
+use Rattle.nf_resume.proofs.Common.{stops_on, drop_next}
 
 pub record Front {A B : Type 0} (f : A → Checked B) (xs : List A) (k : ℕ) (front : List B) : Type 0 where
   pub same : with_front front (each f (drop k xs)) ≡ each f xs

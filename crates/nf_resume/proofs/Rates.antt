@@ -1,18 +1,8 @@
 -- The rates of a curve, point by point.
-use Rattle.std.proofs.Common.{◌≡◌, ℕ, ◌+◌, ◌≤◌, List, [], ◌∷◌, ◌++◌, length, drop, refl, sym, ap, ◌∙◌}
-use Rattle.std.specs.Prelude.{Ok, Err, Some, slice_get}
-use Rattle.std.proofs.lemmas.List.{drop_all}
-use Rattle.nf_rational.specs.Rational.{ℚ}
-use Rattle.nf_frac_def.specs.Passing.{Passing}
-use Rattle.nf_frac_def.specs.declared.Part.{Part}
-use Rattle.nf_frac_def.specs.declared.PassedAt.{PassedAt}
-use Rattle.nf_frac_def.specs.Checked.{Checked, at_part, ◌>>=◌}
-use Rattle.nf_frac_def.proofs.Each.{with_front}
-use Rattle.nf_model.specs.Curve.{Point}
+use Rattle.std.proofs.Common.{◌≡◌, ℕ, ◌+◌, ◌≤◌, List, [], ◌∷◌, ◌++◌, length, drop, refl, sym, ap, ◌∙◌, Ok, Err, Some, slice_get}
+use Rattle.nf_resume.proofs.Common.{drop_all, ℚ, Passing, Part, PassedAt, Checked, at_part, ◌>>=◌, with_front, Point, checked_slopes, after_err, was_ok}
+use Rattle.nf_resume.proofs.Common.{front_err, front_more, front_ends, drop_next}
 use Rattle.nf_curve_def.specs.Lines.{checked_slope}
-use Rattle.nf_curve_def.specs.Short.{checked_slopes}
-use Rattle.nf_curve.proofs.Exits.{after_err, was_ok, front_err, front_more, front_ends}
-use Rattle.nf_rational_laws.proofs.Entries.{drop_next}
 
 -- The rates so far precede those from a point on.
 pub record RatesTo (passes : Passing) (points : List Point) (i : ℕ) (rates : List ℚ) : Type 0 where

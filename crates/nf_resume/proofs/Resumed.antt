@@ -1,32 +1,20 @@
 -- The result for a report: from its check, then from the run at the end of its flow, and then from the later phases of that run.
-use Rattle.std.proofs.Common.{◌≡◌, ℕ, Bool, true, false, ⊎_elim, refl, sym, ap, subst, ◌∙◌}
-use Rattle.std.specs.Prelude.{Result, Ok, Err, IfErr, OnOk, MatchBool, MatchResult}
-use Rattle.nf_rational.specs.Rational.{ℚ}
-use Rattle.nf_rational.specs.Order.{◌≤ℚ◌, ◌<ℚ◌, lt_ℚ}
+use Rattle.std.proofs.Common.{◌≡◌, ℕ, Bool, true, false, ⊎_elim, refl, sym, ap, subst, ◌∙◌, Result, Ok, Err, IfErr, OnOk, MatchBool, MatchResult}
+use Rattle.nf_resume.proofs.Common.{ℚ, ◌≤ℚ◌, ◌<ℚ◌, lt_ℚ, Passing, passes_Q, PassedAt, Halt, Stops, at_part, ◌>>=◌, Network, IsNetwork, Pattern, Flow}
+use Rattle.nf_resume.proofs.Common.{Equilibrium, Standing, Bounds, after_ok, after_err, stops_on, restore_list, Stands, cut_flow, after_check, IsFinished}
+use Rattle.nf_resume.proofs.Common.{of_halt, IsRefusedReport, IsCauseAtAnyHorizon, IsResumeFault}
 use Rattle.nf_rational_laws.proofs.Tests.{less_of_test, lt_ℚ_cases}
-use Rattle.nf_frac_def.specs.Passing.{Passing, passes_Q}
 use Rattle.nf_frac_def.specs.declared.Part.TheVariants.{Curve}
-use Rattle.nf_frac_def.specs.declared.PassedAt.{PassedAt}
-use Rattle.nf_frac_def.specs.declared.Halt.{Halt}
-use Rattle.nf_frac_def.specs.Checked.{Stops, at_part, ◌>>=◌}
-use Rattle.nf_model.specs.Network.{Network, IsNetwork}
-use Rattle.nf_model.specs.Pattern.{Pattern}
-use Rattle.nf_model.specs.Equilibrium.{Flow, Equilibrium}
 use Rattle.nf_net_def.specs.Report.{Report}
-use Rattle.nf_thin_def.specs.PhaseRun.{Standing, Bounds}
 use Rattle.nf_check_def.specs.declared.Answer.{Answer}
 use Rattle.nf_check_def.specs.declared.Answer.TheVariants.{Yes, No}
 use Rattle.nf_check_def.specs.Rules.{Checks}
 use Rattle.nf_check_def.specs.CheckList.{check_list}
 use Rattle.nf_check.specs.Answers.{IsExact}
-use Rattle.nf_curve.proofs.Exits.{after_ok, after_err, stops_on}
-use Rattle.nf_phase_def.specs.Restoring.{restore_list}
-use Rattle.nf_resume_def.specs.Resuming.{Stands, cut_flow, restart_list, after_check, resume_list}
+use Rattle.nf_resume_def.specs.Resuming.{restart_list, resume_list}
 use Rattle.nf_resume_def.specs.Meanings.{GoesOnFrom, IsResumedReport}
 use Rattle.nf_resume_laws.proofs.Stepping.{resumed-goes_on}
-use Rattle.nf_phase.specs.Solution.{IsFinished}
 use Rattle.nf_resume.specs.declared.fault.ResumeFault.{ResumeFault}
-use Rattle.nf_resume.specs.Faults.{of_halt, IsRefusedReport, IsCauseAtAnyHorizon, IsResumeFault}
 
 -- Whether a time is before another.
 pub below_or_not : (b : Bool) (x y : ℚ) → b ≡ lt_ℚ x y → MatchBool b (x <ℚ y) (y ≤ℚ x)

@@ -1,15 +1,11 @@
 -- The flow of a report, cut at the departure that it reached and put into short form, curve by curve.
 use Rattle.std.proofs.Common.{◌≡◌, ℕ, zero, suc, ◌<◌, List, [], ◌∷◌, length, Some, slice_get, map, sym, ap, subst, refl, ◌∙◌, arith, Ok}
 use Rattle.nf_resume_laws.proofs.Common.{slice_get_within, same_Some, length-map, ℚ, 0ℚ, ◌≤ℚ◌, Passing, Point, value, IsCurve, AreSlopes, Link, Network}
-use Rattle.nf_resume_laws.proofs.Common.{IsNetwork, IsLink, Trace, Flow, points_at, points_of, label, HasSlopes, Equilibrium, then_ok, value_at_end, ≤ℚ_refl}
-use Rattle.nf_resume_laws.proofs.Common.{same_Ok, entry, slice_get-image}
-use Rattle.nf_frac_def.specs.Checked.{each}
+use Rattle.nf_resume_laws.proofs.Common.{IsNetwork, IsLink, Trace, Flow, points_at, points_of, label, HasSlopes, Equilibrium, then_ok, value_at_end}
+use Rattle.nf_resume_laws.proofs.Common.{≤ℚ_refl, same_Ok, entry, slice_get-image, each, checked_slopes, SlopesFrom, slopes-are, points_is, OfLink, CutLink}
+use Rattle.nf_resume_laws.proofs.Common.{links_with, cut_short, cut_trace, cut_link, cut_flow_of, label-nn}
 use Rattle.nf_frac_def.proofs.Each.{each_at, each_length}
-use Rattle.nf_curve_def.specs.Short.{checked_slopes}
-use Rattle.nf_curve_laws.proofs.Short.{SlopesFrom, slopes-are}
-use Rattle.nf_phase_laws.proofs.WellRun.{points_is}
-use Rattle.nf_resume_def.specs.Resuming.{OfLink, CutLink, links_with, cut_short, cut_trace, cut_link, cut_flow_of, cut_flow}
-use Rattle.nf_phase_equilibrium_laws.proofs.Printed.{label-nn}
+use Rattle.nf_resume_def.specs.Resuming.{cut_flow}
 use Rattle.nf_phase_equilibrium_laws.proofs.Restored.{value_at_end-is}
 use Rattle.nf_resume_laws.proofs.CutShort.{IsShortCut, cut_short-is}
 

@@ -2,13 +2,11 @@
 -- interrupted phase is as long as the phase minus its completed part.
 use Rattle.std.proofs.Common.{◌≡◌, ◌≢◌, ℕ, ◌<◌, List, [], ◌∷◌, length, ⊎_elim, Option, Some, None, slice_get, sym, ap, subst, refl, ◌∙◌, arith}
 use Rattle.nf_resume_laws.proofs.Common.{slice_get_within, length-map, ℚ, 0ℚ, ◌+ℚ◌, ◌-ℚ◌, ◌*ℚ◌, ◌≤ℚ◌, ◌<ℚ◌, reading_of, ≤ℚ_of_lt, ≤ℚ_of_same, ≤ℚ_antisymm}
-use Rattle.nf_resume_laws.proofs.Common.{lt_or_le_ℚ, not_both_ℚ, le, lt, eq, le_times, linear_le, linear_lt, linear_eq, linear_false, number_at, Within, Link}
-use Rattle.nf_resume_laws.proofs.Common.{Network, IsNetwork, IsLink, hops, hop_of, unbounded, slack, slacks_of, sets_at, Pattern, HasState, NeedsState}
-use Rattle.nf_resume_laws.proofs.Common.{IsPattern, Lasts, IsExtension, moved, slack_after, Standing, entry, IsOpen, ≤ℚ_refl, ≤ℚ_trans, back_and_forth}
-use Rattle.nf_resume_laws.proofs.Common.{below_between, above_between}
-use Rattle.nf_model.specs.declared.State.{State}
-use Rattle.nf_model_laws.proofs.Slacks.{slack_at, slack_after-moved, active_of_slack, slack_of_resetting}
-use Rattle.nf_phase_laws.proofs.Length.{Lasts-some}
+use Rattle.nf_resume_laws.proofs.Common.{lt_or_le_ℚ, not_both_ℚ, le, lt, eq, le_times, linear_le, linear_lt, linear_eq, linear_false, number_at, Within}
+use Rattle.nf_resume_laws.proofs.Common.{Link, Network, IsNetwork, IsLink, hops, hop_of, unbounded, slack, slacks_of, sets_at, Pattern, HasState}
+use Rattle.nf_resume_laws.proofs.Common.{NeedsState, IsPattern, Lasts, IsExtension, moved, slack_after, Standing, entry, IsOpen, ≤ℚ_refl, ≤ℚ_trans}
+use Rattle.nf_resume_laws.proofs.Common.{back_and_forth, below_between, above_between, State, slack_at, slack_after-moved, active_of_slack}
+use Rattle.nf_resume_laws.proofs.Common.{slack_of_resetting, Lasts-some}
 
 -- ---- over plain numbers: a slack s that changes at c, d and w lengths
 on_line : (s c d w z : ℚ) → z ≡ s +ℚ d *ℚ c → s +ℚ (d +ℚ w) *ℚ c ≡ z +ℚ w *ℚ c

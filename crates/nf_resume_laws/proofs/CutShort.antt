@@ -1,15 +1,13 @@
 -- A curve cut at a time and put into short form ends there, and has the same values up to there.
 use Rattle.std.proofs.Common.{◌≡◌, List, [], ◌∷◌, ◌++◌, ⊎_elim, Bool, true, false, refl, sym, ap, subst, ◌∙◌, Ok, if◌then◌else◌}
 use Rattle.nf_resume_laws.proofs.Common.{ℚ, 0ℚ, ◌≤ℚ◌, Passing, Point, Within, value, slope, IsCurve, IsShort, is_same, then_ok, is_same_cases, cut_short}
-use Rattle.nf_resume_laws.proofs.Common.{≤ℚ_refl, same_Ok}
+use Rattle.nf_resume_laws.proofs.Common.{≤ℚ_refl, same_Ok, turning, checked_slopes, SlopesFrom, slopes-are, checked_short-is, LastPoint}
 use Rattle.nf_model_laws.proofs.Curves.{EndsAt-value}
 use Rattle.nf_curve_def.specs.Values.{checked_cut}
-use Rattle.nf_curve_def.specs.Short.{turning, checked_slopes, checked_short}
+use Rattle.nf_curve_def.specs.Short.{checked_short}
 use Rattle.nf_curve_def.specs.Meanings.{IsShortOf}
 use Rattle.nf_curve_laws.proofs.Following.{FollowsFrom, ends, goes, value-follows}
 use Rattle.nf_curve_laws.proofs.Values.{Cut, checked_cut-is, follows-curve}
-use Rattle.nf_curve_laws.proofs.Short.{SlopesFrom, slopes-are, checked_short-is}
-use Rattle.nf_phase_laws.specs.CurveSteps.{LastPoint}
 
 -- ---- the last point of a list
 abbrev pub EndsIn : List Point → Point → Type 0

@@ -1,16 +1,12 @@
 -- The cut flow of an equilibrium is an equilibrium with the same values, and a run can continue it.
 use Rattle.std.proofs.Common.{◌≡◌, ℕ, ◌<◌, List, ⊎_elim, sym, ap, subst, ◌∙◌, Ok}
 use Rattle.nf_resume_laws.proofs.Common.{length-map, ℚ, 0ℚ, ◌≤ℚ◌, ◌<ℚ◌, ≤ℚ_of_lt, ≤ℚ_of_same, lt_or_le_ℚ, Passing, Point, Within, value, NeverFalls, Link}
-use Rattle.nf_resume_laws.proofs.Common.{Network, IsNetwork, IsLink, Flow, Trace, label, inflow, outflow, queue, HasShape, Equilibrium, HoldsUpTo, IsShortFlow}
-use Rattle.nf_resume_laws.proofs.Common.{EndsAtItsLabels, cut_flow, ≤ℚ_refl, ≤ℚ_trans}
-use Rattle.nf_model_laws.specs.EarliestLaws.{InflowsRise}
-use Rattle.nf_phase_laws.specs.Description.{DescribesLinks}
-use Rattle.nf_phase_laws.proofs.Holds.{link_within, IsNashFlow-from_HoldsUpTo}
+use Rattle.nf_resume_laws.proofs.Common.{Network, IsNetwork, IsLink, Flow, Trace, label, inflow, outflow, queue, HasShape, Equilibrium, HoldsUpTo}
+use Rattle.nf_resume_laws.proofs.Common.{IsShortFlow, EndsAtItsLabels, cut_flow, ≤ℚ_refl, ≤ℚ_trans, InflowsRise, DescribesLinks, link_within}
+use Rattle.nf_resume_laws.proofs.Common.{IsNashFlow-from_HoldsUpTo, GoesOnFrom, label-nn, rises-link}
 use Rattle.nf_phase_laws.proofs.Description.{IsOutflow-described, IsQueue-described}
 use Rattle.nf_phase_laws.proofs.Points.{end-append}
 use Rattle.nf_thin_def.specs.Ends.{time_of_last}
-use Rattle.nf_resume_def.specs.Meanings.{GoesOnFrom}
-use Rattle.nf_phase_equilibrium_laws.proofs.Printed.{label-nn, rises-link}
 use Rattle.nf_phase_equilibrium_laws.proofs.Invariant.{HoldsUpTo-equilibrium, DescribesLinks-equilibrium}
 use Rattle.nf_resume_laws.proofs.Same.{AgreeUpTo, HoldsUpTo-same, DescribesLinks-same}
 use Rattle.nf_resume_laws.proofs.CutShort.{IsShortCut}

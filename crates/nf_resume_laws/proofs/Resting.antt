@@ -1,7 +1,7 @@
 -- The remainder of an interrupted phase: the base pattern derived from the phase's pattern, its solution and its length.
 use Rattle.std.proofs.Common.{◌≡◌, ℕ, List, length, subst, ◌∙◌}
-use Rattle.nf_resume_laws.proofs.Common.{ℚ, 0ℚ, ◌+ℚ◌, ◌-ℚ◌, ◌*ℚ◌, ◌<ℚ◌, ≤ℚ_of_lt, number_at, Link, Network, IsNetwork, IsLink, hops, hop_of, slack, slacks_of}
-use Rattle.nf_resume_laws.proofs.Common.{sets_at, Pattern, IsListedIn, IsBase, IsSolution, IsExtension, Standing, IsOpen}
+use Rattle.nf_resume_laws.proofs.Common.{ℚ, 0ℚ, ◌+ℚ◌, ◌-ℚ◌, ◌*ℚ◌, ◌<ℚ◌, ≤ℚ_of_lt, number_at, Link, Network, IsNetwork, IsLink, hops, hop_of, slack}
+use Rattle.nf_resume_laws.proofs.Common.{slacks_of, sets_at, Pattern, IsListedIn, IsBase, IsSolution, IsExtension, Standing, IsOpen}
 use Rattle.nf_thin_laws.proofs.ActiveLinks.{AreSets-sets_at}
 use Rattle.nf_resume_laws.specs.ResumeLaws.{IsPartOf, IsRestOf}
 use Rattle.nf_resume_laws.proofs.CutPhase.{IsOpen-cut, IsExtension-left, stays-below, stays-above, slack-moves}

@@ -1,14 +1,14 @@
 -- After an interrupted phase, its pattern restricted to the links that need a state is a listed pattern, with the same unique solution.
-use Rattle.std.proofs.Common.{◌≡◌, ℕ, List, [], ◌∷◌, length, ◌⊎◌, inl, inr, ⊎_elim, Bool, true, false, Option, Some, None, slice_get, unwrap_or, sym, ap, subst, refl, ◌∙◌, arith}
+use Rattle.std.proofs.Common.{◌≡◌, ℕ, List, [], ◌∷◌, length, ◌⊎◌, inl, inr, ⊎_elim, Bool, true, false, Option, Some, None, slice_get, unwrap_or, sym, ap}
+use Rattle.std.proofs.Common.{subst, refl, ◌∙◌, arith}
 use Rattle.nf_resume_laws.proofs.Common.{slice_get_within, same_Some, ℚ, 0ℚ, ◌+ℚ◌, ◌-ℚ◌, ◌*ℚ◌, ◌≤ℚ◌, ◌<ℚ◌, reading_of, ≤ℚ_of_lt, ≤ℚ_of_same, ≤ℚ_antisymm}
 use Rattle.nf_resume_laws.proofs.Common.{lt_or_le_ℚ, not_both_ℚ, less_nn, eq, eq_times, le_times, linear_le, linear_eq, gap_np, entry, number_at, Has, Link}
 use Rattle.nf_resume_laws.proofs.Common.{Network, IsNetwork, IsLink, hops, hop_of, Sets, slack, sets_at, Pattern, HasState, NeedsState, IsTrail, IsListedIn}
-use Rattle.nf_resume_laws.proofs.Common.{IsBase, Equation, Inequality, Solves, IsSolution, is_filled}
-use Rattle.nf_model.specs.declared.State.{State}
+use Rattle.nf_resume_laws.proofs.Common.{IsBase, Equation, Inequality, Solves, IsSolution, is_filled, State, active_of_slack, slack_of_active}
+use Rattle.nf_resume_laws.proofs.Common.{resetting_of_slack, slack_of_resetting}
 use Rattle.nf_model.specs.declared.State.TheVariants.{Tight, Full, Zero}
 use Rattle.nf_model.specs.Walk.{Hop, IsHop}
 use Rattle.nf_model_laws.proofs.Networks.{by_link, hop_at}
-use Rattle.nf_model_laws.proofs.Slacks.{active_of_slack, slack_of_active, resetting_of_slack, slack_of_resetting}
 
 -- ---- the state of a link in the remainder: o before and b after; r and t say whether it is resetting before and after
 pub data GoesOn (r t : Bool) : Option State → Option State → Type 0 where

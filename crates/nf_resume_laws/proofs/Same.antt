@@ -2,13 +2,10 @@
 use Rattle.std.proofs.Common.{◌≡◌, ℕ, ◌<◌, [], ◌∷◌, sym, ap, subst, refl, ◌∙◌}
 use Rattle.nf_resume_laws.proofs.Common.{ℚ, 0ℚ, ◌+ℚ◌, ◌-ℚ◌, ◌≤ℚ◌, ◌<ℚ◌, reading_of, ≤ℚ_of_lt, le, lt, eq, linear_le, linear_lt, linear_eq, Within, Link}
 use Rattle.nf_resume_laws.proofs.Common.{Network, IsNetwork, IsLink, sum_in, sum_out, link_slack, queue_by_slack, sent, HoldsUpTo, ≤ℚ_refl, ≤ℚ_trans}
-use Rattle.nf_resume_laws.proofs.Common.{same_slacks, in_time}
+use Rattle.nf_resume_laws.proofs.Common.{same_slacks, in_time, InflowsRise, DescribesLinks, sent-is, link_within, label_not_negative}
 use Rattle.nf_model.specs.Queue.{IsQueue}
-use Rattle.nf_model_laws.specs.EarliestLaws.{InflowsRise}
 use Rattle.nf_model_laws.proofs.Queues.{IsQueue-same}
 use Rattle.nf_model_laws.proofs.Sums.{sum_in-same, sum_out-same}
-use Rattle.nf_phase_laws.specs.Description.{DescribesLinks}
-use Rattle.nf_phase_laws.proofs.Holds.{sent-is, link_within, label_not_negative}
 
 lt_by : (a b c d : ℚ) → a ≡ c → b ≡ d → a <ℚ b → c <ℚ d
 lt_by a b c d e f h = linear_lt (a ∷ b ∷ c ∷ d ∷ []) (eq e ∷ eq f ∷ lt h ∷ []) (search reading_of) tt

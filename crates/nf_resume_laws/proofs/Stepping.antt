@@ -1,9 +1,10 @@
 -- A run that continues a restored state stays an equilibrium, and changes no value up to where it began.
 use Rattle.std.proofs.Common.{◌≡◌, ℕ, ◌<◌, List, Option, ⊎_elim, sym, ap, subst, refl, ◌∙◌, Result, Ok, Err}
 use Rattle.nf_resume_laws.proofs.Common.{ℚ, 0ℚ, ◌≤ℚ◌, ◌<ℚ◌, ≤ℚ_of_lt, ≤ℚ_antisymm, lt_or_le_ℚ, Passing, number_at, Point, Within, value, Network, IsNetwork}
-use Rattle.nf_resume_laws.proofs.Common.{Flow, label, Equilibrium, Standing, Bounds, Goes, flow_of, standing_after, then_ok, EndsAtItsLabels, Steps, continues}
-use Rattle.nf_resume_laws.proofs.Common.{begins, RunsOn, at_horizon, at_phases, fails, steps, ≤ℚ_refl, ≤ℚ_trans}
-use Rattle.nf_frac_def.specs.Checked.{Checked, at_part, ◌>>=◌}
+use Rattle.nf_resume_laws.proofs.Common.{Flow, label, Equilibrium, Standing, Bounds, Goes, flow_of, standing_after, then_ok, EndsAtItsLabels, Steps}
+use Rattle.nf_resume_laws.proofs.Common.{continues, begins, RunsOn, at_horizon, at_phases, fails, steps, ≤ℚ_refl, ≤ℚ_trans, Checked, at_part, ◌>>=◌, at}
+use Rattle.nf_resume_laws.proofs.Common.{CurvesGoOn, IsPhase-some, WellRun, WellRun-step, Restart, Stands, cut_flow, after_check, GoesOnFrom}
+use Rattle.nf_resume_laws.proofs.Common.{IsResumedReport}
 use Rattle.nf_frac_def.specs.declared.Part.TheVariants.{Curve}
 use Rattle.nf_frac_def.specs.declared.PassedAt.{PassedAt}
 use Rattle.nf_net_def.specs.declared.Cause.{Cause}
@@ -11,16 +12,11 @@ use Rattle.nf_net_def.specs.Report.{Report}
 use Rattle.nf_check_def.specs.declared.Answer.{Answer}
 use Rattle.nf_check_def.specs.declared.Answer.TheVariants.{Yes, No}
 use Rattle.nf_check_def.specs.CheckList.{check_list}
-use Rattle.nf_phase_laws.specs.CurveSteps.{at, CurvesGoOn}
 use Rattle.nf_phase_laws.specs.DescriptionCurves.{DescriptionCurvesGoOn}
 use Rattle.nf_phase_laws.specs.CurveRun.{curves_of}
-use Rattle.nf_phase_laws.proofs.Length.{IsPhase-some}
-use Rattle.nf_phase_laws.proofs.WellRun.{WellRun}
-use Rattle.nf_phase_laws.proofs.RunsOn.{WellRun-step}
 use Rattle.nf_phase_laws.proofs.Goes.{curves_go, description_goes}
 use Rattle.nf_phase_laws.proofs.Run.{parts_of, IsPhase-goes, Equilibrium-well}
-use Rattle.nf_resume_def.specs.Resuming.{Restart, Stands, cut_flow, restart_list, after_check, resume_list}
-use Rattle.nf_resume_def.specs.Meanings.{GoesOnFrom, IsResumedReport}
+use Rattle.nf_resume_def.specs.Resuming.{restart_list, resume_list}
 use Rattle.nf_resume_laws.proofs.CutFlow.{IsCutFlow, cut_flow-is}
 use Rattle.nf_resume_laws.proofs.Restarted.{Equilibrium-cut, GoesOnFrom-cut, EndsAtItsLabels-cut}
 use Rattle.nf_phase_equilibrium_laws.proofs.RestoredRun.{well_from, flow_from}

@@ -1,26 +1,15 @@
 -- Loading by route as a whole, as the list has it.
-use Rattle.std.proofs.Common.{◌≡◌, List, [], ◌∷◌, refl, sym, ap, ◌∙◌}
-use Rattle.std.specs.Prelude.{Ok, Err, map}
-use Rattle.nf_rational.specs.Rational.{ℚ}
-use Rattle.nf_frac_def.specs.declared.PassedAt.{PassedAt}
-use Rattle.nf_frac_def.specs.declared.Part.TheVariants.{Load}
-use Rattle.nf_frac_def.specs.Passing.{Passing}
-use Rattle.nf_frac_def.specs.Checked.{Checked, at_part, each, ◌>>=◌}
+use Rattle.std.proofs.Common.{◌≡◌, List, [], ◌∷◌, refl, sym, ap, ◌∙◌, Ok, Err, map}
+use Rattle.nf_routes.proofs.Common.{ℚ, PassedAt, Load, Passing, Checked, at_part, each, ◌>>=◌, departures, after_err, after_ok, Route, SoFar, Routed}
+use Rattle.nf_routes.proofs.Common.{end_or, loaded_or, but_last, last_entry, travel_on, last_alone, kept_after, Every, Last, travel_along, travel_on-is}
+use Rattle.nf_routes.proofs.Common.{each_same, kept_result}
 use Rattle.nf_model.specs.Curve.{Point}
 use Rattle.nf_model.specs.Network.{Network}
 use Rattle.nf_load_def.specs.Loading.{Loaded}
-use Rattle.nf_check_def.specs.Curves.{departures}
-use Rattle.nf_curve.proofs.Exits.{after_err, after_ok}
-use Rattle.nf_routes_def.specs.Routes.{Route}
-use Rattle.nf_routes_def.specs.RoutesList.{SoFar, Routed, end_or, loaded_or, but_last, last_entry, travel_on, routes_list}
+use Rattle.nf_routes_def.specs.RoutesList.{routes_list}
 use Rattle.nf_routes_links.specs.Beginning.{all_loaded}
-use Rattle.nf_routes_links.specs.Keeping.{last_alone, kept_after}
 use Rattle.nf_routes_links.specs.declared.keeping.Kept.{Kept}
-use Rattle.nf_routes_links.specs.declared.keeping.Kept.TheVariants.{Every, Last}
-use Rattle.nf_routes_links.specs.Travels.{travel_along}
 use Rattle.nf_routes_links.proofs.Alone.{last_of_all}
-use Rattle.nf_routes_links.proofs.Travelling.{travel_on-is, each_same}
-use Rattle.nf_routes.specs.KeptList.{kept_result}
 
 module _ (passes : Passing) (net : Network) (routes : List Route) (horizon : ℚ) where
   abbrev pub ended_as : SoFar → List (List Point) → Routed

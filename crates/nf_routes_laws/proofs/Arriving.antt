@@ -1,15 +1,14 @@
 -- Consequences of loading by route. All that a route sends arrives. By the arrival of a departure, all that departed by then has arrived.
 -- The routes over a link share its outflow.
-use Rattle.std.proofs.Common.{◌≡◌, ℕ, zero, suc, ◌+◌, ◌<◌, ◌≤◌, List, [], ◌∷◌, length, ⊎_elim, Bool, true, false, eqb, Option, Some, None, slice_get, unwrap_or, get_or, refl, sym, ap, subst, ◌∙◌, arith}
-use Rattle.nf_routes_laws.proofs.Common.{if◌then◌else◌, eqb-true, slice_get_within, slice_get_cases, same_Some, slice_get_past, ℚ, 0ℚ, ◌+ℚ◌, ◌≤ℚ◌, ◌<ℚ◌}
-use Rattle.nf_routes_laws.proofs.Common.{reading_of, ≤ℚ_of_lt, ≤ℚ_antisymm, lt_or_le_ℚ, eq, linear_eq, Within, NeverFalls, value, number_at, IsWalk, Link}
-use Rattle.nf_routes_laws.proofs.Common.{Network, IsNetwork, IsLink, hops, supplied, IsExit, IsOutflow, value-takes_between, IsPositive-link, IsOutflow-at_exit}
-use Rattle.nf_routes_laws.proofs.Common.{IsExit-at_0, IsExit-after, IsExit-monotone, IsOutflow-early, Route, AreRoutes, Routed, link_loaded, exit_by, stages_at}
-use Rattle.nf_routes_laws.proofs.Common.{arrival_at, travel_at, sent_by, sent_along, sent_by_routes, inflow_by, exits_along, IsRouted, RoutesArrive, ≤ℚ_refl}
-use Rattle.nf_routes_laws.proofs.Common.{≤ℚ_trans}
-use Rattle.nf_model_laws.proofs.Networks.{link_at}
+use Rattle.std.proofs.Common.{◌≡◌, ℕ, zero, suc, ◌+◌, ◌<◌, ◌≤◌, List, [], ◌∷◌, length, ⊎_elim, Bool, true, false, eqb, Option, Some, None, slice_get}
+use Rattle.std.proofs.Common.{unwrap_or, get_or, refl, sym, ap, subst, ◌∙◌, arith, if◌then◌else◌}
+use Rattle.nf_routes_laws.proofs.Common.{eqb-true, slice_get_within, slice_get_cases, same_Some, slice_get_past, ℚ, 0ℚ, ◌+ℚ◌, ◌≤ℚ◌, ◌<ℚ◌, reading_of}
+use Rattle.nf_routes_laws.proofs.Common.{≤ℚ_of_lt, ≤ℚ_antisymm, lt_or_le_ℚ, eq, linear_eq, Within, NeverFalls, value, number_at, IsWalk, Link, Network}
+use Rattle.nf_routes_laws.proofs.Common.{IsNetwork, IsLink, hops, supplied, IsExit, IsOutflow, value-takes_between, IsPositive-link, IsOutflow-at_exit}
+use Rattle.nf_routes_laws.proofs.Common.{IsExit-at_0, IsExit-after, IsExit-monotone, IsOutflow-early, Route, AreRoutes, Routed, link_loaded, exit_by}
+use Rattle.nf_routes_laws.proofs.Common.{stages_at, arrival_at, travel_at, sent_by, sent_along, sent_by_routes, inflow_by, exits_along, IsRouted}
+use Rattle.nf_routes_laws.proofs.Common.{RoutesArrive, ≤ℚ_refl, ≤ℚ_trans, link_at, sum_le, same_sums, both_are_zero, first_of_sum}
 use Rattle.nf_model_laws.proofs.Sums.{if_same, if_order}
-use Rattle.nf_rational_laws.proofs.Facts.{sum_le, same_sums, both_are_zero, first_of_sum}
 
 -- ---- sums over routes and positions
 if_none : (b : Bool) (x s : ℚ) → (b ≡ true → x ≡ 0ℚ) → s ≡ 0ℚ → (if b then x +ℚ s else s) ≡ 0ℚ

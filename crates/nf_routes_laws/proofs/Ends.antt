@@ -2,20 +2,14 @@
 use Rattle.std.proofs.Common.{◌≡◌, List, [], ◌∷◌, ◌++◌, ◌⊎◌, inl, inr, ⊎_elim, Bool, true, false, Option, refl, sym, subst, ◌∙◌, Ok, if◌then◌else◌}
 use Rattle.nf_routes_laws.proofs.Common.{ℚ, 0ℚ, ◌≤ℚ◌, ◌<ℚ◌, lt_ℚ, ≤ℚ_of_lt, ≤ℚ_of_same, Passing, each, Point, value, TimesRise, IsCurve, NeverFalls, Piece}
 use Rattle.nf_routes_laws.proofs.Common.{IsPositive, value-after, is_zero, is_same, then_ok, times-up_to, checked_short-end, Loaded, checked_loading}
-use Rattle.nf_routes_laws.proofs.Common.{last_value, NoneBeyond, CanShare, ≤ℚ_refl, ≤ℚ_trans, same_Ok}
-use Rattle.nf_rational_laws.proofs.Tests.{lt_ℚ_cases}
-use Rattle.nf_curve_def.specs.Lines.{Sides}
-use Rattle.nf_curve_def.specs.Times.{times_of, both_times}
-use Rattle.nf_curve_def.specs.Short.{turning, short_points, checked_slopes, checked_short}
-use Rattle.nf_curve_def.specs.Sums.{sides_at}
-use Rattle.nf_curve_laws.proofs.Following.{end_time, EndsAtTime, follows-end}
-use Rattle.nf_curve_laws.proofs.Pieces.{AreSides, sides_at-is}
-use Rattle.nf_curve_laws.proofs.Times.{IsOne}
-use Rattle.nf_load_def.specs.Cumulative.{piece_end, point_after_0, point_if_after_0, with_piece, cumulative_from, checked_cumulative}
-use Rattle.nf_load_laws.proofs.Cumulative.{cumulative_more, cumulative_done}
+use Rattle.nf_routes_laws.proofs.Common.{last_value, NoneBeyond, CanShare, ≤ℚ_refl, ≤ℚ_trans, same_Ok, lt_ℚ_cases, Sides, times_of, both_times, turning}
+use Rattle.nf_routes_laws.proofs.Common.{short_points, checked_slopes, sides_at, end_time, EndsAtTime, follows-end, AreSides, sides_at-is, IsOne, piece_end}
+use Rattle.nf_routes_laws.proofs.Common.{point_after_0, point_if_after_0, with_piece, cumulative_from, cumulative_more, cumulative_done, ExitPoints}
+use Rattle.nf_routes_laws.proofs.Common.{exit_points, next_from}
+use Rattle.nf_curve_def.specs.Short.{checked_short}
+use Rattle.nf_load_def.specs.Cumulative.{checked_cumulative}
 use Rattle.nf_load_laws.proofs.Functions.{exit_at}
-use Rattle.nf_load_laws.proofs.Loading.{ExitPoints, exit_points}
-use Rattle.nf_routes_def.specs.RoutesList.{next_from, next_entry}
+use Rattle.nf_routes_def.specs.RoutesList.{next_entry}
 use Rattle.nf_routes_laws.proofs.Next.{both_times-either}
 
 -- no point is later

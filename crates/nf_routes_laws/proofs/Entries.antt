@@ -1,10 +1,8 @@
 -- The amount that a route sends into a link, as a curve up to a time: into its first link, and into the next.
 use Rattle.std.proofs.Common.{◌≡◌, List, ◌⊎◌, inl, inr, ⊎_elim, refl, sym, ap, subst, ◌∙◌, Ok}
-use Rattle.nf_routes_laws.proofs.Common.{ℚ, 0ℚ, ◌≤ℚ◌, ◌<ℚ◌, ≤ℚ_of_lt, ≤ℚ_of_same, ≤ℚ_antisymm, lt_or_le_ℚ, Passing, Point, Within, NeverFalls, value, IsCurve}
-use Rattle.nf_routes_laws.proofs.Common.{IsShort, Piece, ArePieces, supplied, checked_short, IsShortOf, checked_short-is, checked_cumulative, next_entry}
-use Rattle.nf_routes_laws.proofs.Common.{CanShare, IsSentOn, ≤ℚ_refl, ≤ℚ_trans, value-takes_between}
-use Rattle.nf_load_def.specs.Meanings.{IsCumulative}
-use Rattle.nf_load_laws.proofs.Cumulative.{checked_cumulative-is}
+use Rattle.nf_routes_laws.proofs.Common.{ℚ, 0ℚ, ◌≤ℚ◌, ◌<ℚ◌, ≤ℚ_of_lt, ≤ℚ_of_same, ≤ℚ_antisymm, lt_or_le_ℚ, Passing, Point, Within, NeverFalls, value}
+use Rattle.nf_routes_laws.proofs.Common.{IsCurve, IsShort, Piece, ArePieces, supplied, checked_short, IsShortOf, checked_short-is, checked_cumulative}
+use Rattle.nf_routes_laws.proofs.Common.{next_entry, CanShare, IsSentOn, ≤ℚ_refl, ≤ℚ_trans, value-takes_between, IsCumulative, checked_cumulative-is}
 use Rattle.nf_routes_laws.proofs.Next.{next_entry-is}
 use Rattle.nf_routes_laws.proofs.Ends.{UpTo, upto-longer, short-upto, cumulative-upto, next-upto}
 

@@ -1,11 +1,11 @@
 -- Entries of single lines. A new route has an accepted name and a link, and no line breaks G17.
-use Rattle.std.proofs.Common.{◌≡◌, ◌≢◌, ℕ, suc, ◌<◌, Bool, true, false, not, List, [], ◌∷◌, length, map, Option, Some, None, Result, Ok, Err, refl, arith, codes, bytes_eq}
-use Rattle.nf_routes_laws.proofs.Common.{if◌then◌else◌, list_all, ℚ, Name, is_name, has_name, place_of, piece_entry, G5, G7, G8, G9, G17, RoutesEntry}
-use Rattle.nf_routes_laws.proofs.Common.{RouteLine, RateLine, End, route_line, rate_line, end_line, routes_entry}
+use Rattle.std.proofs.Common.{◌≡◌, ◌≢◌, ℕ, suc, ◌<◌, Bool, true, false, not, List, [], ◌∷◌, length, map, Option, Some, None, Result, Ok, Err, refl, arith}
+use Rattle.std.proofs.Common.{codes, bytes_eq, if◌then◌else◌}
+use Rattle.nf_routes_laws.proofs.Common.{list_all, ℚ, Name, is_name, has_name, place_of, piece_entry, G5, G7, G8, G9, G17, RoutesEntry, RouteLine, RateLine}
+use Rattle.nf_routes_laws.proofs.Common.{End, route_line, rate_line, end_line, routes_entry, RoutesRule}
 use Rattle.std.specs.Result.{result_ok}
 use Rattle.nf_frac_words.specs.Numbers.{number_of}
 use Rattle.nf_net_def.specs.Numbers.{greatest}
-use Rattle.nf_routes_def.specs.declared.RoutesRule.{RoutesRule}
 
 abbrev pub IsNew : RoutesEntry → Type 0
 IsNew (RouteLine name links) = (is_name name ≡ true) × (0 < length links)

@@ -1,23 +1,21 @@
 -- The routes of lines that break no rule. They do not exceed the limit, have different names, and are walks from source to sink with
 -- pieces.
-use Rattle.std.proofs.Common.{◌≡◌, ℕ, zero, suc, ◌<◌, ◌≤◌, true, false, not, ◌&&◌, nat_le, List, [], ◌∷◌, ◌++◌, length, set, get_or, Option, Some, None, All, slice_get, Ok, refl, sym, ap, subst, ◌∙◌, arith, bytes_eq}
-use Rattle.std.specs.List.{list_all, IsDistinct}
-use Rattle.nf_routes_laws.proofs.Common.{and_parts, leb-false, and_from, not-false, eqb-true, length-append, length-set, map-append, none-some, same_Some}
-use Rattle.nf_routes_laws.proofs.Common.{slice_get-get_or, slice_get_within, ◌>>=◌, IsWalk, Piece, Link, Network, ArePieces, hop_of, hops, Name, is_name}
-use Rattle.nf_routes_laws.proofs.Common.{has_name, AreNames, slice_get-image, same_Ok, not_both, unless_rule, G4, G10, G11, G12, G13, G14, G15, Route, AreWalks}
-use Rattle.nf_routes_laws.proofs.Common.{AreRoutes}
+use Rattle.std.proofs.Common.{◌≡◌, ℕ, zero, suc, ◌<◌, ◌≤◌, true, false, not, ◌&&◌, nat_le, List, [], ◌∷◌, ◌++◌, length, set, get_or, Option, Some, None}
+use Rattle.std.proofs.Common.{All, slice_get, Ok, refl, sym, ap, subst, ◌∙◌, arith, bytes_eq}
+use Rattle.nf_routes_laws.proofs.Common.{list_all, and_parts, leb-false, and_from, not-false, eqb-true, length-append, length-set, map-append, none-some}
+use Rattle.nf_routes_laws.proofs.Common.{same_Some, slice_get-get_or, slice_get_within, ◌>>=◌, IsWalk, Piece, Link, Network, ArePieces, hop_of, hops, Name}
+use Rattle.nf_routes_laws.proofs.Common.{is_name, has_name, AreNames, slice_get-image, same_Ok, not_both, unless_rule, G4, G10, G11, G12, G13, G14, G15}
+use Rattle.nf_routes_laws.proofs.Common.{Route, AreWalks, AreRoutes, ReadLine, Named, draft_of, rules_out, no_rule, draft_kept, both_ok, where_false}
+use Rattle.nf_routes_laws.proofs.Common.{NamedRoute, RoutesEntry, RouteLine, RateLine, End, RoutesDraft, route_names, routes_of, pieces_of, longer, is_walk}
+use Rattle.nf_routes_laws.proofs.Common.{tail_is, head_of, rule_behind, routes_entry, routes_rule_of, routes_after, add_route_line, routes_frame, AreInForm}
+use Rattle.nf_routes_laws.proofs.Common.{AreSound}
+use Rattle.std.specs.List.{IsDistinct}
 use Rattle.std.proofs.lemmas.List.Folds.{list_all-append}
 use Rattle.std.proofs.lemmas.List.Elements.{All-nil, All-push, All-set, All-get_or, All-map, All-weaker}
-use Rattle.nf_text_def.specs.Words.{ReadLine}
-use Rattle.nf_net_def.specs.Named.{Named}
 use Rattle.nf_net_laws.proofs.NameFacts.{with_name_new}
 use Rattle.nf_net_laws.proofs.DraftKept.{distinct_with_names}
-use Rattle.nf_side_def.specs.Frame.{draft_of}
-use Rattle.nf_report_laws.proofs.FrameKept.{rules_out, no_rule, draft_kept}
-use Rattle.nf_report_laws.proofs.Outcomes.{both_ok, where_false}
 use Rattle.nf_report_laws.proofs.PiecesKept.{GoOn, go_on_pieces, piece_kept}
-use Rattle.nf_routes_def.specs.RoutesFile.{NamedRoute, RoutesEntry, RouteLine, RateLine, End, RoutesDraft, route_names, routes_of, pieces_of, with_piece, longer, is_walk, tail_is, head_of, rule_behind, routes_entry, routes_rule_of, routes_after, add_route_line, routes_frame}
-use Rattle.nf_routes_def.specs.Kept.{AreInForm, AreSound}
+use Rattle.nf_routes_def.specs.RoutesFile.{with_piece}
 use Rattle.nf_routes_laws.proofs.FileEntries.{IsNew, Entered, entered}
 
 -- ---- walks

@@ -1,17 +1,14 @@
 -- The reading of a routes file. G17 is broken exactly by a circle, and the loading order decides it.
-use Rattle.std.proofs.Common.{◌≡◌, ◌≢◌, ℕ, Bool, true, false, not, ◌||◌, nat_le, List, [], ◌∷◌, length, Option, Some, None, Result, Ok, Err, inl, inr, refl, sym, ap, subst, ◌∙◌, codes}
-use Rattle.nf_routes_laws.proofs.Common.{if◌then◌else◌, last_or, ◌>>=◌, Network, has_name, same_Ok, is_head, unless_rule, G3, G4, G10, G11, G12, G13, G14, G15}
-use Rattle.nf_routes_laws.proofs.Common.{G16, G17, HoldCircle}
-use Rattle.nf_text_def.specs.Words.{ReadLine, read_lines, content_lines}
+use Rattle.std.proofs.Common.{◌≡◌, ◌≢◌, ℕ, Bool, true, false, not, ◌||◌, nat_le, List, [], ◌∷◌, length, Option, Some, None, Result, Ok, Err, inl, inr, refl}
+use Rattle.std.proofs.Common.{sym, ap, subst, ◌∙◌, codes, if◌then◌else◌}
+use Rattle.nf_routes_laws.proofs.Common.{last_or, ◌>>=◌, Network, has_name, same_Ok, is_head, unless_rule, G3, G4, G10, G11, G12, G13, G14, G15, G16, G17}
+use Rattle.nf_routes_laws.proofs.Common.{HoldCircle, ReadLine, read_lines, content_lines, Named, in_line, add_lines, draft_of, by_bytes, file_is}
+use Rattle.nf_routes_laws.proofs.Common.{where_true, RoutesRule, RoutesBroken, NamedRoute, RoutesEntry, RouteLine, RateLine, End, RoutesDraft, route_names}
+use Rattle.nf_routes_laws.proofs.Common.{routes_of, pieces_at, is_walk, routes_entry, routes_rule_of, routes_after, add_route_line, routes_ended}
+use Rattle.nf_routes_laws.proofs.Common.{routes_frame, HoldsCircleIn, circle_broken, ReadsRoutes, is_ordered, unless_circle, KeepRules, AreSound}
 use Rattle.nf_text_def.specs.Faults.{LineFault, NotAscii, LongLine, first_fault}
 use Rattle.nf_net_def.specs.NetLines.{is_negative, is_not_after}
-use Rattle.nf_net_def.specs.Named.{Named}
-use Rattle.nf_side_def.specs.Frame.{in_line, add_lines, draft_of, by_bytes}
-use Rattle.nf_report_laws.proofs.FrameKept.{file_is}
-use Rattle.nf_report_laws.proofs.Outcomes.{where_true}
-use Rattle.nf_routes_def.specs.declared.RoutesRule.{RoutesRule}
-use Rattle.nf_routes_def.specs.RoutesFile.{RoutesBroken, NamedRoute, RoutesEntry, RouteLine, RateLine, End, RoutesDraft, route_names, routes_of, pieces_at, is_walk, routes_entry, routes_rule_of, routes_after, add_route_line, routes_ended, routes_frame, routes_of_lines, HoldsCircleIn, circle_broken, ReadsRoutes, is_ordered, unless_circle, routes_in}
-use Rattle.nf_routes_def.specs.Kept.{KeepRules, AreSound}
+use Rattle.nf_routes_def.specs.RoutesFile.{routes_of_lines, routes_in}
 use Rattle.nf_routes_laws.proofs.Ordering.{none-circle, circle-found}
 use Rattle.nf_routes_laws.proofs.FileEntries.{Entered, entered}
 use Rattle.nf_routes_laws.proofs.FileKept.{draft_sound, are_routes}

@@ -1,9 +1,10 @@
 -- The inflow of a link as the operation sequence adds it: the sum of the routes' entries at every time. Each route enters the link at most
 -- at one position.
-use Rattle.std.proofs.Common.{◌≡◌, ◌≢◌, ℕ, zero, suc, List, [], ◌∷◌, length, ⊎_elim, Bool, true, false, eqb, Some, slice_get, refl, sym, ap, subst, ◌∙◌, arith}
-use Rattle.nf_rational_laws.proofs.Facts.{plus_zero, second_is_zero}
-use Rattle.nf_routes_laws.proofs.Common.{Ok, if◌then◌else◌, eqb_tells, same_Some, ℚ, 0ℚ, ◌+ℚ◌, ◌≤ℚ◌, reading_of, eq, linear_eq, Passing, Point, value, IsCurve}
-use Rattle.nf_routes_laws.proofs.Common.{IsSumOf, then_ok, Route, goes_over, last_entry, add_if, sum_from, sent_along, sent_by_routes, same_Ok, not_both}
+use Rattle.std.proofs.Common.{◌≡◌, ◌≢◌, ℕ, zero, suc, List, [], ◌∷◌, length, ⊎_elim, Bool, true, false, eqb, Some, slice_get, refl, sym, ap, subst, ◌∙◌}
+use Rattle.std.proofs.Common.{arith, Ok, if◌then◌else◌}
+use Rattle.nf_routes_laws.proofs.Common.{plus_zero, second_is_zero, eqb_tells, same_Some, ℚ, 0ℚ, ◌+ℚ◌, ◌≤ℚ◌, reading_of, eq, linear_eq, Passing, Point}
+use Rattle.nf_routes_laws.proofs.Common.{value, IsCurve, IsSumOf, then_ok, Route, goes_over, last_entry, add_if, sum_from, sent_along, sent_by_routes}
+use Rattle.nf_routes_laws.proofs.Common.{same_Ok, not_both}
 use Rattle.nf_curve_laws.proofs.Sums.{checked_sum-is}
 use Rattle.nf_routes_laws.proofs.Arriving.{along-none}
 use Rattle.nf_routes_laws.proofs.Stages.{over-at, over-place}

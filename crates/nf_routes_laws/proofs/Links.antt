@@ -3,10 +3,8 @@ use Rattle.std.proofs.Common.{◌≡◌, ℕ, zero, suc, List, [], ◌∷◌, �
 use Rattle.nf_routes_laws.proofs.Common.{slice_get_within, append-nil, ℚ, 0ℚ, ◌≤ℚ◌, Passing, Point, Within, NeverFalls, value, IsCurve, number_at, Link}
 use Rattle.nf_routes_laws.proofs.Common.{Network, IsNetwork, IsLink, IsExit, IsPositive, IsPositive-link, IsExit-at_0, IsExit-after, IsExit-monotone}
 use Rattle.nf_routes_laws.proofs.Common.{IsExit-same, last_value, Route, AreRoutes, PrecedesOnRoute, SoFar, Routed, link_loaded, exit_by, entry_at, sent_by}
-use Rattle.nf_routes_laws.proofs.Common.{sent_by_routes, inflow_by, IsEnd, CanShare, IsSentOn, ≤ℚ_refl, ≤ℚ_trans, entry}
-use Rattle.nf_curve_laws.proofs.Following.{EndsAtTime}
-use Rattle.nf_load_def.specs.Meanings.{IsLoaded}
-use Rattle.nf_load_laws.proofs.Loading.{checked_loading-is}
+use Rattle.nf_routes_laws.proofs.Common.{sent_by_routes, inflow_by, IsEnd, CanShare, IsSentOn, ≤ℚ_refl, ≤ℚ_trans, entry, EndsAtTime, IsLoaded}
+use Rattle.nf_routes_laws.proofs.Common.{checked_loading-is, without_zero, first_of_sum}
 use Rattle.nf_routes_laws.proofs.Arriving.{routes-le, routes-none}
 use Rattle.nf_routes_laws.proofs.Ordering.{In, in-either, placed}
 use Rattle.nf_routes_laws.proofs.Sharing.{shares-equal}
@@ -14,7 +12,6 @@ use Rattle.nf_routes_laws.proofs.Ends.{UpTo, upto-none, ends-upto, last-at_end, 
 use Rattle.nf_routes_laws.proofs.Entries.{IsEntry, entry-longer, rises-same, IsFirst, first-is, shared, next-is}
 use Rattle.nf_routes_laws.proofs.Inflow.{Enters, IsSumWith, sum-is}
 use Rattle.nf_routes_laws.proofs.Unrolled.{many, order, routed, LinkStep}
-use Rattle.nf_rational_laws.proofs.Facts.{without_zero, first_of_sum}
 
 -- ---- a link that is loaded, of routes that are
 pub record LinkIs (net : Network) (routes : List Route) (horizon : ℚ) (all : Routed) (e : ℕ) : Type 0 where

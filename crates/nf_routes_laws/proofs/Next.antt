@@ -1,16 +1,13 @@
 -- The next entry of a route: the amount of each entry is sent on by the exit of that entry.
 use Rattle.std.proofs.Common.{◌≡◌, ◌≢◌, List, [], ◌∷◌, ◌⊎◌, inl, inr, ⊎_elim, Bool, true, false, refl, sym, ap, subst, ◌∙◌, Ok}
-use Rattle.nf_routes_laws.proofs.Common.{ℚ, 0ℚ, ◌+ℚ◌, ◌-ℚ◌, ◌*ℚ◌, ◌≤ℚ◌, ◌<ℚ◌, reading_of, ≤ℚ_of_lt, ≤ℚ_antisymm, lt_or_le_ℚ, less_ps, eq, eq_times, linear_eq}
-use Rattle.nf_routes_laws.proofs.Common.{Passing, each, Point, Within, value, slope, TimesRise, IsCurve, value-first, value-line, value-after, slope-times}
-use Rattle.nf_routes_laws.proofs.Common.{is_same, IsShortOf, then_ok, is_same_cases, checked_short-is, NoneBeyond, CanShare, IsSentOn, ≤ℚ_refl, ≤ℚ_trans, same_Ok}
+use Rattle.nf_routes_laws.proofs.Common.{ℚ, 0ℚ, ◌+ℚ◌, ◌-ℚ◌, ◌*ℚ◌, ◌≤ℚ◌, ◌<ℚ◌, reading_of, ≤ℚ_of_lt, ≤ℚ_antisymm, lt_or_le_ℚ, less_ps, eq, eq_times}
+use Rattle.nf_routes_laws.proofs.Common.{linear_eq, Passing, each, Point, Within, value, slope, TimesRise, IsCurve, value-first, value-line, value-after}
+use Rattle.nf_routes_laws.proofs.Common.{slope-times, is_same, IsShortOf, then_ok, is_same_cases, checked_short-is, NoneBeyond, CanShare, IsSentOn, ≤ℚ_refl}
+use Rattle.nf_routes_laws.proofs.Common.{≤ℚ_trans, same_Ok, same_from_times, Sides, times_of, merged, sides_at, IsOne, AreNext, NextOnes, both_times-next}
+use Rattle.nf_routes_laws.proofs.Common.{merged-one, left_affine, right_affine, left_flat, AreSides, sides_at-is, next_from}
 use Rattle.nf_model_laws.specs.Affine.{IsAffine}
-use Rattle.nf_model_laws.proofs.Affine.{same_from_times}
-use Rattle.nf_curve_def.specs.Lines.{Sides}
-use Rattle.nf_curve_def.specs.Times.{times_of, both_times, merged}
-use Rattle.nf_curve_def.specs.Sums.{sides_at}
-use Rattle.nf_curve_laws.proofs.Times.{IsOne, AreNext, NextOnes, both_times-next, merged-one}
-use Rattle.nf_curve_laws.proofs.Pieces.{left_affine, right_affine, left_flat, AreSides, sides_at-is}
-use Rattle.nf_routes_def.specs.RoutesList.{next_from, next_entry}
+use Rattle.nf_curve_def.specs.Times.{both_times}
+use Rattle.nf_routes_def.specs.RoutesList.{next_entry}
 
 -- ---- numbers: on an interval from a to b, exits have the rate e and entries the rate r; n is the slope of entries by exits
 on_line : (n e r d x y z v w : ℚ) → n *ℚ (w -ℚ x) ≡ z -ℚ y → w ≡ x +ℚ e *ℚ d → z ≡ y +ℚ r *ℚ d → 0ℚ <ℚ d → n *ℚ e ≡ r

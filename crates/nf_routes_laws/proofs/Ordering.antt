@@ -1,11 +1,12 @@
 -- The loading order takes each link exactly if no links form a circle. If it omits links, there is a circle.
-use Rattle.std.proofs.Common.{◌≡◌, ◌≢◌, ℕ, zero, suc, ◌+◌, ◌<◌, ◌≤◌, List, [], ◌∷◌, ◌++◌, length, ◌⊎◌, inl, inr, ⊎_elim, Bool, true, false, not, ◌&&◌, ◌||◌, eqb, Option, Some, None, slice_get, refl, sym, ap, subst, ◌∙◌, arith}
-use Rattle.nf_routes_laws.proofs.Common.{if◌then◌else◌, eqb_tells, Network, slice_get_within, same_Some, and_parts, not-true, append-nil, true_or_false}
-use Rattle.nf_routes_laws.proofs.Common.{not_both}
-use Rattle.std.specs.List.{IsDistinct, list_any, list_all, range_with_len}
+use Rattle.std.proofs.Common.{◌≡◌, ◌≢◌, ℕ, zero, suc, ◌+◌, ◌<◌, ◌≤◌, List, [], ◌∷◌, ◌++◌, length, ◌⊎◌, inl, inr, ⊎_elim, Bool, true, false, not, ◌&&◌, ◌||◌}
+use Rattle.std.proofs.Common.{eqb, Option, Some, None, slice_get, refl, sym, ap, subst, ◌∙◌, arith, if◌then◌else◌}
+use Rattle.nf_routes_laws.proofs.Common.{eqb_tells, Network, slice_get_within, same_Some, and_parts, not-true, append-nil, true_or_false, not_both}
+use Rattle.nf_routes_laws.proofs.Common.{IsDistinct, list_any, list_all, range_with_len, Route, AreRoutes, pairs_of, all_pairs, PrecedesOnRoute}
+use Rattle.nf_routes_laws.proofs.Common.{LeadsOverRoutes, HoldCircle, is_taken, is_free, first_free, with_next, order_from}
 use Rattle.std.proofs.lemmas.Map.Steps.{length-le_from_distinct_below}
 use Rattle.nf_model_laws.proofs.Ways.{distinct_more, distinct_none}
-use Rattle.nf_routes_def.specs.Routes.{Route, AreRoutes, pairs_of, all_pairs, PrecedesOnRoute, LeadsOverRoutes, HoldCircle, is_taken, is_free, first_free, with_next, order_from, loading_order, takes_all}
+use Rattle.nf_routes_def.specs.Routes.{loading_order, takes_all}
 use Rattle.nf_routes_laws.proofs.Arriving.{walk-links}
 
 -- ---- members of lists

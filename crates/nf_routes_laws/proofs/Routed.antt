@@ -1,13 +1,15 @@
 -- The operation sequence of loading by route gives the loading by route.
-use Rattle.std.proofs.Common.{◌≡◌, ℕ, zero, suc, ◌+◌, ◌<◌, List, [], ◌∷◌, length, ◌⊎◌, ⊎_elim, Option, Some, None, slice_get, unwrap_or, sym, ap, subst, ◌∙◌, arith}
-use Rattle.nf_routes_laws.proofs.Common.{Ok, map, range_with_len, length-map, slice_get_within, ℚ, 0ℚ, ◌+ℚ◌, ◌≤ℚ◌, Passing, each, Point, Within, value}
-use Rattle.nf_routes_laws.proofs.Common.{number_at, IsWalk, Link, Network, IsNetwork, IsLink, hops, IsQueue, IsExit, IsOutflow, IsPositive-link, IsExit-after}
+use Rattle.std.proofs.Common.{◌≡◌, ℕ, zero, suc, ◌+◌, ◌<◌, List, [], ◌∷◌, length, ◌⊎◌, ⊎_elim, Option, Some, None, slice_get, unwrap_or, sym, ap, subst}
+use Rattle.std.proofs.Common.{◌∙◌, arith, Ok, map}
+use Rattle.nf_routes_laws.proofs.Common.{range_with_len, length-map, slice_get_within, ℚ, 0ℚ, ◌+ℚ◌, ◌≤ℚ◌, Passing, each, Point, Within, value, number_at}
+use Rattle.nf_routes_laws.proofs.Common.{IsWalk, Link, Network, IsNetwork, IsLink, hops, IsQueue, IsExit, IsOutflow, IsPositive-link, IsExit-after}
 use Rattle.nf_routes_laws.proofs.Common.{IsOutflow-unique, IsQueue-same, IsExit-same, IsOutflow-same, departures, link_loaded, exit_by, stages_at, entry_at}
 use Rattle.nf_routes_laws.proofs.Common.{travel_at, sent_by, sent_by_routes, inflow_by, exits_along, IsRouted, then_ok, ≤ℚ_refl, ≤ℚ_trans, entry, same_Ok}
+use Rattle.nf_routes_laws.proofs.Common.{IsLink-unique, Route, AreRoutes, HoldCircle, is_taken, SoFar, Routed, loaded_or, end_or, but_last, last_entry}
+use Rattle.nf_routes_laws.proofs.Common.{load_all, exit_of, travel_on, compared}
 use Rattle.nf_frac_def.proofs.Each.{each_length, each_at}
-use Rattle.nf_model_laws.proofs.Networks.{IsLink-unique}
-use Rattle.nf_routes_def.specs.Routes.{Route, AreRoutes, HoldCircle, is_taken, loading_order, takes_all}
-use Rattle.nf_routes_def.specs.RoutesList.{SoFar, Routed, loaded_or, end_or, but_last, last_entry, load_all, exit_of, travel_on, routes_list}
+use Rattle.nf_routes_def.specs.Routes.{loading_order, takes_all}
+use Rattle.nf_routes_def.specs.RoutesList.{routes_list}
 use Rattle.nf_routes_laws.proofs.Arriving.{walk-links, arrive}
 use Rattle.nf_routes_laws.proofs.Ordering.{In, all-at, in-range, taken-in, takes_all-straight}
 use Rattle.nf_routes_laws.proofs.Entries.{IsEntry, IsFirst}
@@ -16,7 +18,6 @@ use Rattle.nf_routes_laws.proofs.Stages.{length-but_last, exit_of-is}
 use Rattle.nf_routes_laws.proofs.Steps.{stage}
 use Rattle.nf_routes_laws.proofs.Travels.{AreDepartures, departures-are, Passable, IsTravel, travel-is}
 use Rattle.nf_routes_laws.proofs.Unrolled.{order, routed, RouteStands, Unrolled, stages-are, unrolled}
-use Rattle.nf_rational_laws.proofs.Naturals.{compared}
 
 -- ---- the order takes each link
 all-ordered : (passes : Passing) (net : Network) (routes : List Route) (horizon : ℚ) → AreRoutes net routes → (HoldCircle routes → ⊥) → (e : ℕ)

@@ -1,7 +1,7 @@
 -- First in, first out by route: where two exits of a link are equal, no route has sent anything between their entries.
 use Rattle.std.proofs.Common.{◌≡◌, ℕ, zero, suc, List, [], ◌∷◌, Bool, true, false, eqb, Option, Some, slice_get, refl, ap, subst, ◌∙◌, if◌then◌else◌}
-use Rattle.nf_routes_laws.proofs.Common.{eqb-true, eq-eqb, same_Some, ℚ, 0ℚ, ◌+ℚ◌, ◌≤ℚ◌, reading_of, ≤ℚ_antisymm, le, linear_le, NeverFalls, IsExit, IsPositive}
-use Rattle.nf_routes_laws.proofs.Common.{IsOutflow-at_exit, IsOutflow-unique, Route, sent_along, sent_by_routes, ≤ℚ_refl, ≤ℚ_trans}
+use Rattle.nf_routes_laws.proofs.Common.{eqb-true, eq-eqb, same_Some, ℚ, 0ℚ, ◌+ℚ◌, ◌≤ℚ◌, reading_of, ≤ℚ_antisymm, le, linear_le, NeverFalls, IsExit}
+use Rattle.nf_routes_laws.proofs.Common.{IsPositive, IsOutflow-at_exit, IsOutflow-unique, Route, sent_along, sent_by_routes, ≤ℚ_refl, ≤ℚ_trans}
 use Rattle.nf_routes_laws.proofs.Arriving.{along-le, routes-le}
 use Rattle.nf_model_laws.proofs.Potential.{first_le, rest_le}
 

@@ -1,7 +1,8 @@
 -- Lists by index: the entries of a route so far, the change by a step, and the properties of the links so far.
-use Rattle.std.proofs.Common.{◌≡◌, ◌≢◌, ℕ, zero, suc, List, [], ◌∷◌, ◌++◌, length, inl, inr, ⊎_elim, true, false, eqb, Option, Some, None, slice_get, unwrap_or, set, refl, sym, ap, subst, ◌∙◌, arith}
-use Rattle.nf_routes_laws.proofs.Common.{Ok, map, eqb_tells, same_Some, ℚ, Passing, Point, Loaded, last_value, Route, LoadedLink, exit_end, begins_at}
-use Rattle.nf_routes_laws.proofs.Common.{goes_over, last_entry, but_last, begin_if, begin_all, next_if, next_all, exit_of, loaded_or, then_ok, same_Ok}
+use Rattle.std.proofs.Common.{◌≡◌, ◌≢◌, ℕ, zero, suc, List, [], ◌∷◌, ◌++◌, length, inl, inr, ⊎_elim, true, false, eqb, Option, Some, None, slice_get}
+use Rattle.std.proofs.Common.{unwrap_or, set, refl, sym, ap, subst, ◌∙◌, arith, Ok, map}
+use Rattle.nf_routes_laws.proofs.Common.{eqb_tells, same_Some, ℚ, Passing, Point, Loaded, last_value, Route, LoadedLink, exit_end, begins_at, goes_over}
+use Rattle.nf_routes_laws.proofs.Common.{last_entry, but_last, begin_if, begin_all, next_if, next_all, exit_of, loaded_or, then_ok, same_Ok}
 use Rattle.nf_routes_laws.proofs.Ordering.{taken-in, in-taken, In}
 
 -- ---- entries of lists

@@ -1,10 +1,11 @@
 -- The links of a route that are taken, and the change of a route's entries by the step of a link.
-use Rattle.std.proofs.Common.{◌≡◌, ℕ, zero, suc, ◌<◌, ◌≤◌, List, [], ◌∷◌, ◌++◌, length, ◌⊎◌, inl, inr, ⊎_elim, Bool, true, false, Some, slice_get, refl, sym, ap, subst, ◌∙◌, arith}
-use Rattle.nf_routes_laws.proofs.Common.{Ok, same_Some, slice_get_within, append-nil, ℚ, Passing, Point, Piece, checked_short, checked_cumulative, Route}
-use Rattle.nf_routes_laws.proofs.Common.{PrecedesOnRoute, begins_at, goes_over, last_entry, next_entry, begin_if, next_if, then_ok, entry, same_Ok, not_both}
+use Rattle.std.proofs.Common.{◌≡◌, ℕ, zero, suc, ◌<◌, ◌≤◌, List, [], ◌∷◌, ◌++◌, length, ◌⊎◌, inl, inr, ⊎_elim, Bool, true, false, Some, slice_get, refl}
+use Rattle.std.proofs.Common.{sym, ap, subst, ◌∙◌, arith, Ok}
+use Rattle.nf_routes_laws.proofs.Common.{same_Some, slice_get_within, append-nil, ℚ, Passing, Point, Piece, checked_short, checked_cumulative, Route}
+use Rattle.nf_routes_laws.proofs.Common.{PrecedesOnRoute, begins_at, goes_over, last_entry, next_entry, begin_if, next_if, then_ok, entry, same_Ok}
+use Rattle.nf_routes_laws.proofs.Common.{not_both, compared, before_or_at}
 use Rattle.nf_routes_laws.proofs.Ordering.{In, in-front, in-back, in-either}
 use Rattle.nf_routes_laws.proofs.Stages.{nothing_before, over-at, begins-at, begins-place}
-use Rattle.nf_rational_laws.proofs.Naturals.{compared, before_or_at}
 
 -- exactly the first n of these links are in the prefix of the order
 pub record Stands (front links : List ℕ) (n : ℕ) : Type 0 where

@@ -1,9 +1,9 @@
 -- The travel along a route: the composition of its links' exits at each departure up to the horizon.
 use Rattle.std.proofs.Common.{◌≡◌, ◌≢◌, ℕ, List, [], ◌∷◌, ⊎_elim, Bool, true, false, Option, refl, sym, ap, subst, ◌∙◌, Ok, if◌then◌else◌}
-use Rattle.nf_routes_laws.proofs.Common.{ℚ, 0ℚ, 1ℚ, ◌+ℚ◌, ◌-ℚ◌, ◌*ℚ◌, ◌≤ℚ◌, ◌<ℚ◌, reading_of, eq, linear_eq, ≤ℚ_antisymm, lt_or_le_ℚ, Passing, Point, Within}
-use Rattle.nf_routes_laws.proofs.Common.{value, slope, IsCurve, IsShort, value-line, slope-times, is_zero, IsComposedOf, IsShortOf, then_ok, is_same_cases}
-use Rattle.nf_routes_laws.proofs.Common.{checked_short-is, departures, LoadedLink, Routed, exit_of, travel_on, link_loaded, exit_by, exits_along, ≤ℚ_refl}
-use Rattle.nf_model_laws.proofs.Affine.{same_from_times}
+use Rattle.nf_routes_laws.proofs.Common.{ℚ, 0ℚ, 1ℚ, ◌+ℚ◌, ◌-ℚ◌, ◌*ℚ◌, ◌≤ℚ◌, ◌<ℚ◌, reading_of, eq, linear_eq, ≤ℚ_antisymm, lt_or_le_ℚ, Passing, Point}
+use Rattle.nf_routes_laws.proofs.Common.{Within, value, slope, IsCurve, IsShort, value-line, slope-times, is_zero, IsComposedOf, IsShortOf, then_ok}
+use Rattle.nf_routes_laws.proofs.Common.{is_same_cases, checked_short-is, departures, LoadedLink, Routed, exit_of, travel_on, link_loaded, exit_by}
+use Rattle.nf_routes_laws.proofs.Common.{exits_along, ≤ℚ_refl, same_from_times}
 use Rattle.nf_curve_def.specs.Composed.{checked_composed}
 use Rattle.nf_curve_laws.proofs.Composed.{checked_composed-is}
 

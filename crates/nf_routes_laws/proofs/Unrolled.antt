@@ -1,15 +1,15 @@
 -- The steps of the links in the loading order, read off the result.
-use Rattle.std.proofs.Common.{◌≡◌, ◌≢◌, ℕ, zero, suc, ◌<◌, List, [], ◌∷◌, ◌++◌, length, ◌⊎◌, inl, inr, ⊎_elim, Bool, true, false, eqb, Option, Some, None, slice_get, unwrap_or, set, length-set, refl, sym, ap, subst, ◌∙◌, append_assoc, arith}
-use Rattle.nf_routes_laws.proofs.Common.{Ok, map, if◌then◌else◌, range_with_len, eqb_tells, length-map, append-nil, same_Some, slice_get_within, ℚ, 0ℚ, ◌≤ℚ◌}
-use Rattle.nf_routes_laws.proofs.Common.{◌<ℚ◌, max_ℚ, ≤ℚ_of_lt, ≤ℚ_of_same, Passing, Point, number_at, Link, Network, IsLink, Loaded, checked_loading}
-use Rattle.nf_routes_laws.proofs.Common.{last_value, Route, all_pairs, PrecedesOnRoute, first_free, with_next, order_from, LoadedLink, SoFar, Routed, exit_end, end_by}
-use Rattle.nf_routes_laws.proofs.Common.{begins_at, goes_over, last_entry, but_last, begin_if, begin_all, sum_from, next_if, next_all, next_entry, load_here}
-use Rattle.nf_routes_laws.proofs.Common.{load_all, end_or, loaded_or, link_loaded, stages_at, arrival_at, entry_at, then_ok, ≤ℚ_refl, ≤ℚ_trans, entry}
-use Rattle.nf_routes_laws.proofs.Common.{slice_get-image, same_Ok, not_both}
-use Rattle.nf_rational_laws.proofs.Tests.{max_ℚ_cases}
-use Rattle.nf_rational_laws.proofs.Entries.{set_same}
+use Rattle.std.proofs.Common.{◌≡◌, ◌≢◌, ℕ, zero, suc, ◌<◌, List, [], ◌∷◌, ◌++◌, length, ◌⊎◌, inl, inr, ⊎_elim, Bool, true, false, eqb, Option, Some, None}
+use Rattle.std.proofs.Common.{slice_get, unwrap_or, set, length-set, refl, sym, ap, subst, ◌∙◌, append_assoc, arith, Ok, map, if◌then◌else◌}
+use Rattle.nf_routes_laws.proofs.Common.{range_with_len, eqb_tells, length-map, append-nil, same_Some, slice_get_within, ℚ, 0ℚ, ◌≤ℚ◌, ◌<ℚ◌, max_ℚ, ≤ℚ_of_lt}
+use Rattle.nf_routes_laws.proofs.Common.{≤ℚ_of_same, Passing, Point, number_at, Link, Network, IsLink, Loaded, checked_loading, last_value, Route}
+use Rattle.nf_routes_laws.proofs.Common.{all_pairs, PrecedesOnRoute, first_free, with_next, order_from, LoadedLink, SoFar, Routed, exit_end, end_by}
+use Rattle.nf_routes_laws.proofs.Common.{begins_at, goes_over, last_entry, but_last, begin_if, begin_all, sum_from, next_if, next_all, next_entry}
+use Rattle.nf_routes_laws.proofs.Common.{load_here, load_all, end_or, loaded_or, link_loaded, stages_at, arrival_at, entry_at, then_ok, ≤ℚ_refl, ≤ℚ_trans}
+use Rattle.nf_routes_laws.proofs.Common.{entry, slice_get-image, same_Ok, not_both, max_ℚ_cases, set_same}
 use Rattle.nf_routes_laws.proofs.Ordering.{In, in-front, in-back, range-below, free-some, before-pair, before-of, placed}
-use Rattle.nf_routes_laws.proofs.Stages.{get-next, set-other, get-last, at-stage, exit_end-is, begun-count, begun-at, next-count, next-at, over-at, over-place}
+use Rattle.nf_routes_laws.proofs.Stages.{get-next, set-other, get-last, at-stage, exit_end-is, begun-count, begun-at, next-count, next-at, over-at}
+use Rattle.nf_routes_laws.proofs.Stages.{over-place}
 use Rattle.nf_routes_laws.proofs.Steps.{Stands, stage, stands-none, place-is, stands-over, stands-past, IsEntryOf, Over, over-is, past-is}
 use Rattle.nf_net_laws.proofs.WalkFacts.{slice_get-left}
 

@@ -1,11 +1,11 @@
 -- The loading of all links, one after the other, as the list has it.
-use Rattle.std.proofs.Common.{◌≡◌, ℕ, zero, suc, ◌+◌, ◌≤◌, List, [], ◌∷◌, ◌++◌, length, take, drop, sym, ap, subst, ◌∙◌, arith}
-use Rattle.nf_rational_laws.proofs.Entries.{drop_next}
-use Rattle.nf_routes_links.proofs.Common.{Option, Some, Ok, Err, slice_get, drop_all, take_all, take-append-drop, ℚ, 0ℚ, ◌≤ℚ◌, Halt, Load, PassedAt, Passing}
-use Rattle.nf_routes_links.proofs.Common.{Checked, Stops, at_part, ◌>>=◌, Link, Network, IsLink, IsNetwork, after_err, was_ok, stops_on, err_before, ok_before}
-use Rattle.nf_routes_links.proofs.Common.{SoFar, load_here, IsPlaced, order_placed, nothing_loaded, nothing_sent, all_loaded, MayLoad, IsFullyLoaded, kept_after}
-use Rattle.nf_routes_links.proofs.Common.{load_kept, all_kept, Kept}
-use Rattle.nf_routes_def.specs.Routes.{Route, AreRoutes, HoldCircle, all_pairs, loading_order}
+use Rattle.std.proofs.Common.{◌≡◌, ℕ, zero, suc, ◌+◌, ◌≤◌, List, [], ◌∷◌, ◌++◌, length, take, drop, sym, ap, subst, ◌∙◌, arith, Option, Some, Ok, Err}
+use Rattle.std.proofs.Common.{slice_get}
+use Rattle.nf_routes_links.proofs.Common.{drop_next, drop_all, take_all, take-append-drop, ℚ, 0ℚ, ◌≤ℚ◌, Halt, Load, PassedAt, Passing, Checked, Stops}
+use Rattle.nf_routes_links.proofs.Common.{at_part, ◌>>=◌, Link, Network, IsLink, IsNetwork, after_err, was_ok, stops_on, err_before, ok_before, SoFar}
+use Rattle.nf_routes_links.proofs.Common.{load_here, IsPlaced, order_placed, nothing_loaded, nothing_sent, all_loaded, MayLoad, IsFullyLoaded, kept_after}
+use Rattle.nf_routes_links.proofs.Common.{load_kept, all_kept, Kept, Route, AreRoutes, HoldCircle, all_pairs}
+use Rattle.nf_routes_def.specs.Routes.{loading_order}
 use Rattle.nf_routes_laws.proofs.Ordering.{takes_all-straight}
 use Rattle.nf_routes_links.proofs.Alone.{stands_kept, all_kept-is}
 use Rattle.nf_routes_links.proofs.Stands.{Stands, stands_first, may_load, steps_of, stands_next, stands_last, all_taken}

@@ -1,10 +1,11 @@
 -- The last entry of each route alone: the loading goes on as with all entries.
-use Rattle.std.proofs.Common.{◌≡◌, ℕ, zero, suc, ◌+◌, ◌<◌, ◌≤◌, List, [], ◌∷◌, ◌++◌, length, map, take, drop, set, Bool, true, false, refl, sym, ap, ◌∙◌, append-nil, arith}
+use Rattle.std.proofs.Common.{◌≡◌, ℕ, zero, suc, ◌+◌, ◌<◌, ◌≤◌, List, [], ◌∷◌, ◌++◌, length, map, take, drop, set, Bool, true, false, refl, sym, ap, ◌∙◌}
+use Rattle.std.proofs.Common.{append-nil, arith, Option, Some, None, Ok, Err, slice_get}
+use Rattle.nf_routes_links.proofs.Common.{AllByRecursion, drop_all, take_all, ℚ, 0ℚ, Passing, Checked, ◌>>=◌, Point, Link, Network, Loaded, checked_loading}
+use Rattle.nf_routes_links.proofs.Common.{Route, all_pairs, loading_order, SoFar, begins_at, goes_over, last_entry, end_by, next_entry, begin_if, begin_all}
+use Rattle.nf_routes_links.proofs.Common.{add_if, sum_from, next_if, next_all, load_here, load_all, IsAmountCurve, nothing_loaded, nothing_sent, all_loaded}
+use Rattle.nf_routes_links.proofs.Common.{ForEachRoute, last_alone, keeping_last, kept_after, load_kept, all_kept, Kept}
 use Rattle.nf_frac_def.proofs.Binding.{bind_same}
-use Rattle.nf_routes_links.proofs.Common.{Option, Some, None, Ok, Err, slice_get, AllByRecursion, drop_all, take_all, ℚ, 0ℚ, Passing, Checked, ◌>>=◌, Point}
-use Rattle.nf_routes_links.proofs.Common.{Link, Network, Loaded, checked_loading, Route, all_pairs, loading_order, SoFar, begins_at, goes_over, last_entry}
-use Rattle.nf_routes_links.proofs.Common.{end_by, next_entry, begin_if, begin_all, add_if, sum_from, next_if, next_all, load_here, load_all, IsAmountCurve}
-use Rattle.nf_routes_links.proofs.Common.{nothing_loaded, nothing_sent, all_loaded, ForEachRoute, last_alone, keeping_last, kept_after, load_kept, all_kept, Kept}
 use Rattle.nf_routes_links.specs.declared.keeping.Kept.TheVariants.{Every, Last}
 use Rattle.nf_routes_links.proofs.Lists.{last_push}
 use Rattle.nf_routes_links.proofs.Passed.{chain}

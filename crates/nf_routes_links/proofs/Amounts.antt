@@ -1,17 +1,16 @@
 -- Amounts: brought into short form, summed up, and what pieces supply. Exits: those of a link's loading.
 use Rattle.std.proofs.Common.{◌≡◌, List, [], ◌∷◌, Option, refl, sym, subst, ◌∙◌, Ok}
 use Rattle.nf_routes_links.proofs.Common.{ℚ, 0ℚ, ◌+ℚ◌, ◌≤ℚ◌, ≤ℚ_refl, ≤ℚ_trans, Passing, Point, value, IsCurve, NeverFalls, Piece, NeverFalls-value}
-use Rattle.nf_routes_links.proofs.Common.{checked_sum, checked_short-is, Loaded, checked_loading, IsAmountCurve, AreExits}
+use Rattle.nf_routes_links.proofs.Common.{checked_sum, checked_short-is, Loaded, checked_loading, IsAmountCurve, AreExits, IsShortOf, IsSumOf}
+use Rattle.nf_routes_links.proofs.Common.{follows-values_rise}
 use Rattle.nf_rational_laws.proofs.Polynomial.{reading_of}
 use Rattle.nf_rational_laws.proofs.Linear.{le, linear_le}
 use Rattle.nf_model_laws.specs.Capacity.{IsPositive}
 use Rattle.nf_model_laws.proofs.Queues.{IsExit-after, IsExit-monotone}
-use Rattle.nf_curve_def.specs.Meanings.{IsShortOf, IsSumOf}
 use Rattle.nf_curve_laws.proofs.Following.{FollowsFrom}
 use Rattle.nf_curve_laws.proofs.Values.{follows-curve, follows-values}
 use Rattle.nf_curve_laws.proofs.Sums.{checked_sum-is}
 use Rattle.nf_load_def.specs.Meanings.{IsCumulative}
-use Rattle.nf_load_laws.proofs.Cumulative.{follows-values_rise}
 use Rattle.nf_load_laws.proofs.Functions.{exit_at, exit_at-is}
 use Rattle.nf_load_laws.proofs.Loading.{ExitPoints, exit_points}
 use Rattle.nf_routes_laws.proofs.Entries.{rises-same}

@@ -1,9 +1,9 @@
 -- A step for each route with what it has sent, one route after the other.
-use Rattle.std.proofs.Common.{◌≡◌, ℕ, zero, suc, ◌+◌, ◌<◌, ◌≤◌, List, [], ◌∷◌, ◌++◌, length, take, drop, set, refl, sym, ap, subst, ◌∙◌, append_assoc, append-nil, arith}
-use Rattle.nf_rational_laws.proofs.Entries.{drop_next}
-use Rattle.nf_routes_links.proofs.Common.{Some, Ok, Err, slice_get, take_more_set, drop-set-lt, drop-drop, drop_all, take_all, length-set, ℚ, Halt, Load}
-use Rattle.nf_routes_links.proofs.Common.{Passing, Checked, Stops, at_part, ◌>>=◌, with_front, Point, Route, begins_at, goes_over, last_entry, begin_if}
-use Rattle.nf_routes_links.proofs.Common.{begin_all, add_if, sum_from, next_if, next_all, after_err, was_ok, front_none, front_err, stops_on, ForEachRoute}
+use Rattle.std.proofs.Common.{◌≡◌, ℕ, zero, suc, ◌+◌, ◌<◌, ◌≤◌, List, [], ◌∷◌, ◌++◌, length, take, drop, set, refl, sym, ap, subst, ◌∙◌, append_assoc}
+use Rattle.std.proofs.Common.{append-nil, arith, Some, Ok, Err, slice_get}
+use Rattle.nf_routes_links.proofs.Common.{drop_next, take_more_set, drop-set-lt, drop-drop, drop_all, take_all, length-set, ℚ, Halt, Load, Passing, Checked}
+use Rattle.nf_routes_links.proofs.Common.{Stops, at_part, ◌>>=◌, with_front, Point, Route, begins_at, goes_over, last_entry, begin_if, begin_all, add_if}
+use Rattle.nf_routes_links.proofs.Common.{sum_from, next_if, next_all, after_err, was_ok, front_none, front_err, stops_on, ForEachRoute}
 
 abbrev pub Sent : Type 0
 Sent = List (List Point)

@@ -1,9 +1,9 @@
 -- The end of a link, worked out pair by pair.
 use Rattle.std.proofs.Common.{◌≡◌, ℕ, zero, suc, ◌+◌, ◌-◌, ◌<◌, ◌≤◌, List, [], ◌∷◌, ◌++◌, length, drop, Bool, true, false, eqb, refl, sym, ap, ◌∙◌, arith}
-use Rattle.nf_routes_links.proofs.Common.{Option, Some, if◌then◌else◌, slice_get, none-some, same_Some, ℚ, ◌≤ℚ◌, max_ℚ, ≤ℚ_antisymm, ≤ℚ_refl, ≤ℚ_trans, Point}
-use Rattle.nf_routes_links.proofs.Common.{last_value, pairs_of, all_pairs, NamedRoute, routes_of, LoadedLink, exit_end, end_by}
+use Rattle.std.proofs.Common.{Option, Some, if◌then◌else◌, slice_get}
+use Rattle.nf_routes_links.proofs.Common.{none-some, same_Some, ℚ, ◌≤ℚ◌, max_ℚ, ≤ℚ_antisymm, ≤ℚ_refl, ≤ℚ_trans, Point, last_value, pairs_of, all_pairs}
+use Rattle.nf_routes_links.proofs.Common.{NamedRoute, routes_of, LoadedLink, exit_end, end_by, pairs_at, pairs_none, all_pairs_at}
 use Rattle.nf_rational_laws.proofs.Extremes.{max_left, max_right, max_keeps}
-use Rattle.nf_routes_read.proofs.Pairs.{pairs_at, pairs_none, all_pairs_at}
 
 max_least : (x y z : ℚ) → x ≤ℚ z → y ≤ℚ z → max_ℚ x y ≤ℚ z
 max_least x y z h k = max_keeps (λ (a : ℚ). a ≤ℚ z) x y h k

@@ -1,8 +1,9 @@
 -- The loading of a link, step by step, as the list has it.
 use Rattle.std.proofs.Common.{◌≡◌, ℕ, List, [], ◌∷◌, set, sym, ◌∙◌, Some, Ok, Err}
 use Rattle.nf_routes_links.proofs.Common.{ℚ, 0ℚ, ◌≤ℚ◌, ≤ℚ_trans, PassedAt, Load, Passing, Checked, at_part, ◌>>=◌, Point, Link, Network, IsLink, IsNetwork}
-use Rattle.nf_routes_links.proofs.Common.{IsPositive-link, Loaded, checked_loading, after_err, after_ok, was_ok, Route, all_pairs, SoFar, begins_at, begin_if}
-use Rattle.nf_routes_links.proofs.Common.{end_by, begin_all, sum_from, next_all, load_here, IsAmountCurve, AreExits, ForEachRoute, MayBegin, Sends, MayLoad}
+use Rattle.nf_routes_links.proofs.Common.{IsPositive-link, Loaded, checked_loading, after_err, after_ok, was_ok, Route, all_pairs, SoFar, begins_at}
+use Rattle.nf_routes_links.proofs.Common.{begin_if, end_by, begin_all, sum_from, next_all, load_here, IsAmountCurve, AreExits, ForEachRoute, MayBegin}
+use Rattle.nf_routes_links.proofs.Common.{Sends, MayLoad}
 use Rattle.nf_routes_links.proofs.Amounts.{no_amount, loaded_exits}
 use Rattle.nf_routes_links.proofs.Greatest.{end-least}
 use Rattle.nf_routes_links.proofs.Folds.{Sent, begin_all-is, steps_keep}

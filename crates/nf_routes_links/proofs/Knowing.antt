@@ -1,13 +1,11 @@
 -- Values that are those of points are known.
-use Rattle.std.proofs.Common.{◌≡◌, ℕ, zero, suc, List, [], ◌∷◌, map, Bool, refl, sym, ap, subst, ◌∙◌}
-use Rattle.nf_curve_laws.proofs.Operations.{not_same}
+use Rattle.std.proofs.Common.{◌≡◌, ℕ, zero, suc, List, [], ◌∷◌, map, Bool, refl, sym, ap, subst, ◌∙◌, Some, Ok, slice_get, if◌then◌else◌}
+use Rattle.nf_routes_links.proofs.Common.{not_same, ℚ, ◌≤ℚ◌, lt_ℚ, same_Ok, Passing, passes_Q, Checked, each, ◌>>=◌, Point, TimesRise, IsCurve, sides_at}
+use Rattle.nf_routes_links.proofs.Common.{both_times, then_ok, AreKnown, AreThere, right_point, checked_line}
 use Rattle.nf_curve.proofs.Placing.{first-least}
-use Rattle.nf_routes_links.proofs.Common.{Some, Ok, slice_get, if◌then◌else◌, ℚ, ◌≤ℚ◌, lt_ℚ, same_Ok}
-use Rattle.nf_routes_links.proofs.Common.{Passing, passes_Q, Checked, each, ◌>>=◌, Point, TimesRise, IsCurve, sides_at, both_times, then_ok}
-use Rattle.nf_routes_links.proofs.Common.{AreKnown, AreThere, right_point}
 use Rattle.nf_rational_laws.proofs.Tests.{test_of_not_less}
 use Rattle.nf_model_laws.proofs.Affine.{<_≤_trans}
-use Rattle.nf_curve_def.specs.Lines.{Sides, checked_line}
+use Rattle.nf_curve_def.specs.Lines.{Sides}
 use Rattle.nf_curve_def.specs.Values.{value_from, checked_value}
 use Rattle.nf_rational_laws.proofs.SignTests.{is_same-itself}
 

@@ -1,7 +1,7 @@
 -- Travels of routes over the same links: each is that of the first of them.
-use Rattle.std.proofs.Common.{◌≡◌, ◌⊎◌, inl, inr, ⊎_elim, ℕ, zero, suc, ◌+◌, ◌≤◌, List, [], ◌∷◌, ◌++◌, length, drop, refl, sym, ap, subst, ◌∙◌}
-use Rattle.nf_rational_laws.proofs.Entries.{drop_next}
-use Rattle.nf_routes_links.proofs.Common.{Some, Ok, slice_get, drop_all, length_push, ℚ, Halt, Load, passes_Q, Checked, Stops, each, at_part, with_front, Point}
+use Rattle.std.proofs.Common.{◌≡◌, ◌⊎◌, inl, inr, ⊎_elim, ℕ, zero, suc, ◌+◌, ◌≤◌, List, [], ◌∷◌, ◌++◌, length, drop, refl, sym, ap, subst, ◌∙◌, Some, Ok}
+use Rattle.std.proofs.Common.{slice_get}
+use Rattle.nf_routes_links.proofs.Common.{drop_next, drop_all, length_push, ℚ, Halt, Load, passes_Q, Checked, Stops, each, at_part, with_front, Point}
 use Rattle.nf_routes_links.proofs.Common.{Loaded, departures, each_goes, each_stops, each_ends, front_none, stops_on, was_ok, Route, NamedRoute, routes_of}
 use Rattle.nf_routes_links.proofs.Common.{links_of, links_at, travel_along, AreTravels}
 

@@ -2,13 +2,12 @@
 use Rattle.std.proofs.Common.{◌≡◌, List, [], ◌∷◌, ⊎_elim, Bool, true, false, refl, sym, ap, subst, ◌∙◌, Result, Ok, Err, IfOk}
 use Rattle.nf_routes_links.proofs.Common.{ℚ, 0ℚ, ◌≤ℚ◌, ◌<ℚ◌, ≤ℚ_of_lt, ≤ℚ_antisymm, lt_or_le_ℚ, ≤ℚ_refl, ≤ℚ_trans, Halt, PassedAt, Load, Passing, Checked}
 use Rattle.nf_routes_links.proofs.Common.{Gives, at_part, each, Point, value, TimesRise, IsCurve, value-first, NeverFalls-value, is_same, checked_short}
-use Rattle.nf_routes_links.proofs.Common.{both_times, sides_at, then_ok, is_same_cases, checked_short-is, after_err, after_ok, was_ok, same_Ok, IsAmountCurve}
-use Rattle.nf_routes_links.proofs.Common.{AreExits}
-use Rattle.nf_model_laws.specs.CurveLaws.{ValuesRise}
+use Rattle.nf_routes_links.proofs.Common.{both_times, sides_at, then_ok, is_same_cases, checked_short-is, after_err, after_ok, was_ok, same_Ok}
+use Rattle.nf_routes_links.proofs.Common.{IsAmountCurve, AreExits, ValuesRise, next_from}
 use Rattle.nf_curve_def.specs.Lines.{Sides}
 use Rattle.nf_curve_laws.proofs.Times.{NextOnes, both_times-next}
 use Rattle.nf_curve_laws.proofs.Pieces.{AreSides, sides_at-is}
-use Rattle.nf_routes_def.specs.RoutesList.{next_from, next_entry}
+use Rattle.nf_routes_def.specs.RoutesList.{next_entry}
 use Rattle.nf_routes_links.proofs.Amounts.{short_amount}
 
 strictly : (x y : ℚ) → x ≤ℚ y → (x ≡ y → ⊥) → x <ℚ y

@@ -1,11 +1,10 @@
 -- What holds of a route and what it has sent, from link to link.
-use Rattle.std.proofs.Common.{◌≡◌, ◌≢◌, ℕ, zero, suc, ◌<◌, List, [], ◌∷◌, ◌++◌, length, ⊎_elim, Bool, true, false, not, ◌||◌, eqb, refl, sym, ap, subst, ◌∙◌, arith}
-use Rattle.nf_routes_links.proofs.Common.{Ok, Some, slice_get, AllByRecursion, list_all, eqb_tells, ℚ, 0ℚ, ◌≤ℚ◌, Passing, Point, ArePieces, checked_short}
-use Rattle.nf_routes_links.proofs.Common.{then_ok, checked_short-is, checked_cumulative, same_Ok, not_both, or_rest, Route, pairs_of, all_pairs, is_taken}
-use Rattle.nf_routes_links.proofs.Common.{begins_at, goes_over, last_entry, next_entry, begin_if, add_if, sum_from, next_if, taken-push, IsAmountCurve, AreExits}
-use Rattle.nf_routes_links.proofs.Common.{nothing_sent, HavePieces, ForEachRoute, MayBegin, Sends}
-use Rattle.nf_load_laws.proofs.Cumulative.{checked_cumulative-is}
-use Rattle.nf_routes_read.proofs.Pairs.{test}
+use Rattle.std.proofs.Common.{◌≡◌, ◌≢◌, ℕ, zero, suc, ◌<◌, List, [], ◌∷◌, ◌++◌, length, ⊎_elim, Bool, true, false, not, ◌||◌, eqb, refl, sym, ap, subst}
+use Rattle.std.proofs.Common.{◌∙◌, arith, Ok, Some, slice_get}
+use Rattle.nf_routes_links.proofs.Common.{AllByRecursion, list_all, eqb_tells, ℚ, 0ℚ, ◌≤ℚ◌, Passing, Point, ArePieces, checked_short, then_ok}
+use Rattle.nf_routes_links.proofs.Common.{checked_short-is, checked_cumulative, same_Ok, not_both, or_rest, Route, pairs_of, all_pairs, is_taken, begins_at}
+use Rattle.nf_routes_links.proofs.Common.{goes_over, last_entry, next_entry, begin_if, add_if, sum_from, next_if, taken-push, IsAmountCurve, AreExits}
+use Rattle.nf_routes_links.proofs.Common.{nothing_sent, HavePieces, ForEachRoute, MayBegin, Sends, checked_cumulative-is, test}
 use Rattle.nf_routes_links.proofs.Amounts.{short_amount, summed_amount, supplied_amount}
 use Rattle.nf_routes_links.proofs.Sharing.{next_amount}
 use Rattle.nf_routes_links.proofs.Folds.{Sent}

@@ -1,13 +1,13 @@
 -- What holds of what is loaded so far, from link to link.
-use Rattle.std.proofs.Common.{◌≡◌, ◌≢◌, ℕ, zero, suc, ◌+◌, ◌<◌, ◌≤◌, List, [], ◌∷◌, ◌++◌, length, set, ⊎_elim, Bool, true, false, eqb, ◌&&◌, ◌||◌, refl, sym, ap, subst, ◌∙◌, arith}
-use Rattle.nf_rational_laws.proofs.Entries.{set_same}
-use Rattle.nf_routes_links.proofs.Common.{Option, Some, None, Ok, slice_get, list_all, range_with_len, length-set, length-map, slice_get_within, eqb_tells, ℚ}
-use Rattle.nf_routes_links.proofs.Common.{0ℚ, ◌≤ℚ◌, ≤ℚ_trans, Passing, Point, Link, Network, IsLink, IsNetwork, hops, IsPositive-link, then_ok, Loaded}
-use Rattle.nf_routes_links.proofs.Common.{checked_loading, same_Ok, or_rest, LoadedLink, SoFar, begins_at, goes_over, end_by, begin_if, begin_all, sum_from}
-use Rattle.nf_routes_links.proofs.Common.{next_if, next_all, load_here, taken-push, IsPlaced, IsAmountCurve, AreExits, nothing_loaded, nothing_sent, ForEachRoute, MayBegin}
-use Rattle.nf_routes_links.proofs.Common.{Sends, MayLoad, IsFullyLoaded}
+use Rattle.std.proofs.Common.{◌≡◌, ◌≢◌, ℕ, zero, suc, ◌+◌, ◌<◌, ◌≤◌, List, [], ◌∷◌, ◌++◌, length, set, ⊎_elim, Bool, true, false, eqb, ◌&&◌, ◌||◌, refl}
+use Rattle.std.proofs.Common.{sym, ap, subst, ◌∙◌, arith, Option, Some, None, Ok, slice_get}
+use Rattle.nf_routes_links.proofs.Common.{set_same, list_all, range_with_len, length-set, length-map, slice_get_within, eqb_tells, ℚ, 0ℚ, ◌≤ℚ◌, ≤ℚ_trans}
+use Rattle.nf_routes_links.proofs.Common.{Passing, Point, Link, Network, IsLink, IsNetwork, hops, IsPositive-link, then_ok, Loaded, checked_loading}
+use Rattle.nf_routes_links.proofs.Common.{same_Ok, or_rest, LoadedLink, SoFar, begins_at, goes_over, end_by, begin_if, begin_all, sum_from, next_if}
+use Rattle.nf_routes_links.proofs.Common.{next_all, load_here, taken-push, IsPlaced, IsAmountCurve, AreExits, nothing_loaded, nothing_sent, ForEachRoute}
+use Rattle.nf_routes_links.proofs.Common.{MayBegin, Sends, MayLoad, IsFullyLoaded, Route, AreRoutes, all_pairs, is_taken, loading_order}
 use Rattle.nf_model.specs.Walk.{IsWalk}
-use Rattle.nf_routes_def.specs.Routes.{Route, AreRoutes, all_pairs, is_taken, loading_order, takes_all}
+use Rattle.nf_routes_def.specs.Routes.{takes_all}
 use Rattle.nf_routes_links.proofs.Amounts.{no_amount, loaded_exits}
 use Rattle.nf_routes_links.proofs.Greatest.{end-least}
 use Rattle.nf_routes_links.proofs.Folds.{Sent, begin_all-is, next_all-is, steps_keep, along_as}

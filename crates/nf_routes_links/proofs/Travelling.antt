@@ -1,14 +1,12 @@
 -- Travels over loaded links: by what is loaded, and that no time of them is negative.
-use Rattle.std.proofs.Common.{◌≡◌, ℕ, zero, suc, ◌+◌, ◌≤◌, List, [], ◌∷◌, length, drop, ⊎_elim, Bool, true, false, refl, sym, ap, subst, ◌∙◌, arith}
-use Rattle.nf_rational_laws.proofs.Entries.{drop_next}
-use Rattle.nf_routes_links.proofs.Common.{Option, Some, None, Ok, Err, map, slice_get, unwrap_or, if◌then◌else◌, drop_all, length-map, slice_get_within, ℚ, 0ℚ}
-use Rattle.nf_routes_links.proofs.Common.{◌≤ℚ◌, ≤ℚ_refl, ≤ℚ_trans, Halt, Load, Passing, Checked, Stops, at_part, each, ◌>>=◌, Point, Within, value, IsCurve}
-use Rattle.nf_routes_links.proofs.Common.{Network, NeverFalls-value, value-first, is_zero, is_same_cases, Loaded, loaded_at, departures, after_err, was_ok}
-use Rattle.nf_routes_links.proofs.Common.{stops_on, Route, AreRoutes, LoadedLink, SoFar, exit_of, loaded_or, travel_on, AreExits, IsFullyLoaded, HaveExits}
-use Rattle.nf_routes_links.proofs.Common.{GoOverAll, travel_along}
-use Rattle.nf_model_laws.specs.CurveLaws.{ValuesRise}
+use Rattle.std.proofs.Common.{◌≡◌, ℕ, zero, suc, ◌+◌, ◌≤◌, List, [], ◌∷◌, length, drop, ⊎_elim, Bool, true, false, refl, sym, ap, subst, ◌∙◌, arith, Option}
+use Rattle.std.proofs.Common.{Some, None, Ok, Err, map, slice_get, unwrap_or, if◌then◌else◌}
+use Rattle.nf_routes_links.proofs.Common.{drop_next, drop_all, length-map, slice_get_within, ℚ, 0ℚ, ◌≤ℚ◌, ≤ℚ_refl, ≤ℚ_trans, Halt, Load, Passing, Checked}
+use Rattle.nf_routes_links.proofs.Common.{Stops, at_part, each, ◌>>=◌, Point, Within, value, IsCurve, Network, NeverFalls-value, value-first, is_zero}
+use Rattle.nf_routes_links.proofs.Common.{is_same_cases, Loaded, loaded_at, departures, after_err, was_ok, stops_on, Route, AreRoutes, LoadedLink, SoFar}
+use Rattle.nf_routes_links.proofs.Common.{exit_of, loaded_or, travel_on, AreExits, IsFullyLoaded, HaveExits, GoOverAll, travel_along, ValuesRise}
+use Rattle.nf_routes_links.proofs.Common.{IsComposedOf}
 use Rattle.nf_curve_def.specs.Composed.{checked_composed}
-use Rattle.nf_curve_def.specs.Meanings.{IsComposedOf}
 use Rattle.nf_curve.proofs.Points.{positive}
 use Rattle.nf_routes_laws.proofs.Arriving.{walk-links}
 

@@ -1,15 +1,9 @@
 -- The meaning of reading a text by the loading order.
 use Rattle.std.proofs.Common.{◌≡◌, ℕ, List, Result, Ok, Err, MatchResult, IfOk, IfErr, subst}
-use Rattle.nf_net_def.specs.Named.{Named}
+use Rattle.nf_routes_read.proofs.Common.{Named, broken_more, RoutesRule, G17, AreWalks, RoutesBroken, NamedRoute, routes_of, HoldsCircleIn, ReadsRoutes}
+use Rattle.nf_routes_read.proofs.Common.{routes_in, KeepRules, decided, circle_there, read_kept, read_walks}
 use Rattle.nf_text.specs.declared.fault.FileFault.{FileFault}
 use Rattle.nf_side.specs.Faults.{IfBroken}
-use Rattle.nf_side.proofs.Frame.{broken_more}
-use Rattle.nf_routes_def.specs.declared.RoutesRule.{RoutesRule}
-use Rattle.nf_routes_def.specs.declared.RoutesRule.TheVariants.{G17}
-use Rattle.nf_routes_def.specs.Routes.{AreWalks}
-use Rattle.nf_routes_def.specs.RoutesFile.{RoutesBroken, NamedRoute, routes_of, HoldsCircleIn, ReadsRoutes, routes_in}
-use Rattle.nf_routes_def.specs.Kept.{KeepRules}
-use Rattle.nf_routes_laws.proofs.FileReading.{decided, circle_there, read_kept, read_walks}
 use Rattle.nf_routes_read.specs.declared.routes.Routes.{Routes}
 
 abbrev Gives : Named → List ℕ → Result Routes (FileFault RoutesRule) → Type 0

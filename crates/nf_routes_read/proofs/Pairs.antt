@@ -1,10 +1,7 @@
 -- Pairs of consecutive links, from an index of a route on and from a route on.
-use Rattle.std.proofs.Common.{◌≡◌, ℕ, zero, suc, ◌+◌, ◌-◌, ◌<◌, ◌≤◌, not, ◌||◌, eqb, List, [], ◌∷◌, ◌++◌, length, drop, Bool, true, false, ◌&&◌, refl, sym, ap, ◌∙◌, arith}
-use Rattle.std.specs.Prelude.{Some, slice_get}
-use Rattle.std.specs.List.{list_all}
-use Rattle.nf_routes_def.specs.Routes.{pairs_of, all_pairs, is_taken}
-use Rattle.nf_routes_def.specs.RoutesFile.{NamedRoute, routes_of}
-use Rattle.std.proofs.lemmas.Bool.{or_right}
+use Rattle.std.proofs.Common.{◌≡◌, ℕ, zero, suc, ◌+◌, ◌-◌, ◌<◌, ◌≤◌, not, ◌||◌, eqb, List, [], ◌∷◌, ◌++◌, length, drop, Bool, true, false, ◌&&◌, refl, sym}
+use Rattle.std.proofs.Common.{ap, ◌∙◌, arith, Some, slice_get}
+use Rattle.nf_routes_read.proofs.Common.{list_all, pairs_of, all_pairs, is_taken, NamedRoute, routes_of, or_right}
 use Rattle.nf_rational_laws.proofs.Results.{not_or}
 
 pub pairs_at : (links : List ℕ) (i : ℕ) (e f : ℕ) → slice_get links i ≡ Some e → slice_get links (suc i) ≡ Some f → pairs_of (drop i links) ≡ (e, f) ∷ pairs_of (drop (suc i) links)

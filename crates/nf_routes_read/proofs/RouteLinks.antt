@@ -1,15 +1,9 @@
 -- Links that words name, one after the other, and walks along them.
-use Rattle.std.proofs.Common.{◌≡◌, ℕ, ◌+◌, ◌<◌, ◌≤◌, Bool, true, false, not, ◌&&◌, eqb, List, [], ◌∷◌, ◌++◌, length, drop, map, get_or, Option, Some, All, slice_get, refl, sym, ap, ◌∙◌}
-use Rattle.std.specs.List.{list_all}
-use Rattle.std.proofs.lemmas.List.{drop_more, at_drop_all, at_drop_more, append_assoc, append-nil}
+use Rattle.std.proofs.Common.{◌≡◌, ℕ, ◌+◌, ◌<◌, ◌≤◌, Bool, true, false, not, ◌&&◌, eqb, List, [], ◌∷◌, ◌++◌, length, drop, map, get_or, Option, Some, All}
+use Rattle.std.proofs.Common.{slice_get, refl, sym, ap, ◌∙◌}
+use Rattle.nf_routes_read.proofs.Common.{list_all, drop_more, at_drop_all, at_drop_more, append_assoc, append-nil, unwrap_or-slice_get, Link, Name}
+use Rattle.nf_routes_read.proofs.Common.{has_name, place_of, word_at, IsNameAt, is_walk, tail_is, head_of, AreLinksOf}
 use Rattle.std.proofs.lemmas.List.Elements.{All-push}
-use Rattle.std.proofs.lemmas.Option.{unwrap_or-slice_get}
-use Rattle.nf_model.specs.Network.{Link}
-use Rattle.nf_net_def.specs.Names.{Name, has_name, place_of}
-use Rattle.nf_text.specs.Within.{word_at}
-use Rattle.nf_side.specs.NameAt.{IsNameAt}
-use Rattle.nf_routes_def.specs.RoutesFile.{is_walk, tail_is, head_of}
-use Rattle.nf_routes_read.specs.Entries.{AreLinksOf}
 
 drop_word : (words : List (List ℕ)) (place : ℕ) → place < length words → drop place words ≡ word_at words place ∷ drop (place + 1) words
 drop_word words place lt = drop_more words place [] lt ∙ ap (λ (w : List ℕ). w ∷ drop (place + 1) words) (sym (unwrap_or-slice_get words place []))

@@ -1,17 +1,13 @@
 -- Routes by their names.
-use Rattle.std.proofs.Common.{◌≡◌, ℕ, zero, suc, ◌+◌, ◌<◌, Bool, true, false, not, ◌||◌, cond, List, [], ◌∷◌, length, get_or, Option, Some, None, slice_get, unwrap_or, position, refl, sym, ap, ◌∙◌, arith, bytes_eq}
-use Rattle.std.specs.List.{position_or_len}
+use Rattle.std.proofs.Common.{◌≡◌, ℕ, zero, suc, ◌+◌, ◌<◌, Bool, true, false, not, ◌||◌, cond, List, [], ◌∷◌, length, get_or, Option, Some, None, slice_get}
+use Rattle.std.proofs.Common.{unwrap_or, position, refl, sym, ap, ◌∙◌, arith, bytes_eq}
+use Rattle.nf_routes_read.proofs.Common.{position_or_len, length-map, slice_get-get_or, slice_get-image, Name, is_name, has_name, place_of, name_at}
+use Rattle.nf_routes_read.proofs.Common.{IsNameAt, NamedRoute, route_names}
 use Rattle.std.specs.Str.{IsUtf8}
-use Rattle.std.proofs.lemmas.List.{length-map}
 use Rattle.std.proofs.lemmas.List.Quantifiers.{position-Some}
-use Rattle.std.proofs.lemmas.Option.{slice_get-get_or}
 use Rattle.nf_text.proofs.Positions.{unwrap_or_position}
-use Rattle.nf_rational_laws.proofs.Entries.{slice_get-image}
-use Rattle.nf_net_def.specs.Names.{Name, is_name, has_name, place_of, name_at}
 use Rattle.nf_net_laws.proofs.NameFacts.{same_names, has_at}
 use Rattle.nf_net_file.proofs.NameText.{name_is_text}
-use Rattle.nf_side.specs.NameAt.{IsNameAt}
-use Rattle.nf_routes_def.specs.RoutesFile.{NamedRoute, route_names}
 
 -- what isn't text is no name
 pub no_name_text : (word : List ℕ) → (IsUtf8 word → ⊥) → is_name word ≡ false

@@ -1,13 +1,10 @@
 -- The change of the parser state by a line.
 use Rattle.std.proofs.Common.{◌≡◌, ℕ, Bool, false, cond, List, [], Result, Err, sym, ap, ◌∙◌}
-use Rattle.nf_frac_def.specs.Checked.{◌>>=◌}
-use Rattle.nf_net_def.specs.Named.{Named}
+use Rattle.nf_routes_read.proofs.Common.{◌>>=◌, Named, RoutesRule, G4, NamedRoute, RoutesEntry, RoutesDraft, route_names, routes_entry, routes_rule_of}
+use Rattle.nf_routes_read.proofs.Common.{routes_after, add_route_line}
 use Rattle.nf_side_def.specs.Lines.{unless_rule}
 use Rattle.nf_text.specs.declared.fault.LineFault.{LineFault}
 use Rattle.nf_text.specs.Faults.{IfRule}
-use Rattle.nf_routes_def.specs.declared.RoutesRule.{RoutesRule}
-use Rattle.nf_routes_def.specs.declared.RoutesRule.TheVariants.{G4}
-use Rattle.nf_routes_def.specs.RoutesFile.{NamedRoute, RoutesEntry, RoutesDraft, route_names, routes_entry, routes_rule_of, routes_after, add_route_line}
 
 -- ---- a line that changes nothing
 module _ (n : Named) (draft : RoutesDraft) (words : List (List ℕ)) (routes : List NamedRoute) where

@@ -1,13 +1,8 @@
 -- The words of a line, by their number.
-use Rattle.std.proofs.Common.{◌≡◌, ℕ, ◌<◌, ◌≤◌, Bool, true, false, not, cond, List, [], ◌∷◌, length, drop, map, Result, Ok, Err, refl, sym, ◌∙◌, ap, arith, bytes_eq, codes}
-use Rattle.std.specs.List.{list_all}
-use Rattle.std.proofs.lemmas.Bool.{cond-true, cond-false}
-use Rattle.nf_net_def.specs.Names.{Name, is_name, has_name, place_of}
-use Rattle.nf_text.specs.Within.{word_at}
-use Rattle.nf_routes_def.specs.declared.RoutesRule.{RoutesRule}
-use Rattle.nf_routes_def.specs.declared.RoutesRule.TheVariants.{G6, G7, G8}
-use Rattle.nf_routes_def.specs.RoutesFile.{RoutesEntry, RouteLine, route_line, rate_line, end_line, routes_entry}
-use Rattle.nf_routes_read.specs.Entries.{AreLinksOf}
+use Rattle.std.proofs.Common.{◌≡◌, ℕ, ◌<◌, ◌≤◌, Bool, true, false, not, cond, List, [], ◌∷◌, length, drop, map, Result, Ok, Err, refl, sym, ◌∙◌, ap, arith}
+use Rattle.std.proofs.Common.{bytes_eq, codes}
+use Rattle.nf_routes_read.proofs.Common.{list_all, cond-true, cond-false, Name, is_name, has_name, place_of, word_at, RoutesRule, G6, G7, G8, RoutesEntry}
+use Rattle.nf_routes_read.proofs.Common.{RouteLine, route_line, rate_line, end_line, routes_entry, AreLinksOf}
 
 -- ---- `route`
 module _ (names : List Name) where

@@ -1,8 +1,7 @@
 -- The loading order, built link by link. The links taken are listed in the order in which they were taken.
-use Rattle.std.proofs.Common.{◌≡◌, ℕ, zero, suc, ◌+◌, ◌-◌, ◌<◌, ◌≤◌, List, [], ◌∷◌, ◌++◌, Bool, true, false, not, ◌&&◌, ◌||◌, eqb, refl, sym, ap, ◌∙◌, append_assoc, append-nil, arith}
-use Rattle.std.specs.Prelude.{Option, Some, None, if◌then◌else◌}
-use Rattle.std.specs.List.{list_all, range_with_len}
-use Rattle.nf_routes_def.specs.Routes.{is_taken, is_free, first_free, with_next, order_from}
+use Rattle.std.proofs.Common.{◌≡◌, ℕ, zero, suc, ◌+◌, ◌-◌, ◌<◌, ◌≤◌, List, [], ◌∷◌, ◌++◌, Bool, true, false, not, ◌&&◌, ◌||◌, eqb, refl, sym, ap, ◌∙◌}
+use Rattle.std.proofs.Common.{append_assoc, append-nil, arith, Option, Some, None, if◌then◌else◌}
+use Rattle.nf_routes_read.proofs.Common.{list_all, range_with_len, is_taken, is_free, first_free, with_next, order_from}
 
 -- ---- the same links are taken, in whatever order
 abbrev pub SameTaken : List ℕ → List ℕ → Type 0

@@ -1,12 +1,7 @@
 -- The next line of a text from a place on.
-use Rattle.std.specs.Prelude.{◌≡◌, ℕ, ◌+◌, ◌<◌, List, ◌∷◌, length, drop, map, Option, None}
-use Rattle.std.proofs.Common.{◌∙◌, sym, ap, subst}
-use Rattle.std.specs.Option.{option_or}
-use Rattle.nf_text_def.specs.Lines.{TextLine, lines_from}
-use Rattle.nf_text_def.specs.Words.{ReadLine, read_line}
-use Rattle.nf_text_def.specs.Faults.{LineFault, line_fault, first_fault_of}
-use Rattle.nf_text.specs.declared.TextFault.{TextFault}
-use Rattle.nf_text.specs.Reading.{whole_len, first_line, MatchesFault}
+use Rattle.std.proofs.Common.{◌≡◌, ℕ, ◌+◌, ◌<◌, List, ◌∷◌, length, drop, map, Option, None, ◌∙◌, sym, ap, subst}
+use Rattle.nf_text.proofs.Common.{option_or, TextLine, lines_from, ReadLine, read_line, LineFault, line_fault, first_fault_of, TextFault, whole_len}
+use Rattle.nf_text.proofs.Common.{first_line, MatchesFault}
 use Rattle.nf_text.proofs.FirstLines.{lines_first}
 use Rattle.nf_text.proofs.LineSteps.{tells_or}
 

@@ -1,15 +1,12 @@
 -- The first line of a text.
-use Rattle.std.specs.Prelude.{◌≡◌, ℕ, ◌+◌, ◌-◌, ◌<◌, ◌≤◌, ◌==◌, Bool, true, false, ◌&&◌, List, [], ◌∷◌, ◌++◌, length, take, drop, All, refl}
-use Rattle.std.proofs.Common.{arith, suc, ◌∙◌, sym, ap, cond, get_or, length-drop, length-take, take-take, take_all, append_assoc, append-nil, true≢false, zero, add-one}
-use Rattle.std.specs.List.{slice_split, before_first, after_first}
-use Rattle.std.proofs.lemmas.List.{drop_all, take_rest, take_more, get_or-take}
-use Rattle.std.proofs.lemmas.List.Splits.{slice_split_first, slice_split_none, length-slice_split}
-use Rattle.std.proofs.lemmas.List.Sums.{fails_before_first, passes_at_first}
-use Rattle.std.proofs.lemmas.Bool.{lt-ltb, le-ltb, ltb-true, eqb-true, ne_eqb}
+use Rattle.std.proofs.Common.{◌≡◌, ℕ, ◌+◌, ◌-◌, ◌<◌, ◌≤◌, ◌==◌, Bool, true, false, ◌&&◌, List, [], ◌∷◌, ◌++◌, length, take, drop, All, refl, arith, suc}
+use Rattle.std.proofs.Common.{◌∙◌, sym, ap, cond, get_or, length-drop, length-take, take-take, take_all, append_assoc, append-nil, true≢false, zero}
+use Rattle.std.proofs.Common.{add-one}
+use Rattle.nf_text.proofs.Common.{slice_split, before_first, after_first, drop_all, take_rest, take_more, get_or-take, slice_split_first, slice_split_none}
+use Rattle.nf_text.proofs.Common.{length-slice_split, fails_before_first, passes_at_first, lt-ltb, le-ltb, ltb-true, eqb-true, ne_eqb, TextLine, lines_from}
+use Rattle.nf_text.proofs.Common.{lines_of_parts, ended_line, lf_place, has_lf, ends_with_cr, bytes_len, whole_len, first_line}
 use native.Mathlib.Decide.{dec_lt}
-use Rattle.nf_text_def.specs.Lines.{TextLine, lines_from, lines_of_parts, ended_line}
 use Rattle.nf_text_def.proofs.LineParts.{lines_of_parts-more}
-use Rattle.nf_text.specs.Reading.{lf_place, has_lf, ends_with_cr, bytes_len, whole_len, first_line}
 use Rattle.nf_text.proofs.Positions.{position_or_len_within}
 
 abbrev is_lf : ℕ → Bool

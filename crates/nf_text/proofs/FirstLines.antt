@@ -1,9 +1,6 @@
 -- The lines of a text from a place on.
-use Rattle.std.specs.Prelude.{◌≡◌, ℕ, ◌+◌, ◌<◌, List, ◌∷◌, length, drop}
-use Rattle.std.proofs.Common.{arith, ◌∙◌, ap, length-drop}
-use Rattle.std.proofs.lemmas.List.{drop-drop}
-use Rattle.nf_text_def.specs.Lines.{lines_from}
-use Rattle.nf_text.specs.Reading.{whole_len, first_line}
+use Rattle.std.proofs.Common.{◌≡◌, ℕ, ◌+◌, ◌<◌, List, ◌∷◌, length, drop, arith, ◌∙◌, ap, length-drop}
+use Rattle.nf_text.proofs.Common.{drop-drop, lines_from, whole_len, first_line}
 use Rattle.nf_text.proofs.Extents.{lines_from-first}
 
 pub lines_first : (n : ℕ) (text : List ℕ) (start : ℕ) → start < length text

@@ -1,3 +1,4 @@
+mod Common
 pub mod Positions
 pub mod Plain
 pub mod Parts

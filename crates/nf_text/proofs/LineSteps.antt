@@ -1,18 +1,11 @@
 -- The steps of the loop over the lines.
-use Rattle.std.specs.Prelude.{◌≡◌, ℕ, ◌+◌, ◌<◌, ◌≤◌, List, [], ◌∷◌, ◌++◌, length, drop, map, All, Option, None, refl}
-use Rattle.std.proofs.Common.{arith, ◌∙◌, sym, ap, length-drop, append_assoc, append-nil}
-use Rattle.std.specs.Option.{option_or}
-use Rattle.std.proofs.lemmas.List.{map-append, drop-drop}
-use Rattle.std.proofs.lemmas.List.Elements.{All-from_recursion}
+use Rattle.std.proofs.Common.{◌≡◌, ℕ, ◌+◌, ◌<◌, ◌≤◌, List, [], ◌∷◌, ◌++◌, length, drop, map, All, Option, None, refl, arith, ◌∙◌, sym, ap, length-drop}
+use Rattle.std.proofs.Common.{append_assoc, append-nil}
+use Rattle.nf_text.proofs.Common.{option_or, map-append, drop-drop, All-from_recursion, lines_from, ReadLine, read_line, LineFault, line_fault}
+use Rattle.nf_text.proofs.Common.{first_fault_of, TextFault, Rise, seen_line, spans_of, WordsAreIn, MatchesFault, whole_len, first_line}
 use Rattle.std.specs.List.{AllByRecursion as ByRecursion}
 use Rattle.std.proofs.lemmas.Grind.{flat_map-append}
-use Rattle.nf_text_def.specs.Lines.{lines_from}
-use Rattle.nf_text_def.specs.Words.{ReadLine, read_line}
-use Rattle.nf_text_def.specs.Faults.{LineFault, line_fault, first_fault_of}
 use Rattle.nf_text.specs.declared.Line.{Line}
-use Rattle.nf_text.specs.declared.TextFault.{TextFault}
-use Rattle.nf_text.specs.Spans.{Rise}
-use Rattle.nf_text.specs.Reading.{seen_line, spans_of, WordsAreIn, MatchesFault, whole_len, first_line}
 use Rattle.nf_text.proofs.Extents.{lines_from-first}
 use Rattle.nf_text.proofs.Parts.{Rise-append, Rise_within, Rise_front, Rise_back}
 

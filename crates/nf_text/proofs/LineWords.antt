@@ -1,10 +1,7 @@
 -- What is read of a line.
-use Rattle.std.specs.Prelude.{◌≡◌, ℕ, ◌+◌, ◌-◌, ◌≤◌, ◌==◌, Bool, List, ◌++◌, length, take}
-use Rattle.std.proofs.Common.{arith, ◌∙◌, sym, ap, length-take, take-take}
-use Rattle.std.specs.List.{slice_split, position_or_len}
-use Rattle.std.specs.Str.{bytes_eq}
-use Rattle.nf_text_def.specs.Words.{read_line, is_blank, parts_with_bytes, words, line_of_words}
-use Rattle.nf_text.specs.Reading.{bytes_len, whole_len, first_line}
+use Rattle.std.proofs.Common.{◌≡◌, ℕ, ◌+◌, ◌-◌, ◌≤◌, ◌==◌, Bool, List, ◌++◌, length, take, arith, ◌∙◌, sym, ap, length-take, take-take}
+use Rattle.nf_text.proofs.Common.{slice_split, position_or_len, bytes_eq, read_line, is_blank, parts_with_bytes, words, line_of_words, bytes_len, whole_len}
+use Rattle.nf_text.proofs.Common.{first_line}
 use Rattle.nf_text.proofs.Positions.{position_or_len_within}
 use Rattle.nf_text.proofs.Extents.{whole_bytes}
 

@@ -1,17 +1,10 @@
 -- The words between two places of a text, one after the other.
-use Rattle.std.specs.Prelude.{◌≡◌, ℕ, ◌+◌, ◌-◌, ◌<◌, ◌≤◌, min, Bool, true, false, not, ◌==◌, List, [], ◌∷◌, ◌++◌, length, take, drop, map, All, refl}
-use Rattle.std.proofs.Common.{arith, suc, ◌∙◌, sym, ap, cond, length-take, length-drop, take-take, take_all, append_assoc, append-nil}
-use Rattle.std.specs.List.{slice_split, position_or_len, before_first, after_first}
-use Rattle.std.proofs.lemmas.List.{drop-drop, drop-take, drop_all, map-append}
-use Rattle.std.proofs.lemmas.List.Elements.{All-from_recursion}
+use Rattle.std.proofs.Common.{◌≡◌, ℕ, ◌+◌, ◌-◌, ◌<◌, ◌≤◌, min, Bool, true, false, not, ◌==◌, List, [], ◌∷◌, ◌++◌, length, take, drop, map, All, refl, arith}
+use Rattle.std.proofs.Common.{suc, ◌∙◌, sym, ap, cond, length-take, length-drop, take-take, take_all, append_assoc, append-nil}
+use Rattle.nf_text.proofs.Common.{slice_split, position_or_len, before_first, after_first, drop-drop, drop-take, drop_all, map-append, All-from_recursion}
+use Rattle.nf_text.proofs.Common.{ne_eqb, slice_split_first, slice_split_none, fails_before_first, is_blank, parts_with_bytes, Span, text_of, between, Rise}
 use Rattle.std.specs.List.{AllByRecursion as ByRecursion}
-use Rattle.std.proofs.lemmas.Bool.{ne_eqb}
-use Rattle.std.proofs.lemmas.List.Splits.{slice_split_first, slice_split_none}
-use Rattle.std.proofs.lemmas.List.Sums.{fails_before_first}
 use native.Mathlib.Decide.{dec_lt, dec_le}
-use Rattle.nf_text_def.specs.Words.{is_blank, parts_with_bytes}
-use Rattle.nf_text.specs.declared.Span.{Span}
-use Rattle.nf_text.specs.Spans.{text_of, between, Rise}
 use Rattle.nf_text.proofs.Positions.{position_or_len_within}
 
 -- the words of bytes with no comment

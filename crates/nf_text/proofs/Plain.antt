@@ -1,13 +1,8 @@
 -- A line compared with its words.
-use Rattle.std.specs.Prelude.{◌≡◌, ℕ, ◌+◌, ◌-◌, ◌<◌, ◌≤◌, Bool, true, false, ◌&&◌, nat_eq, nat_lt, List, [], ◌∷◌, ◌++◌, length, take, drop, None, Some, refl}
-use Rattle.std.proofs.Common.{arith, zero, suc, ◌∙◌, sym, ap, append_assoc, append-nil, add-one, get_or, take-take, length-drop, length-take, eq-eqb}
-use Rattle.std.specs.List.{join_with_byte, flat_map}
-use Rattle.std.specs.Str.{bytes_eq}
-use Rattle.std.proofs.lemmas.List.{drop_more, drop_all}
-use Rattle.std.proofs.lemmas.Bool.{lt-ltb}
+use Rattle.std.proofs.Common.{◌≡◌, ℕ, ◌+◌, ◌-◌, ◌<◌, ◌≤◌, Bool, true, false, ◌&&◌, nat_eq, nat_lt, List, [], ◌∷◌, ◌++◌, length, take, drop, None, Some}
+use Rattle.std.proofs.Common.{refl, arith, zero, suc, ◌∙◌, sym, ap, append_assoc, append-nil, add-one, get_or, take-take, length-drop, length-take, eq-eqb}
+use Rattle.nf_text.proofs.Common.{join_with_byte, flat_map, bytes_eq, drop_more, drop_all, lt-ltb, Span, text_of, between, space_before, ComparesPrefix}
 use Rattle.std.proofs.lemmas.Slice.Eq.{bytes_eq-Decides}
-use Rattle.nf_text.specs.declared.Span.{Span}
-use Rattle.nf_text.specs.Spans.{text_of, between, space_before, ComparesPrefix}
 use Rattle.nf_text.proofs.Parts.{drop-between}
 
 and-assoc : (a b c : Bool) → ((a && b) && c) ≡ (a && (b && c))

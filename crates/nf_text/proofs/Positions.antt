@@ -1,11 +1,7 @@
 -- The first place at which a byte passes a test.
-use Rattle.std.specs.Prelude.{◌≡◌, ℕ, ◌+◌, true, false, ◌<◌, ◌≤◌, Bool, List, [], ◌∷◌, length, position, unwrap_or, Some, None, refl}
-use Rattle.std.specs.List.{position_or_len, prefix_len, list_all}
-use Rattle.std.proofs.lemmas.List.{drop-drop}
-use Rattle.std.proofs.Common.{zero, suc, get_or, arith, length-drop, take, drop, ◌&&◌, ◌∙◌, sym, ap, cond, nat_lt}
-use Rattle.std.proofs.lemmas.Bool.{cond_below, cond_above}
-use Rattle.std.proofs.lemmas.List.Sums.{prefix_len-le-length, position_or_len_is}
-use Rattle.std.specs.Prelude.{not}
+use Rattle.std.proofs.Common.{◌≡◌, ℕ, ◌+◌, true, false, ◌<◌, ◌≤◌, Bool, List, [], ◌∷◌, length, position, unwrap_or, Some, None, refl, zero, suc, get_or}
+use Rattle.std.proofs.Common.{arith, length-drop, take, drop, ◌&&◌, ◌∙◌, sym, ap, cond, nat_lt, not}
+use Rattle.nf_text.proofs.Common.{position_or_len, prefix_len, list_all, drop-drop, cond_below, cond_above, prefix_len-le-length, position_or_len_is}
 use native.Mathlib.Decide.{dec_lt}
 
 pub position_or_len_within : {X : Type 0} (p : X → Bool) (xs : List X) → position_or_len p xs ≤ length xs

@@ -1,8 +1,6 @@
 -- Lines of words, appended to a text.
-use Rattle.std.proofs.Common.{◌≡◌, ℕ, List, [], ◌∷◌, ◌++◌, map, ◌∙◌, ap, subst, append_assoc, append-nil, Result}
-use Rattle.std.specs.Prelude.{flat_map, OnOk}
-use Rattle.std.specs.List.{join_with_byte}
-use Rattle.nf_text_def.specs.Words.{line_of_words}
+use Rattle.std.proofs.Common.{◌≡◌, ℕ, List, [], ◌∷◌, ◌++◌, map, ◌∙◌, ap, subst, append_assoc, append-nil, Result, flat_map, OnOk}
+use Rattle.nf_text.proofs.Common.{join_with_byte, line_of_words}
 
 -- a space and a word
 pub word_pushed : (old word one two : List ℕ) → one ≡ old ++ 32 ∷ [] → two ≡ one ++ word → two ≡ old ++ 32 ∷ word

@@ -1,27 +1,10 @@
 -- The answer of a search by forced states.
-use Rattle.std.proofs.Common.{◌≡◌, ℕ, List, sym, subst, ◌∙◌}
-use Rattle.std.specs.Prelude.{Option, Some, None, Result, Ok, Err}
-use Rattle.nf_rational.specs.Rational.{ℚ}
-use Rattle.nf_frac_def.specs.Passing.{Passing}
-use Rattle.nf_model.specs.Network.{Network, IsNetwork, unbounded}
-use Rattle.nf_model.specs.ThinFlow.{Sets}
-use Rattle.nf_model.specs.Pattern.{Pattern, IsPattern, IsListedIn, IsSolvable}
-use Rattle.nf_thin_def.specs.Search.{Found, IsSearch}
-use Rattle.nf_pattern.specs.Given.{IsQuestion}
-use Rattle.nf_pattern.proofs.Deciding.{has_listing}
-use Rattle.nf_thin_laws.specs.Forcing.{IsForcing, HasForced}
-use Rattle.nf_thin_laws.specs.NarrowLaws.{Narrows}
-use Rattle.nf_thin_laws.proofs.Forced.{left_pattern, sets_count, flags_count}
+use Rattle.std.proofs.Common.{◌≡◌, ℕ, List, sym, subst, ◌∙◌, Option, Some, None, Result, Ok, Err}
+use Rattle.nf_thin.proofs.Common.{ℚ, Passing, Network, IsNetwork, unbounded, Sets, Pattern, IsPattern, IsListedIn, IsSolvable, Found, IsSearch, IsQuestion}
+use Rattle.nf_thin.proofs.Common.{has_listing, IsForcing, HasForced, Narrows, left_pattern, sets_count, flags_count, forced_by, HoldNoCycle, AreThinSlopes}
+use Rattle.nf_thin.proofs.Common.{question_left, ThinFlow, SearchFault, AreSetsOf, question_of, NarrowFinds, FindsBy}
 use Rattle.nf_thin_laws.proofs.Answered.{answer_within, answer_beyond}
-use Rattle.nf_thin_laws.specs.Forcing.{forced_by}
 use Rattle.nf_thin_laws.proofs.BySlopes.{forcing as forced_forcing, allowed as forced_allowed}
-use Rattle.nf_thin_laws.specs.ActiveLinks.{HoldNoCycle}
-use Rattle.nf_thin.specs.Slopes.{AreThinSlopes}
-use Rattle.nf_thin_narrow.specs.Asking.{question_left}
-use Rattle.nf_thin_one.specs.declared.thin.ThinFlow.{ThinFlow}
-use Rattle.nf_thin.specs.declared.fault.SearchFault.{SearchFault}
-use Rattle.nf_thin_rank.specs.Questions.{AreSetsOf, question_of}
-use Rattle.nf_thin.specs.Finding.{NarrowFinds, FindsBy}
 
 module _ (passes : Passing) (net : Network) (sets : Sets) (rate : ℚ) (base forced : Pattern) (budget : ℕ) (forcing : IsForcing sets (unbounded net) forced)
     (allowed : (pattern : Pattern) → IsListedIn net sets pattern → IsSolvable net sets rate pattern → HasForced forced pattern)

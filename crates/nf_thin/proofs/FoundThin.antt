@@ -1,23 +1,8 @@
 -- The flow found is a thin flow, and its slopes are the only ones.
-use Rattle.std.proofs.Common.{◌≡◌, ℕ, suc, List, sym, subst, ◌∙◌}
-use Rattle.std.specs.Prelude.{Result, Ok, Err, IfOk}
-use Rattle.nf_rational.specs.Rational.{ℚ}
-use Rattle.nf_model.specs.Network.{Network, IsNetwork}
-use Rattle.nf_model.specs.ThinFlow.{Sets, IsThinFlow}
-use Rattle.nf_model.specs.Pattern.{Pattern, IsListedIn, IsSolution}
-use Rattle.nf_frac_def.specs.Passing.{Passing}
-use Rattle.nf_thin_def.specs.Accepted.{IsAccepted}
-use Rattle.nf_thin_def.specs.Search.{Found, IsSearch}
-use Rattle.nf_thin_laws.proofs.Accepted.{IsThinFlow-accepted}
+use Rattle.std.proofs.Common.{◌≡◌, ℕ, suc, List, sym, subst, ◌∙◌, Result, Ok, Err, IfOk}
+use Rattle.nf_thin.proofs.Common.{ℚ, Network, IsNetwork, Sets, IsThinFlow, Pattern, IsListedIn, IsSolution, Passing, IsAccepted, Found, IsSearch}
+use Rattle.nf_thin.proofs.Common.{IsThinFlow-accepted, ThinFlow, SearchFault, Vain, IsCopy, IsKnown, AreSetsOf, SlopesAreOnly, IsFound, Finds}
 use Rattle.nf_thin_laws.proofs.Slopes.{slopes-unique}
-use Rattle.nf_thin_one.specs.declared.thin.ThinFlow.{ThinFlow}
-use Rattle.nf_thin.specs.declared.fault.SearchFault.{SearchFault}
-use Rattle.nf_thin.specs.declared.vain.Vain.{Vain}
-use Rattle.nf_thin_one.specs.Trying.{IsCopy}
-use Rattle.nf_thin.specs.Knowing.{IsKnown}
-use Rattle.nf_thin_rank.specs.Questions.{AreSetsOf}
-use Rattle.nf_thin.specs.Searching.{SlopesAreOnly, IsFound}
-use Rattle.nf_thin.specs.Finding.{Finds}
 
 module _ (passes : Passing) (net : Network) (sets : Sets) (rate : ℚ) (base : Pattern) (budget : ℕ) (good : IsNetwork net) (sets_are : AreSetsOf net sets) where
   module _ (place : ℕ) (pattern : Pattern) (flows slopes : List ℚ) (s : IsSearch passes net sets rate base budget (Found place pattern flows slopes)) where

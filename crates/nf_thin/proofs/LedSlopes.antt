@@ -1,19 +1,8 @@
 -- The slopes of a pattern that leads to each node.
-use Rattle.std.proofs.Common.{List, length, sym, ap, subst, ◌∙◌}
-use Rattle.std.specs.Prelude.{Option, Some, None, Ok, IfSome}
-use Rattle.nf_rational.specs.Rational.{ℚ}
-use Rattle.nf_model.specs.Network.{Network}
-use Rattle.nf_model.specs.ThinFlow.{Sets}
-use Rattle.nf_model.specs.Pattern.{Pattern, IsSolution}
-use Rattle.nf_thin_equation_laws.specs.Equations.{IsPatternIn}
+use Rattle.std.proofs.Common.{List, length, sym, ap, subst, ◌∙◌, Option, Some, None, Ok, IfSome}
+use Rattle.nf_thin.proofs.Common.{ℚ, Network, Sets, Pattern, IsSolution, IsPatternIn, IsThinFlow-accepted, Passing, IsAccepted, ThinFlow, TriesOne}
+use Rattle.nf_thin.proofs.Common.{AreThinSlopes, IsKnown}
 use Rattle.nf_thin_laws.specs.PatternLaws.{EachIsLed}
-use Rattle.nf_thin_laws.proofs.Accepted.{IsThinFlow-accepted}
-use Rattle.nf_frac_def.specs.Passing.{Passing}
-use Rattle.nf_thin_def.specs.Accepted.{IsAccepted}
-use Rattle.nf_thin_one.specs.declared.thin.ThinFlow.{ThinFlow}
-use Rattle.nf_thin_one.specs.Trying.{TriesOne}
-use Rattle.nf_thin.specs.Slopes.{AreThinSlopes}
-use Rattle.nf_thin.specs.Knowing.{IsKnown}
 
 -- The accepted solution of a pattern that leads to each node is a thin flow.
 pub led_slopes : (net : Network) (sets : Sets) (rate : ℚ) (pattern : Pattern) (flows slopes : List ℚ) → IsPatternIn net sets pattern → EachIsLed net sets pattern

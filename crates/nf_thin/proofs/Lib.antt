@@ -1,3 +1,4 @@
+mod Common
 pub mod Searched
 pub mod FoundThin
 pub mod Looping

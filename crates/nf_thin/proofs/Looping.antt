@@ -1,23 +1,8 @@
 -- The loop of the search over the patterns of a listing.
-use Rattle.std.proofs.Common.{◌≡◌, ℕ, ◌≤◌, List, sym, ap, subst, ◌∙◌, arith, ◌-◌, ◌<◌, suc}
-use Rattle.std.specs.Prelude.{Some, None, Result, Ok, Err}
-use Rattle.nf_rational.specs.Rational.{ℚ}
-use Rattle.nf_frac_def.specs.Passing.{Passing}
-use Rattle.nf_model.specs.Network.{Network, IsNetwork}
-use Rattle.nf_model.specs.ThinFlow.{Sets}
-use Rattle.nf_model.specs.Pattern.{Pattern, IsListedIn}
-use Rattle.nf_thin_def.specs.Search.{Answers, IsSearch}
-use Rattle.nf_pattern.specs.Given.{Question, Given, IsListedBy, IsNext, NoneLeft, Enumerates}
-use Rattle.nf_thin_equation_laws.specs.Equations.{IsPatternIn}
-use Rattle.nf_pattern.proofs.Deciding.{has_listing}
-use Rattle.nf_thin_one.specs.declared.thin.ThinFlow.{ThinFlow}
-use Rattle.nf_thin.specs.declared.vain.Vain.{Vain}
-use Rattle.nf_thin.specs.declared.fault.SearchFault.{SearchFault}
-use Rattle.nf_thin.specs.FirstPassing.{search_fault}
-use Rattle.nf_thin_rank.specs.Questions.{AreSetsOf, AsksOf}
-use Rattle.nf_thin.specs.Searching.{TriesNext}
-use Rattle.nf_thin.specs.Finding.{FindsAt}
-use Rattle.nf_pattern.specs.Front.{IsListingOf}
+use Rattle.std.proofs.Common.{◌≡◌, ℕ, ◌≤◌, List, sym, ap, subst, ◌∙◌, arith, ◌-◌, ◌<◌, suc, Some, None, Result, Ok, Err}
+use Rattle.nf_thin.proofs.Common.{ℚ, Passing, Network, IsNetwork, Sets, Pattern, IsListedIn, Answers, IsSearch, Question, Given, IsListedBy, IsNext}
+use Rattle.nf_thin.proofs.Common.{NoneLeft, Enumerates, IsPatternIn, has_listing, ThinFlow, Vain, SearchFault, search_fault, AreSetsOf, AsksOf, TriesNext}
+use Rattle.nf_thin.proofs.Common.{FindsAt, IsListingOf}
 use Rattle.nf_thin.proofs.Searched.{Vainly, none_tried, over_budget, found, vainly_more, search_ends, all_searched}
 use Rattle.nf_thin_rank.proofs.Asking.{listed_in}
 

@@ -1,29 +1,11 @@
 -- The loop over the patterns left without the forced links.
-use Rattle.std.proofs.Common.{◌≡◌, ⊎_elim, ℕ, suc, ◌<◌, List, length, true, false, refl, sym, ap, subst, ◌∙◌, arith}
-use Rattle.std.specs.Prelude.{Some, None, slice_get, Ok, Err}
-use Rattle.std.proofs.lemmas.Option.{same_Some}
-use Rattle.nf_rational.specs.Rational.{ℚ}
-use Rattle.nf_frac_def.specs.Passing.{Passing}
-use Rattle.nf_model.specs.Network.{Network, hops, unbounded}
-use Rattle.nf_model.specs.ThinFlow.{Sets}
-use Rattle.nf_model.specs.Pattern.{Pattern, IsPattern, IsListedIn, IsBefore}
-use Rattle.nf_thin_def.specs.Accepted.{IsAccepted}
-use Rattle.nf_rational_laws.proofs.Naturals.{before_or_at}
-use Rattle.nf_thin_laws.specs.Forcing.{filled, IsForcing}
-use Rattle.nf_thin_laws.specs.NarrowLaws.{Narrows, NoneFilledBefore}
-use Rattle.nf_thin_laws.proofs.Forced.{left_count, filled_listed}
+use Rattle.std.proofs.Common.{◌≡◌, ⊎_elim, ℕ, suc, ◌<◌, List, length, true, false, refl, sym, ap, subst, ◌∙◌, arith, Some, None, slice_get, Ok, Err}
+use Rattle.nf_thin.proofs.Common.{same_Some, ℚ, Passing, Network, hops, unbounded, Sets, Pattern, IsPattern, IsListedIn, IsBefore, IsAccepted, before_or_at}
+use Rattle.nf_thin.proofs.Common.{filled, IsForcing, Narrows, NoneFilledBefore, left_count, filled_listed, Question, IsListedBy, Given, Last, AtStart, UpTo}
+use Rattle.nf_thin.proofs.Common.{IsLater, IsNext, Enumerates, question_left, StandsWithin, GivenUpTo, StandsAt, given_next, ThinFlow, SearchFault, Vain}
+use Rattle.nf_thin.proofs.Common.{AreSetsOf, question_of, SiftsNext, NarrowFinds, StaysBehind, IsInStep, walk_of}
 use Rattle.nf_thin_laws.proofs.Narrowed.{order_put, no_earlier_place}
-use Rattle.nf_pattern.specs.Given.{Question, IsListedBy, Given, Last, AtStart, UpTo, IsLater, IsNext, Enumerates}
-use Rattle.nf_thin_narrow.specs.Asking.{question_left, StandsWithin, GivenUpTo, StandsAt}
-use Rattle.nf_thin_narrow.proofs.Places.{given_next}
-use Rattle.nf_thin_one.specs.declared.thin.ThinFlow.{ThinFlow}
-use Rattle.nf_thin.specs.declared.fault.SearchFault.{SearchFault}
-use Rattle.nf_thin.specs.declared.vain.Vain.{Vain}
-use Rattle.nf_thin_rank.specs.Questions.{AreSetsOf, question_of}
-use Rattle.nf_thin.specs.Sifting.{SiftsNext}
-use Rattle.nf_thin.specs.Finding.{NarrowFinds}
 use Rattle.nf_thin_rank.specs.declared.pace.Pace.{Pace}
-use Rattle.nf_thin_rank.specs.Keeping.{StaysBehind, IsInStep, walk_of}
 
 -- The first patterns left are enumerated, and none of them is accepted.
 abbrev pub NarrowVainly : Passing → Network → Sets → ℚ → Pattern → Pattern → ℕ → Last → Type 0

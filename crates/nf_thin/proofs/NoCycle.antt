@@ -1,13 +1,8 @@
 -- Active links that hold no cycle.
-use Rattle.std.proofs.Common.{◌≡◌, ℕ, zero, suc, Bool, List, [], ◌∷◌, sym, subst, arith}
-use Rattle.std.specs.Prelude.{◌↔◌, Option, Some, IsNone, slice_get}
-use Rattle.std.proofs.lemmas.Option.{none-some, same_Some}
+use Rattle.std.proofs.Common.{◌≡◌, ℕ, zero, suc, Bool, List, [], ◌∷◌, sym, subst, arith, ◌↔◌, Option, Some, IsNone, slice_get}
+use Rattle.nf_thin.proofs.Common.{none-some, same_Some, Hop, Network, hops, Sets, IsActiveWalk, HoldNoCycle}
 use Rattle.nf_model.specs.Entries.{Has}
-use Rattle.nf_model.specs.Walk.{Hop}
-use Rattle.nf_model.specs.Network.{Network, hops}
-use Rattle.nf_model.specs.ThinFlow.{Sets}
 use Rattle.nf_graph.specs.Order.{IsChosenCycle}
-use Rattle.nf_thin_laws.specs.ActiveLinks.{IsActiveWalk, HoldNoCycle}
 use Rattle.nf_thin_laws.proofs.ActiveLinks.{IsWalk-active}
 
 all_active : (net : Network) (sets : Sets) (walk : List ℕ) (v w : ℕ) → IsActiveWalk net sets walk v w → (i e : ℕ) → slice_get walk i ≡ Some e → Has sets.active e

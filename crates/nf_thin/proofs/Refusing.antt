@@ -1,21 +1,9 @@
 -- Listed patterns that are tried, or rejected without a table, for known slopes of a thin flow.
-use Rattle.std.proofs.Common.{ℕ, List, sym, subst}
-use Rattle.std.specs.Prelude.{Option, Some, None, Result, Ok, Err}
-use Rattle.nf_rational.specs.Rational.{ℚ}
-use Rattle.nf_frac_def.specs.Passing.{Passing}
-use Rattle.nf_model.specs.Network.{Network, IsNetwork}
-use Rattle.nf_model.specs.ThinFlow.{Sets}
-use Rattle.nf_model.specs.Pattern.{Pattern, IsListedIn, IsSolvable}
-use Rattle.nf_thin_laws.specs.ActiveLinks.{AreSets, HoldNoCycle}
+use Rattle.std.proofs.Common.{ℕ, List, sym, subst, Option, Some, None, Result, Ok, Err}
+use Rattle.nf_thin.proofs.Common.{ℚ, Passing, Network, IsNetwork, Sets, Pattern, IsListedIn, IsSolvable, AreSets, HoldNoCycle, AreThinSlopes}
+use Rattle.nf_thin.proofs.Common.{AreSlopesOfListed, IsScaled, ThinFlow, Vain, SearchFault, TriesNext, SiftsNext}
 use Rattle.nf_thin_laws.proofs.States.{slopes-same}
-use Rattle.nf_thin.specs.Slopes.{AreThinSlopes, AreSlopesOfListed}
 use Rattle.nf_thin_balance.specs.declared.scaled.Scaled.{Scaled}
-use Rattle.nf_thin_balance.specs.Scaled.{IsScaled}
-use Rattle.nf_thin_one.specs.declared.thin.ThinFlow.{ThinFlow}
-use Rattle.nf_thin.specs.declared.vain.Vain.{Vain}
-use Rattle.nf_thin.specs.declared.fault.SearchFault.{SearchFault}
-use Rattle.nf_thin.specs.Searching.{TriesNext}
-use Rattle.nf_thin.specs.Sifting.{SiftsNext}
 
 -- the slopes of a thin flow are those of each solution of a listed pattern
 pub slopes_of_listed : (net : Network) (sets : Sets) (rate : ℚ) (slopes : List ℚ) → IsNetwork net → AreSets net sets → HoldNoCycle net sets → AreThinSlopes net sets rate slopes

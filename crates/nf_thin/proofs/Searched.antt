@@ -1,29 +1,13 @@
 -- The search, pattern by pattern: the record of rejected patterns, and the answer.
-use Rattle.std.proofs.Common.{◌≡◌, ℕ, suc, ◌<◌, ◌≤◌, List, length, ◌⊎◌, inl, inr, ⊎_elim, true, false, refl, sym, ap, subst, ◌∙◌, arith}
-use Rattle.std.specs.Prelude.{Option, Some, None, slice_get, Result, Ok, Err, IsOk}
-use Rattle.std.proofs.lemmas.Option.{same_Some, slice_get_within}
-use Rattle.nf_rational.specs.Rational.{ℚ}
-use Rattle.nf_frac_def.specs.Passing.{Passing}
+use Rattle.std.proofs.Common.{◌≡◌, ℕ, suc, ◌<◌, ◌≤◌, List, length, ◌⊎◌, inl, inr, ⊎_elim, true, false, refl, sym, ap, subst, ◌∙◌, arith, Option, Some, None}
+use Rattle.std.proofs.Common.{slice_get, Result, Ok, Err, IsOk}
+use Rattle.nf_thin.proofs.Common.{same_Some, slice_get_within, ℚ, Passing, Network, Sets, Pattern, IsSolution, pattern_lists, IsAccepted, SearchAnswer}
+use Rattle.nf_thin.proofs.Common.{Found, OverBudget, PassesAt, NoPattern, NoneAcceptedBefore, IsOverBudget, IsInVain, IsFirstPassing, Answers, IsSearch}
+use Rattle.nf_thin.proofs.Common.{Question, Last, AtStart, UpTo, IsNext, NoneLeft, ThinFlow, Vain, SearchFault, or_first, search_fault, question_of}
+use Rattle.nf_thin.proofs.Common.{TriesOne, Searches, Noted, InVain, IsFound, TriesNext, FindsAt, IsListingOf, GivenUpTo, given_next, given_all}
+use Rattle.nf_thin.proofs.Common.{before_or_at}
 use Rattle.nf_frac_def.specs.declared.PassedAt.{PassedAt}
-use Rattle.nf_model.specs.Network.{Network}
-use Rattle.nf_model.specs.ThinFlow.{Sets}
-use Rattle.nf_model.specs.Pattern.{Pattern, IsSolution}
-use Rattle.nf_thin_def.specs.Accepted.{pattern_lists, IsAccepted}
 use Rattle.nf_thin_def.specs.Listing.{HasPlace, IsListingIn}
-use Rattle.nf_thin_def.specs.Search.{SearchAnswer, Found, OverBudget, PassesAt, NoPattern, NoneAcceptedBefore, IsOverBudget, IsInVain, IsFirstPassing, Answers, IsSearch}
-use Rattle.nf_pattern.specs.Given.{Question, Last, AtStart, UpTo, IsNext, NoneLeft}
-use Rattle.nf_thin_one.specs.declared.thin.ThinFlow.{ThinFlow}
-use Rattle.nf_thin.specs.declared.vain.Vain.{Vain}
-use Rattle.nf_thin.specs.declared.fault.SearchFault.{SearchFault}
-use Rattle.nf_thin.specs.FirstPassing.{or_first, search_fault}
-use Rattle.nf_thin_rank.specs.Questions.{question_of}
-use Rattle.nf_thin_one.specs.Trying.{TriesOne}
-use Rattle.nf_thin.specs.Searching.{Searches, Noted, InVain, IsFound, TriesNext}
-use Rattle.nf_thin.specs.Finding.{FindsAt}
-use Rattle.nf_pattern.specs.Front.{IsListingOf}
-use Rattle.nf_thin_narrow.specs.Asking.{GivenUpTo}
-use Rattle.nf_thin_narrow.proofs.Places.{given_next, given_all}
-use Rattle.nf_rational_laws.proofs.Naturals.{before_or_at}
 
 module _ (passes : Passing) (net : Network) (sets : Sets) (rate : ℚ) (listing : List Pattern) where
   -- No operation of the rejected patterns passes, or this is the first that does.

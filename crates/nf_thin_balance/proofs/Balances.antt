@@ -1,17 +1,9 @@
 -- The surplus of each node on the first links, link by link.
 use Rattle.std.proofs.Common.{◌≡◌, ◌≢◌, ℕ, zero, suc, ◌<◌, ◌≤◌, List, length, replicate, ⊎_elim, Bool, true, false, eqb, refl, sym, ap, subst, ◌∙◌, arith}
-use Rattle.std.specs.Prelude.{Some, slice_get, slice_set}
-use Rattle.std.proofs.lemmas.Bool.{true≢false, ne_eqb}
-use Rattle.std.proofs.lemmas.Bool.Decides.{eqb_tells}
-use Rattle.std.proofs.lemmas.Option.{none-some, same_Some}
-use Rattle.nf_rational.specs.Rational.{ℚ}
-use Rattle.nf_rational.specs.Operations.{0ℚ, ◌+ℚ◌, ◌-ℚ◌}
-use Rattle.nf_model.specs.Network.{Link, Network, IsLink}
-use Rattle.nf_pattern.proofs.Setting.{set_same, set_other, tell}
-use Rattle.nf_thin_narrow.proofs.Entries.{length_set}
-use Rattle.nf_thin_balance.specs.declared.ranges.Range.{Range}
-use Rattle.nf_thin_balance.specs.Ranges.{IsInRange}
-use Rattle.nf_thin_balance.specs.Conserving.{AreFlowsWithin, surplus_of_first, BoundsFirst, BoundEach, AreSurpluses}
+use Rattle.std.proofs.Common.{Some, slice_get, slice_set}
+use Rattle.nf_thin_balance.proofs.Common.{true≢false, ne_eqb, eqb_tells, none-some, same_Some, ℚ, 0ℚ, ◌+ℚ◌, ◌-ℚ◌, Link, Network, IsLink, set_same}
+use Rattle.nf_thin_balance.proofs.Common.{set_other, tell, length_set, Range, IsInRange, AreFlowsWithin, surplus_of_first, BoundsFirst, BoundEach}
+use Rattle.nf_thin_balance.proofs.Common.{AreSurpluses}
 use Rattle.nf_thin_balance.proofs.Conserving.{same_surplus, idle_surplus, greater_surplus, lesser_surplus, surplus_of_all}
 
 -- ---- tests of numbers

@@ -1,17 +1,9 @@
 -- Conservation at a node determines a link's flow from those of the other links there.
-use Rattle.std.proofs.Common.{◌≡◌, ◌≢◌, ℕ, zero, suc, ◌<◌, List, [], ◌∷◌, length, ⊎_elim, Bool, true, false, eqb, refl, sym, ap, subst, ◌∙◌}
+use Rattle.std.proofs.Common.{◌≡◌, ◌≢◌, ℕ, zero, suc, ◌<◌, List, [], ◌∷◌, length, ⊎_elim, Bool, true, false, eqb, refl, sym, ap, subst, ◌∙◌, if◌then◌else◌}
+use Rattle.std.proofs.Common.{Some, slice_get, slice_set, MatchBool}
+use Rattle.nf_thin_balance.proofs.Common.{none-some, same_Some, ℚ, 0ℚ, ◌+ℚ◌, ◌-ℚ◌, reading_of, eq, linear_eq, Link, Network, IsLink, sum_in, sum_out}
+use Rattle.nf_thin_balance.proofs.Common.{set_same, set_other, tell, Range, IsInRange, AreFlowsWithin, surplus_by}
 use mathlib.Core.Bool.{beq}
-use Rattle.std.specs.Prelude.{if◌then◌else◌, Some, slice_get, slice_set, MatchBool}
-use Rattle.std.proofs.lemmas.Option.{none-some, same_Some}
-use Rattle.nf_rational.specs.Rational.{ℚ}
-use Rattle.nf_rational.specs.Operations.{0ℚ, ◌+ℚ◌, ◌-ℚ◌}
-use Rattle.nf_rational_laws.proofs.Polynomial.{reading_of}
-use Rattle.nf_rational_laws.proofs.Linear.{eq, linear_eq}
-use Rattle.nf_model.specs.Network.{Link, Network, IsLink, sum_in, sum_out}
-use Rattle.nf_pattern.proofs.Setting.{set_same, set_other, tell}
-use Rattle.nf_thin_balance.specs.declared.ranges.Range.{Range}
-use Rattle.nf_thin_balance.specs.Ranges.{IsInRange}
-use Rattle.nf_thin_balance.specs.Conserving.{AreFlowsWithin, surplus_by}
 use Rattle.nf_thin_balance.proofs.Conserving.{other_false, other_true, later_term}
 
 -- ---- the flows of all links but one

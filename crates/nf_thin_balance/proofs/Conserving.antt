@@ -1,29 +1,16 @@
 -- The surplus of a node on the first links, link by link; and the ranges of the links' flows.
-use Rattle.std.proofs.Common.{◌≡◌, ◌≢◌, ℕ, zero, suc, ◌<◌, ◌≤◌, List, [], ◌∷◌, length, take, get_or, ⊎_elim, Bool, true, false, eqb, not, refl, sym, ap, subst, ◌∙◌}
+use Rattle.std.proofs.Common.{◌≡◌, ◌≢◌, ℕ, zero, suc, ◌<◌, ◌≤◌, List, [], ◌∷◌, length, take, get_or, ⊎_elim, Bool, true, false, eqb, not, refl, sym, ap}
+use Rattle.std.proofs.Common.{subst, ◌∙◌, if◌then◌else◌, Option, Some, None, pos, slice_get, unwrap_or}
+use Rattle.nf_thin_balance.proofs.Common.{length-map, take_all, eqb_tells, slice_get-map, slice_get_read, none-some, same_Some, ℚ, 0ℚ, whole, ◌+ℚ◌, ◌-ℚ◌}
+use Rattle.nf_thin_balance.proofs.Common.{◌*ℚ◌, neg_ℚ, reading_of, eq, linear_eq, Passing, State, number_at, IsNetwork, Link, Network, IsLink, hop_of, hops}
+use Rattle.nf_thin_balance.proofs.Common.{sum_in, sum_out, Hop, Sets, surplus, Pattern, Fills, Equation, Range, IsInRange, IsFull, MeetsState, scaled}
+use Rattle.nf_thin_balance.proofs.Common.{CanFlow, surplus_by, surplus_of_first, BoundsFirst, BalancesNodes, needed_at}
 use mathlib.Core.Bool.{beq}
-use Rattle.std.specs.Prelude.{if◌then◌else◌, Option, Some, None, pos, slice_get, unwrap_or}
-use Rattle.std.proofs.lemmas.List.{length-map, take_all}
 use Rattle.std.specs.Option.{option_map}
-use Rattle.std.proofs.lemmas.Bool.Decides.{eqb_tells}
-use Rattle.std.proofs.lemmas.Option.{slice_get-map, slice_get_read, none-some, same_Some}
-use Rattle.nf_rational.specs.Rational.{ℚ}
-use Rattle.nf_rational.specs.Operations.{0ℚ, whole, ◌+ℚ◌, ◌-ℚ◌, ◌*ℚ◌, neg_ℚ}
-use Rattle.nf_rational_laws.proofs.Polynomial.{reading_of}
-use Rattle.nf_rational_laws.proofs.Linear.{eq, linear_eq}
 use Rattle.nf_frac_def.specs.declared.Op.TheVariants.{Product}
-use Rattle.nf_frac_def.specs.Passing.{Passing}
-use Rattle.nf_model.specs.declared.State.{State}
-use Rattle.nf_model.specs.Entries.{number_at}
-use Rattle.nf_model.specs.Network.{IsNetwork, Link, Network, IsLink, hop_of, hops, sum_in, sum_out}
-use Rattle.nf_model.specs.Walk.{Hop}
-use Rattle.nf_model.specs.ThinFlow.{Sets, surplus}
-use Rattle.nf_model.specs.Pattern.{Pattern, Fills, Equation}
-use Rattle.nf_thin_balance.specs.declared.ranges.Range.{Range}
-use Rattle.nf_thin_balance.specs.Ranges.{IsInRange, IsFull, MeetsState, scaled}
 use Rattle.nf_model_laws.proofs.Totals.{sink_takes}
 use Rattle.nf_thin_balance.proofs.Within.{checked_is}
 use Rattle.nf_thin_one.specs.Fulls.{full_of}
-use Rattle.nf_thin_balance.specs.Conserving.{CanFlow, surplus_by, surplus_of_first, BoundsFirst, BalancesNodes, needed_at}
 
 -- ---- one link more
 first_term : (b : Bool) (a : ℚ) → (if b then a +ℚ 0ℚ else 0ℚ) ≡ 0ℚ +ℚ (if b then a else 0ℚ)

@@ -1,3 +1,4 @@
+mod Common
 pub mod Within
 pub mod Conserving
 pub mod Balances

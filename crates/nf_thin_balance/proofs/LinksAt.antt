@@ -1,17 +1,9 @@
 -- The links at each node: added link by link from the last one, and passed over where none is at the node.
-use Rattle.std.proofs.Common.{◌≡◌, ◌≢◌, ℕ, zero, suc, ◌+◌, ◌<◌, ◌≤◌, List, length, replicate, ⊎_elim, sym, ap, subst, ◌∙◌, arith}
-use Rattle.std.specs.Prelude.{Some, slice_get, slice_set}
-use Rattle.std.proofs.lemmas.Option.{same_Some, slice_get_within}
-use Rattle.std.proofs.lemmas.Bool.{ne_eqb}
-use Rattle.nf_rational_laws.proofs.Entries.{entry}
+use Rattle.std.proofs.Common.{◌≡◌, ◌≢◌, ℕ, zero, suc, ◌+◌, ◌<◌, ◌≤◌, List, length, replicate, ⊎_elim, sym, ap, subst, ◌∙◌, arith, Some, slice_get}
+use Rattle.std.proofs.Common.{slice_set}
+use Rattle.nf_thin_balance.proofs.Common.{same_Some, slice_get_within, ne_eqb, entry, Link, Network, IsLink, set_same, set_other, tell, length_set, Range}
+use Rattle.nf_thin_balance.proofs.Common.{IsInRange, BoundsFirst, IsNextAt, HasLinksFrom}
 use Rattle.nf_rational_laws.proofs.Naturals.{before_or_at}
-use Rattle.nf_model.specs.Network.{Link, Network, IsLink}
-use Rattle.nf_pattern.proofs.Setting.{set_same, set_other, tell}
-use Rattle.nf_thin_narrow.proofs.Entries.{length_set}
-use Rattle.nf_thin_balance.specs.declared.ranges.Range.{Range}
-use Rattle.nf_thin_balance.specs.Ranges.{IsInRange}
-use Rattle.nf_thin_balance.specs.Conserving.{BoundsFirst}
-use Rattle.nf_thin_balance.specs.LinksAt.{IsNextAt, HasLinksFrom}
 use Rattle.nf_thin_balance.proofs.Conserving.{same_surplus}
 use Rattle.nf_thin_balance.proofs.Balances.{replicated}
 

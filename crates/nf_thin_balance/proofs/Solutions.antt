@@ -1,14 +1,8 @@
 -- Solutions of a pattern with the slopes of the ranges: their scaled flows are possible ones, and conserved at every node.
 use Rattle.std.proofs.Common.{◌≡◌, List, sym, subst}
-use Rattle.nf_rational.specs.Rational.{ℚ}
-use Rattle.nf_model.specs.Entries.{number_at}
-use Rattle.nf_model.specs.Network.{Network, IsNetwork}
-use Rattle.nf_model.specs.ThinFlow.{Sets}
-use Rattle.nf_model.specs.Pattern.{Pattern, Solves, Meets}
-use Rattle.nf_thin_balance.specs.declared.ranges.Range.{Range}
+use Rattle.nf_thin_balance.proofs.Common.{ℚ, number_at, Network, IsNetwork, Sets, Pattern, Solves, Meets, Range, scaled, AreFull, CanFlow, IsConserved}
+use Rattle.nf_thin_balance.proofs.Common.{scaled_flow}
 use Rattle.nf_thin_balance.specs.declared.scaled.Scaled.{Scaled}
-use Rattle.nf_thin_balance.specs.Ranges.{scaled}
-use Rattle.nf_thin_balance.specs.Conserving.{AreFull, CanFlow, IsConserved, scaled_flow}
 use Rattle.nf_thin_balance.specs.Scaled.{IsScaled}
 use Rattle.nf_thin_balance.proofs.Conserving.{conserves, scaled_conserves}
 

@@ -1,31 +1,22 @@
 -- Numbers in ranges: sums, differences, and the scaled flow of a link in its state.
-use Rattle.std.proofs.Common.{◌≡◌, ℕ, Bool, true, false, [], ◌∷◌, sym, ap, subst, ◌∙◌, arith}
-use Rattle.std.specs.Prelude.{if◌then◌else◌, Option, Some, None, Ok, Err, IfSome}
+use Rattle.std.proofs.Common.{◌≡◌, ℕ, Bool, true, false, [], ◌∷◌, sym, ap, subst, ◌∙◌, arith, if◌then◌else◌, Option, Some, None, Ok, Err, IfSome}
+use Rattle.nf_thin_balance.proofs.Common.{none-some, same_Some, ℚ, 0ℚ, whole, ◌+ℚ◌, ◌-ℚ◌, ◌*ℚ◌, ring, reading, reading_of, le, linear_le, linear_eq}
+use Rattle.nf_thin_balance.proofs.Common.{≤ℚ_of_same, less_nn, nn_in, nn_out, nn_times, nn_whole, shifted_le, Passing, result_of, State, Fills, Equation}
+use Rattle.nf_thin_balance.proofs.Common.{Inequality, Range, IsAtLeastEnd, IsUpTo, IsInRange, IsEndOfSum, IsEndOfDifference, MeetsState, scaled}
 use Rattle.std.specs.Result.{result_ok}
-use Rattle.std.proofs.lemmas.Option.{none-some, same_Some}
 use lib.IntN.{ℤ, pos, ◌+ℤ◌, ◌-ℤ◌, ◌*ℤ◌, neg_ℤ}
 use lib.Signed.{◌≤ℤ◌}
 use borrow.Author.Differences.{ints}
-use Rattle.nf_rational.specs.Rational.{ℚ}
-use Rattle.nf_rational.specs.Operations.{0ℚ, whole, ◌+ℚ◌, ◌-ℚ◌, ◌*ℚ◌}
 use Rattle.nf_rational.specs.Order.{◌≤ℚ◌}
-use Rattle.nf_rational_laws.proofs.Polynomial.{ring, reading, reading_of}
 use Rattle.nf_rational_laws.proofs.IntegerRing.{ints_ring}
 use Rattle.nf_rational_laws.proofs.Ratio.{Is-self, Is-same, Is-times, Is-less, Is-whole}
 use Rattle.nf_rational_laws.proofs.Field.{whole-plus}
-use Rattle.nf_rational_laws.proofs.Linear.{le, linear_le, linear_eq}
-use Rattle.nf_rational_laws.proofs.Order.{≤ℚ_of_same, less_nn, nn_in, nn_out, nn_times, nn_whole, shifted_le}
 use Rattle.nf_rational_laws.proofs.Chains.{≤ℚ_trans}
 use Rattle.nf_rational_laws.proofs.Facts.{le_of_gap}
 use Rattle.nf_frac_def.specs.declared.Op.{Op}
 use Rattle.nf_frac_def.specs.declared.Passed.{Passed}
-use Rattle.nf_frac_def.specs.Passing.{Passing, result_of}
 use Rattle.nf_frac_def.specs.Checked.{checked}
-use Rattle.nf_model.specs.declared.State.{State}
 use Rattle.nf_model.specs.declared.State.TheVariants.{Tight, Full, Zero}
-use Rattle.nf_model.specs.Pattern.{Fills, Equation, Inequality}
-use Rattle.nf_thin_balance.specs.declared.ranges.Range.{Range}
-use Rattle.nf_thin_balance.specs.Ranges.{IsAtLeastEnd, IsUpTo, IsInRange, IsEndOfSum, IsEndOfDifference, MeetsState, scaled}
 
 -- ---- whole numbers
 whole-less : (a b : ℤ) → whole (a -ℤ b) ≡ whole a -ℚ whole b

@@ -1,16 +1,7 @@
 -- The capacities of Full and resetting links.
-use Rattle.std.proofs.Common.{◌≡◌, ℕ, refl, sym, ap, ◌∙◌}
-use Rattle.std.specs.Prelude.{Option, Some, None, is_none, IsSome, slice_get}
-use Rattle.std.specs.Option.{option_map}
-use Rattle.std.proofs.lemmas.Option.{none-some, same_Some, slice_get-map}
-use Rattle.nf_rational.specs.Rational.{ℚ}
-use Rattle.nf_model.specs.declared.State.{State}
-use Rattle.nf_model.specs.declared.State.TheVariants.{Full}
-use Rattle.nf_model.specs.Entries.{Has}
-use Rattle.nf_model.specs.Network.{Link, Network, IsLink, unbounded}
-use Rattle.nf_model.specs.ThinFlow.{Sets}
-use Rattle.nf_model.specs.Pattern.{Pattern, HasState}
-use Rattle.nf_thin_equation_laws.specs.Equations.{IsPatternIn}
+use Rattle.std.proofs.Common.{◌≡◌, ℕ, refl, sym, ap, ◌∙◌, Option, Some, None, is_none, IsSome, slice_get}
+use Rattle.nf_thin_guess.proofs.Common.{option_map, none-some, same_Some, slice_get-map, ℚ, State, Full, Has, Link, Network, IsLink, unbounded, Sets}
+use Rattle.nf_thin_guess.proofs.Common.{Pattern, HasState, IsPatternIn}
 
 some_unless : {A : Type 0} (o : Option A) → (o ≡ None → ⊥) → IsSome o
 some_unless None never = absurd (never refl)

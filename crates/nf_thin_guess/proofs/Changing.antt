@@ -1,17 +1,9 @@
 -- A pattern in which one link changes its state.
-use Rattle.std.proofs.Common.{◌≡◌, ◌≢◌, ⊎_elim, ℕ, Bool, true, false, List, length-set, set, sym, ap, subst, ◌∙◌}
-use Rattle.std.specs.Prelude.{Option, Some, None, is_none, IsSome, slice_get}
-use Rattle.std.specs.Option.{option_map}
-use Rattle.std.proofs.lemmas.Option.{slice_get-map, same_Some, slice_get_within}
-use Rattle.nf_rational.specs.Rational.{ℚ}
-use Rattle.nf_model.specs.declared.State.{State}
-use Rattle.nf_model.specs.declared.State.TheVariants.{Full}
-use Rattle.nf_model.specs.Entries.{Has}
-use Rattle.nf_model.specs.Network.{Link, Network, IsLink, unbounded}
-use Rattle.nf_model.specs.ThinFlow.{Sets}
-use Rattle.nf_model.specs.Pattern.{Pattern, HasState, NeedsState, IsPattern}
+use Rattle.std.proofs.Common.{◌≡◌, ◌≢◌, ⊎_elim, ℕ, Bool, true, false, List, length-set, set, sym, ap, subst, ◌∙◌, Option, Some, None, is_none, IsSome}
+use Rattle.std.proofs.Common.{slice_get}
+use Rattle.nf_thin_guess.proofs.Common.{option_map, slice_get-map, same_Some, slice_get_within, ℚ, State, Full, Has, Link, Network, IsLink, unbounded, Sets}
+use Rattle.nf_thin_guess.proofs.Common.{Pattern, HasState, NeedsState, IsPattern, IsPatternIn}
 use Rattle.nf_pattern.proofs.Setting.{set_same, set_other, tell}
-use Rattle.nf_thin_equation_laws.specs.Equations.{IsPatternIn}
 
 pub by_place : (P : Type 0) (k e : ℕ) → (k ≡ e → P) → (k ≢ e → P) → P
 by_place P k e same apart = ⊎_elim same apart (tell k e)

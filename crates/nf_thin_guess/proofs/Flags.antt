@@ -1,6 +1,5 @@
 -- Flags of links without a capacity.
-use Rattle.std.proofs.Common.{◌≡◌, Bool, true, false, not, refl, sym, ap, ◌∙◌}
-use Rattle.std.specs.Prelude.{Option, is_some, is_none}
+use Rattle.std.proofs.Common.{◌≡◌, Bool, true, false, not, refl, sym, ap, ◌∙◌, Option, is_some, is_none}
 
 turned : (b : Bool) → not (not b) ≡ b
 turned true = refl

@@ -1,3 +1,4 @@
+mod Common
 pub mod Flags
 pub mod Changing
 pub mod Capacities

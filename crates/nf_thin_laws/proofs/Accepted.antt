@@ -1,8 +1,8 @@
 -- A solution of a listed pattern's equations that meets its inequalities is a thin flow.
 use Rattle.std.proofs.Common.{◌≡◌, ◌≢◌, ℕ, ◌<◌, ◌≤◌, List, length, Bool, true, false, Option, Some, None, slice_get, sym, ap, subst, refl, ◌∙◌, arith}
-use Rattle.nf_thin_laws.proofs.Common.{ℚ, 0ℚ, ◌≤ℚ◌, ◌<ℚ◌, ≤ℚ_of_same, not_both_ℚ, State, Tight, Full, Zero, number_at, Has, Link, Network, IsLink, IsNetwork}
-use Rattle.nf_thin_laws.proofs.Common.{unbounded, Sets, exit_slope, exit_slope_at, Enters, IsThinFlow, Pattern, HasState, IsPattern, Equation, Solves, Meets}
-use Rattle.nf_thin_laws.proofs.Common.{IsPositive-link, AreSets, EachIsLed}
+use Rattle.nf_thin_laws.proofs.Common.{ℚ, 0ℚ, ◌≤ℚ◌, ◌<ℚ◌, ≤ℚ_of_same, not_both_ℚ, State, Tight, Full, Zero, number_at, Has, Link, Network, IsLink}
+use Rattle.nf_thin_laws.proofs.Common.{IsNetwork, unbounded, Sets, exit_slope, exit_slope_at, Enters, IsThinFlow, Pattern, HasState, IsPattern, Equation}
+use Rattle.nf_thin_laws.proofs.Common.{Solves, Meets, IsPositive-link, AreSets, EachIsLed}
 use Rattle.nf_thin_laws.proofs.Flags.{entry_beyond, number_at-beyond, flag}
 use Rattle.nf_thin_laws.proofs.ExitSlopes.{exit_resetting, exit_full, exit_tight, exit_zero}
 use Rattle.nf_thin_laws.proofs.Patterns.{Stands, with_state, resets, inactive, stands, Leads, by_tight, by_full, by_reset, led}

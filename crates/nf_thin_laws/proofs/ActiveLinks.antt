@@ -1,12 +1,11 @@
 -- Active links hold no cycle, and none enters the source.
-use Rattle.std.proofs.Common.{◌≡◌, ◌≢◌, ℕ, zero, suc, ◌<◌, List, [], ◌∷◌, map, ◌⊎◌, inl, inr, ⊎_elim, Bool, true, false, eqb, Some, sym, ap, subst, refl, ◌∙◌}
-use Rattle.nf_rational_laws.proofs.Tests.{less_of_test}
-use Rattle.nf_thin_laws.proofs.Common.{eqb_tells, length-map, ℚ, 0ℚ, ◌+ℚ◌, ◌-ℚ◌, ◌≤ℚ◌, le_ℚ, lt_ℚ, reading_of, ≤ℚ_of_lt, test_of_le, le}
-use Rattle.nf_thin_laws.proofs.Common.{eq, linear_le, plus_zero_le, number_at, Has, IsWalk, transit_sum, transit_of, Link, Network, IsNetwork, hop_of, hops}
-use Rattle.nf_thin_laws.proofs.Common.{Sets, Enters, sets_at, slack, slacks_of, IsWalk-link, transit_of-is, AreSets, IsActiveWalk, HoldNoCycle, EachIsEntered}
-use Rattle.nf_thin_laws.proofs.Common.{NoneEntersSource}
+use Rattle.std.proofs.Common.{◌≡◌, ◌≢◌, ℕ, zero, suc, ◌<◌, List, [], ◌∷◌, map, ◌⊎◌, inl, inr, ⊎_elim, Bool, true, false, eqb, Some, sym, ap, subst, refl}
+use Rattle.std.proofs.Common.{◌∙◌}
+use Rattle.nf_thin_laws.proofs.Common.{less_of_test, eqb_tells, length-map, ℚ, 0ℚ, ◌+ℚ◌, ◌-ℚ◌, ◌≤ℚ◌, le_ℚ, lt_ℚ, reading_of, ≤ℚ_of_lt, test_of_le, le, eq}
+use Rattle.nf_thin_laws.proofs.Common.{linear_le, plus_zero_le, number_at, Has, IsWalk, transit_sum, transit_of, Link, Network, IsNetwork, hop_of, hops}
+use Rattle.nf_thin_laws.proofs.Common.{Sets, Enters, sets_at, slack, slacks_of, IsWalk-link, transit_of-is, AreSets, IsActiveWalk, HoldNoCycle}
+use Rattle.nf_thin_laws.proofs.Common.{EachIsEntered, NoneEntersSource, way_back}
 use Rattle.nf_model_laws.proofs.Slacks.{slack_of_active}
-use Rattle.nf_model_laws.proofs.Ways.{way_back}
 use Rattle.nf_model_laws.proofs.EarliestWalks.{no_loop}
 
 -- ---- the sets of labels

@@ -1,8 +1,8 @@
 -- Phase sequences agree.
 use Rattle.std.proofs.Common.{◌≡◌, ℕ, ◌<◌, List, [], ◌∷◌, length, sym, ap, subst, refl, ◌∙◌}
-use mathlib.Core.Path.{ap₂}
 use Rattle.nf_thin_laws.proofs.Common.{ℚ, 0ℚ, ◌+ℚ◌, Network, IsNetwork, hops, rate_at, slacks_of, sets_at, AreStartLabels, moved, IsPhaseLength, IsPhase}
 use Rattle.nf_thin_laws.proofs.Common.{PhasesFrom, IsPhaseSequence, same_entries}
+use mathlib.Core.Path.{ap₂}
 use Rattle.nf_model_laws.proofs.OneValue.{IsLeastTransit-unique, IsPhaseLength-unique}
 use Rattle.nf_thin_laws.proofs.ActiveLinks.{HoldNoCycle-sets_at}
 use Rattle.nf_thin_laws.proofs.Slopes.{slopes-unique}

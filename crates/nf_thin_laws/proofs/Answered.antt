@@ -1,7 +1,7 @@
 -- The answer of a search among patterns with forced states.
 use Rattle.std.proofs.Common.{ℕ, ◌<◌, ◌≤◌, List}
-use Rattle.nf_thin_laws.proofs.Common.{ℚ, Passing, Network, Sets, Pattern, IsSolution, IsAccepted, HasPlace, Found, OverBudget, IsSearch, filled}
-use Rattle.nf_thin_laws.specs.NarrowLaws.{Narrows, NoneFilledBefore}
+use Rattle.nf_thin_laws.proofs.Common.{ℚ, Passing, Network, Sets, Pattern, IsSolution, IsAccepted, HasPlace, Found, OverBudget, IsSearch, filled, Narrows}
+use Rattle.nf_thin_laws.proofs.Common.{NoneFilledBefore}
 use Rattle.nf_thin_laws.proofs.Narrowed.{found, beyond}
 
 module _ (passes : Passing) (net : Network) (sets : Sets) (rate : ℚ) (base forced : Pattern) (listing narrow : List Pattern)

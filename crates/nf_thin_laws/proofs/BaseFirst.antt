@@ -1,10 +1,6 @@
 -- No pattern comes before the base.
-use Rattle.std.proofs.Common.{◌≡◌, ◌≢◌, ℕ, suc, ◌<◌, [], ◌∷◌, inl, inr, ⊎_elim, Bool, true, false, eqb, ap, refl, ◌∙◌, arith}
-use Rattle.std.specs.Prelude.{if◌then◌else◌}
-use Rattle.std.proofs.lemmas.Bool.Decides.{eqb_tells}
-use Rattle.std.proofs.lemmas.Bool.{eq-eqb}
-use Rattle.nf_rational_laws.proofs.Results.{not_both}
-use Rattle.nf_thin_laws.proofs.Common.{Pattern, rank, changes, IsEarlier, IsBefore}
+use Rattle.std.proofs.Common.{◌≡◌, ◌≢◌, ℕ, suc, ◌<◌, [], ◌∷◌, inl, inr, ⊎_elim, Bool, true, false, eqb, ap, refl, ◌∙◌, arith, if◌then◌else◌}
+use Rattle.nf_thin_laws.proofs.Common.{eqb_tells, eq-eqb, not_both, Pattern, rank, changes, IsEarlier, IsBefore}
 
 pub changes-self : (base : Pattern) → changes base base ≡ 0
 changes-self [] = refl

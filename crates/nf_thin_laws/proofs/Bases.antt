@@ -1,7 +1,8 @@
 -- The base pattern of a phase is unique.
-use Rattle.std.proofs.Common.{◌≡◌, ℕ, zero, suc, ◌<◌, List, [], ◌∷◌, Bool, true, false, length, refl, sym, ap, ◌∙◌, arith, inl, inr}
-use Rattle.nf_thin_laws.proofs.Common.{◌⊎◌, Option, Some, None, slice_get, none-some, same_Some, slice_get-get_or, State, Tight, Full, Zero, Has, Hop, Sets}
-use Rattle.nf_thin_laws.proofs.Common.{Pattern, HasState, NeedsState, IsFirstInto, IsBase}
+use Rattle.std.proofs.Common.{◌≡◌, ℕ, zero, suc, ◌<◌, List, [], ◌∷◌, Bool, true, false, length, refl, sym, ap, ◌∙◌, arith, inl, inr, ◌⊎◌, Option, Some}
+use Rattle.std.proofs.Common.{None, slice_get}
+use Rattle.nf_thin_laws.proofs.Common.{none-some, same_Some, slice_get-get_or, State, Tight, Full, Zero, Has, Hop, Sets, Pattern, HasState, NeedsState}
+use Rattle.nf_thin_laws.proofs.Common.{IsFirstInto, IsBase}
 
 -- ---- lists with the same entries
 pub same_entries : {A : Type 0} (n : ℕ) (xs ys : List A) → length xs ≡ n → length ys ≡ n → ((e : ℕ) → e < n → slice_get xs e ≡ slice_get ys e) → xs ≡ ys

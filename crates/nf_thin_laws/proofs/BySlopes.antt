@@ -1,10 +1,10 @@
 -- The slopes of a thin flow force states.
-use Rattle.std.proofs.Common.{◌≡◌, ◌≢◌, ◌⊎◌, inl, inr, ℕ, Bool, true, false, List, length, refl, sym, ap, subst, ◌∙◌, if◌then◌else◌}
-use Rattle.nf_rational_laws.proofs.Results.{None_of_test}
-use Rattle.nf_thin_laws.proofs.Common.{Option, Some, None, slice_get, is_none, unwrap_or, none-some, same_Some, ℚ, ◌≤ℚ◌, ◌<ℚ◌, lt_ℚ, ≤ℚ_of_same, not_both_ℚ}
-use Rattle.nf_thin_laws.proofs.Common.{lt_ℚ_cases, State, Tight, Full, Zero, number_at, Has, Link, Network, IsLink, IsNetwork, unbounded, Sets, exit_slope}
-use Rattle.nf_thin_laws.proofs.Common.{Enters, IsThinFlow, Pattern, HasState, NeedsState, IsPattern, IsListedIn, IsSolvable, AreSets, HoldNoCycle, AllowState}
-use Rattle.nf_thin_laws.proofs.Common.{slice_get-image, forced_state, forced_at, forced_by, IsForcing, HasForced}
+use Rattle.std.proofs.Common.{◌≡◌, ◌≢◌, ◌⊎◌, inl, inr, ℕ, Bool, true, false, List, length, refl, sym, ap, subst, ◌∙◌, if◌then◌else◌, Option, Some, None}
+use Rattle.std.proofs.Common.{slice_get, is_none, unwrap_or}
+use Rattle.nf_thin_laws.proofs.Common.{None_of_test, none-some, same_Some, ℚ, ◌≤ℚ◌, ◌<ℚ◌, lt_ℚ, ≤ℚ_of_same, not_both_ℚ, lt_ℚ_cases, State, Tight, Full}
+use Rattle.nf_thin_laws.proofs.Common.{Zero, number_at, Has, Link, Network, IsLink, IsNetwork, unbounded, Sets, exit_slope, Enters, IsThinFlow, Pattern}
+use Rattle.nf_thin_laws.proofs.Common.{HasState, NeedsState, IsPattern, IsListedIn, IsSolvable, AreSets, HoldNoCycle, AllowState, slice_get-image}
+use Rattle.nf_thin_laws.proofs.Common.{forced_state, forced_at, forced_by, IsForcing, HasForced}
 use Rattle.nf_thin_laws.proofs.Slopes.{NoneEntersSource-thin}
 use Rattle.nf_thin_laws.proofs.States.{AllowState-thin}
 use Rattle.nf_thin_laws.proofs.Entrywise.{entrywise-length, entrywise-parts}

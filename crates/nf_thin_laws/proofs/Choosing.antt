@@ -1,7 +1,8 @@
 -- The states of listed patterns are among the choices.
-use Rattle.std.proofs.Common.{◌≡◌, ◌⊎◌, inl, inr, ℕ, suc, ◌<◌, Bool, true, false, List, [], ◌∷◌, length, refl, sym, ap, subst, ◌∙◌, arith}
-use Rattle.nf_thin_laws.proofs.Common.{Option, Some, None, slice_get, none-some, same_Some, State, Tight, Full, Zero, Has, Hop, IsHop, Sets, Pattern, HasState}
-use Rattle.nf_thin_laws.proofs.Common.{IsPattern, IsListed, IsIn, AreIn, AreSole, states_of, choices_of}
+use Rattle.std.proofs.Common.{◌≡◌, ◌⊎◌, inl, inr, ℕ, suc, ◌<◌, Bool, true, false, List, [], ◌∷◌, length, refl, sym, ap, subst, ◌∙◌, arith, Option, Some}
+use Rattle.std.proofs.Common.{None, slice_get}
+use Rattle.nf_thin_laws.proofs.Common.{none-some, same_Some, State, Tight, Full, Zero, Has, Hop, IsHop, Sets, Pattern, HasState, IsPattern, IsListed, IsIn}
+use Rattle.nf_thin_laws.proofs.Common.{AreIn, AreSole, states_of, choices_of}
 
 -- link by link
 abbrev EachIsIn : Pattern → List Bool → List Bool → Pattern → Type 0

@@ -1,7 +1,8 @@
 -- Fewer assignments come before a pattern than before a later one.
 use Rattle.std.proofs.Common.{◌≡◌, inl, inr, ⊎_elim, ℕ, zero, suc, ◌+◌, ◌<◌, ◌≤◌, Bool, true, false, List, [], ◌∷◌, length, refl, sym, ap, ◌∙◌, arith, leb}
-use Rattle.nf_thin_laws.proofs.Common.{Option, nat_lt, if◌then◌else◌, leb_tells, State, Pattern, rank, changes, IsEarlier, IsBefore, before_or_at, change}
-use Rattle.nf_thin_laws.proofs.Common.{Choices, IsIn, AreIn, left_ways, ways_by, ways_below, ways, ways_earlier, ways_fewer, ways_before}
+use Rattle.std.proofs.Common.{Option, nat_lt, if◌then◌else◌}
+use Rattle.nf_thin_laws.proofs.Common.{leb_tells, State, Pattern, rank, changes, IsEarlier, IsBefore, before_or_at, change, Choices, IsIn, AreIn, left_ways}
+use Rattle.nf_thin_laws.proofs.Common.{ways_by, ways_below, ways, ways_earlier, ways_fewer, ways_before}
 use Rattle.nf_thin_laws.proofs.ForcedOrder.{changes_first}
 
 -- ---- a number that is counted only if x is less than y

@@ -1,22 +1,20 @@
 -- The curves of a run end at the labels of the departure reached.
-use Rattle.std.proofs.Common.{◌≡◌, ℕ, zero, suc, ◌+◌, ◌<◌, List, [], ◌∷◌, Bool, true, false, length, refl, sym, ap, ◌∙◌, subst, arith, inl, inr}
-use Rattle.nf_thin_laws.proofs.Common.{◌-◌, ◌⊎◌, Option, Some, None, Result, Ok, Err, map, take, slice_get, unwrap_or, enumerate_from, none-some, same_Some}
-use Rattle.nf_thin_laws.proofs.Common.{slice_get-map, ℚ, 0ℚ, ◌+ℚ◌, ◌*ℚ◌, ◌≤ℚ◌, ◌<ℚ◌, lt_ℚ, ≤ℚ_antisymm, ≤ℚ_of_same, nn_plus, lt_ℚ_cases, ring, reading, Passing}
-use Rattle.nf_thin_laws.proofs.Common.{Checked, checked, each, at_part, ◌>>=◌, number_at, Hop, IsHop, IsWalk, transit_sum, transit_of, Link, Network, IsLink}
-use Rattle.nf_thin_laws.proofs.Common.{IsNetwork, hop_of, hops, slacks_of, sets_at, Pattern, moved, AreStartLabels, extend_list, advance_list, last-append}
-use Rattle.nf_thin_laws.proofs.Common.{term_of_zero}
+use Rattle.std.proofs.Common.{◌≡◌, ℕ, zero, suc, ◌+◌, ◌<◌, List, [], ◌∷◌, Bool, true, false, length, refl, sym, ap, ◌∙◌, subst, arith, inl, inr, ◌-◌, ◌⊎◌}
+use Rattle.std.proofs.Common.{Option, Some, None, Result, Ok, Err, map, take, slice_get, unwrap_or}
+use Rattle.nf_thin_laws.proofs.Common.{enumerate_from, none-some, same_Some, slice_get-map, ℚ, 0ℚ, ◌+ℚ◌, ◌*ℚ◌, ◌≤ℚ◌, ◌<ℚ◌, lt_ℚ, ≤ℚ_antisymm, ≤ℚ_of_same}
+use Rattle.nf_thin_laws.proofs.Common.{nn_plus, lt_ℚ_cases, ring, reading, Passing, Checked, checked, each, at_part, ◌>>=◌, number_at, Hop, IsHop, IsWalk}
+use Rattle.nf_thin_laws.proofs.Common.{transit_sum, transit_of, Link, Network, IsLink, IsNetwork, hop_of, hops, slacks_of, sets_at, Pattern, moved}
+use Rattle.nf_thin_laws.proofs.Common.{AreStartLabels, extend_list, advance_list, last-append, term_of_zero, Part, Extend, Advance, Curve, Sum, Difference}
+use Rattle.nf_thin_laws.proofs.Common.{Product, Quotient, Cause, is_positive, QueueStep, LinkStep, LinkPhase, rate_over, size_at, slope_at, queue_step}
+use Rattle.nf_thin_laws.proofs.Common.{link_step, link_phase, GrowingCurve, LinkCurves, with_point, first_label_curve, first_trace, first_queue}
+use Rattle.nf_thin_laws.proofs.Common.{first_curves, label_curves_after, trace_after, queue_curve_after, curves_after, link_curves_after, amount_so_far}
+use Rattle.nf_thin_laws.proofs.Common.{Standing, Bounds, PhaseStep, IsStart, standing_after, Goes, Runs, at_horizon, at_phases, fails, goes, IsPhaseRun}
 use Rattle.std.specs.Option.{option_map, option_map_or}
 use Rattle.nf_rational_laws.proofs.Field.{rationals}
-use Rattle.nf_frac_def.specs.declared.Part.{Part}
-use Rattle.nf_frac_def.specs.declared.Part.TheVariants.{Extend, Advance, Curve}
-use Rattle.nf_frac_def.specs.declared.Op.TheVariants.{Sum, Difference, Product, Quotient}
 use Rattle.nf_model.specs.Curve.{Point}
 use Rattle.nf_model.specs.Equilibrium.{Trace}
-use Rattle.nf_net_def.specs.declared.Cause.{Cause}
-use Rattle.nf_rational.specs.Signs.{is_positive}
-use Rattle.nf_thin_def.specs.CurveList.{QueueStep, LinkStep, LinkPhase, rate_over, size_at, slope_at, queue_step, link_step, link_phase, curve_list}
-use Rattle.nf_thin_def.specs.ReportCurves.{GrowingCurve, LinkCurves, with_point, first_label_curve, first_trace, first_queue, first_curves, label_curves_after, trace_after, queue_curve_after, curves_after, link_curves_after, amount_so_far}
-use Rattle.nf_thin_def.specs.PhaseRun.{Standing, Bounds, PhaseStep, IsStart, standing_after, phase_lists, Goes, Runs, at_horizon, at_phases, fails, goes, IsPhaseRun}
+use Rattle.nf_thin_def.specs.CurveList.{curve_list}
+use Rattle.nf_thin_def.specs.PhaseRun.{phase_lists}
 use Rattle.nf_thin_laws.proofs.Exact.{advanced_exact}
 use Rattle.nf_thin_def.specs.Ends.{time_of_last, EndsAtLabels}
 use Rattle.nf_frac_def.proofs.Binding.{bind_ok}

@@ -1,17 +1,18 @@
 -- If no operation of a sequence passes, its value is also that of the sequence in which fewer operations can pass.
 -- So it is the exact value: that of the sequence in which no operation can pass.
-use Rattle.std.proofs.Common.{◌≡◌, ℕ, zero, suc, ◌+◌, List, [], ◌∷◌, Bool, true, false, length, refl, sym, ap, ◌∙◌, arith}
-use Rattle.nf_thin_laws.proofs.Common.{Option, Some, None, Ok, map, slice_get, unwrap_or, enumerate_from, ℚ, 0ℚ, ◌+ℚ◌, ◌-ℚ◌, ◌*ℚ◌, Passing, never, State, Tight}
-use Rattle.nf_thin_laws.proofs.Common.{Full, Zero, number_at, Hop, Link, Network, hops, next_change, Sets, slack, slacks_of, moved, Pattern}
-use Rattle.nf_frac_def.specs.declared.Op.TheVariants.{Sum, Difference, Product, Quotient}
-use Rattle.nf_frac_def.specs.Checked.{Checked, checked, each, ◌>>=◌}
+use Rattle.std.proofs.Common.{◌≡◌, ℕ, zero, suc, ◌+◌, List, [], ◌∷◌, Bool, true, false, length, refl, sym, ap, ◌∙◌, arith, Option, Some, None, Ok, map}
+use Rattle.std.proofs.Common.{slice_get, unwrap_or}
+use Rattle.nf_thin_laws.proofs.Common.{enumerate_from, ℚ, 0ℚ, ◌+ℚ◌, ◌-ℚ◌, ◌*ℚ◌, Passing, never, State, Tight, Full, Zero, number_at, Hop, Link, Network}
+use Rattle.nf_thin_laws.proofs.Common.{hops, next_change, Sets, slack, slacks_of, moved, Pattern, Sum, Difference, Product, Quotient, Checked, each, ◌>>=◌}
+use Rattle.nf_thin_laws.proofs.Common.{is_zero, is_positive, are_opposite, to_zero, after_link, least_after, until_change, Advanced, label_after, cut_at}
+use Rattle.nf_thin_laws.proofs.Common.{LinkPhase, rate_over, size_at, slope_at, queue_step, link_step, link_phase}
+use Rattle.nf_frac_def.specs.Checked.{checked}
 use Rattle.nf_frac_def.proofs.Exact.{GivesAs, PassesFewer, bind, each_as, fold_as, same, same_value, one, none_passes, each_exact}
-use Rattle.nf_rational.specs.Signs.{is_zero, is_positive, are_opposite}
 use Rattle.nf_thin_def.specs.Slack.{slack_of, slack_list}
 use Rattle.nf_thin_def.specs.Verdict.{bound_on, bound_of, verdict_list}
-use Rattle.nf_thin_def.specs.Extend.{to_zero, after_link, least_after, until_change, extend_list}
-use Rattle.nf_thin_def.specs.Advance.{Advanced, label_after, labels_after, advance_list, cut_at}
-use Rattle.nf_thin_def.specs.CurveList.{LinkPhase, rate_over, size_at, slope_at, queue_step, link_step, link_phase, curve_list}
+use Rattle.nf_thin_def.specs.Extend.{extend_list}
+use Rattle.nf_thin_def.specs.Advance.{labels_after, advance_list}
+use Rattle.nf_thin_def.specs.CurveList.{curve_list}
 
 module _ (passes fewer : Passing) (none_more : PassesFewer passes fewer) where
   -- ---- each operation sequence

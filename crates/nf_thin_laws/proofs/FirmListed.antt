@@ -1,8 +1,9 @@
 -- Each assignment of freely combinable states is listed.
-use Rattle.std.proofs.Common.{◌≡◌, ◌⊎◌, inl, inr, ℕ, zero, suc, ◌<◌, Bool, true, false, List, [], ◌∷◌, length, refl, sym, ap, subst, ◌∙◌, arith}
-use Rattle.nf_thin_laws.proofs.Common.{Option, Some, None, slice_get, none-some, same_Some, slice_get_within, State, Tight, Full, Zero, Has, Hop, Sets, Pattern}
-use Rattle.nf_thin_laws.proofs.Common.{HasState, NeedsState, IsPattern, IsListed, rank, entry, IsIn, AreIn, if_allowed, states_by, choices_by, IsKeeper}
-use Rattle.nf_thin_laws.proofs.Common.{AreFirm, Ascend, AllAscend}
+use Rattle.std.proofs.Common.{◌≡◌, ◌⊎◌, inl, inr, ℕ, zero, suc, ◌<◌, Bool, true, false, List, [], ◌∷◌, length, refl, sym, ap, subst, ◌∙◌, arith, Option}
+use Rattle.std.proofs.Common.{Some, None, slice_get}
+use Rattle.nf_thin_laws.proofs.Common.{none-some, same_Some, slice_get_within, State, Tight, Full, Zero, Has, Hop, Sets, Pattern, HasState, NeedsState}
+use Rattle.nf_thin_laws.proofs.Common.{IsPattern, IsListed, rank, entry, IsIn, AreIn, if_allowed, states_by, choices_by, IsKeeper, AreFirm, Ascend}
+use Rattle.nf_thin_laws.proofs.Common.{AllAscend}
 use Rattle.nf_thin_laws.proofs.Forced.{forest_within}
 use Rattle.nf_thin_laws.proofs.Counting.{AreIn-length}
 

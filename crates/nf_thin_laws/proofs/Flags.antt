@@ -1,5 +1,6 @@
 -- Entries of lists, and flags that are set or not.
-use Rattle.std.proofs.Common.{◌≡◌, ℕ, ◌<◌, ◌≤◌, List, length, ◌⊎◌, inl, inr, Bool, true, false, Option, Some, None, slice_get, get_or, unwrap_or, sym, ap, refl, ◌∙◌}
+use Rattle.std.proofs.Common.{◌≡◌, ℕ, ◌<◌, ◌≤◌, List, length, ◌⊎◌, inl, inr, Bool, true, false, Option, Some, None, slice_get, get_or, unwrap_or, sym, ap}
+use Rattle.std.proofs.Common.{refl, ◌∙◌}
 use Rattle.nf_thin_laws.proofs.Common.{slice_get_cases, slice_get_past, ℚ, 0ℚ, number_at, Has}
 
 pub entry_beyond : {A : Type 0} (xs : List A) (e : ℕ) → slice_get xs e ≡ None → length xs ≤ e

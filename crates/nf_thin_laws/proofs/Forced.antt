@@ -1,8 +1,8 @@
 -- Patterns with forced states, and patterns without the forced links.
 use Rattle.std.proofs.Common.{◌≡◌, ◌⊎◌, inl, inr, ℕ, Bool, true, false, List, [], ◌∷◌, length, refl, sym, ap, ◌∙◌, arith, Option, Some, None, slice_get}
 use Rattle.nf_thin_laws.proofs.Common.{none-some, same_Some, slice_get_within, State, Tight, Full, Zero, Has, Hop, Sets, Pattern, HasState, NeedsState}
-use Rattle.nf_thin_laws.proofs.Common.{IsPattern, IsTrail, IsForest, IsListed, entry, free_state, given_state, unforced_of, filled, still_active, now_resetting}
-use Rattle.nf_thin_laws.proofs.Common.{sets_left, IsForcing, HasForced}
+use Rattle.nf_thin_laws.proofs.Common.{IsPattern, IsTrail, IsForest, IsListed, entry, free_state, given_state, unforced_of, filled, still_active}
+use Rattle.nf_thin_laws.proofs.Common.{now_resetting, sets_left, IsForcing, HasForced}
 use Rattle.nf_thin_laws.proofs.Entrywise.{entrywise-length, entrywise-at, entrywise-parts, entrywise-back}
 
 -- ---- forests of fewer hops

@@ -1,7 +1,7 @@
 -- Patterns with forced states have the order of the patterns left.
-use Rattle.std.proofs.Common.{◌≡◌, ◌⊎◌, inl, inr, suc, ◌+◌, ◌<◌, Bool, true, false, [], ◌∷◌, length, refl, sym, ap, ◌∙◌, arith}
-use Rattle.nf_thin_laws.proofs.Common.{◌↔◌, Option, Some, None, ◌==◌, if◌then◌else◌, same_Some, State, Pattern, rank, changes, IsEarlier, IsBefore, unforced_of}
-use Rattle.nf_thin_laws.proofs.Common.{HasForced, change, forced_changes}
+use Rattle.std.proofs.Common.{◌≡◌, ◌⊎◌, inl, inr, suc, ◌+◌, ◌<◌, Bool, true, false, [], ◌∷◌, length, refl, sym, ap, ◌∙◌, arith, ◌↔◌, Option, Some, None}
+use Rattle.std.proofs.Common.{◌==◌, if◌then◌else◌}
+use Rattle.nf_thin_laws.proofs.Common.{same_Some, State, Pattern, rank, changes, IsEarlier, IsBefore, unforced_of, HasForced, change, forced_changes}
 
 pub changes_first : (b s : Option State) (base p : Pattern) → changes (b ∷ base) (s ∷ p) ≡ change b s + changes base p
 changes_first b s base p = go (rank b == rank s)

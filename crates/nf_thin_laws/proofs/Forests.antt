@@ -1,13 +1,13 @@
 -- A flow on a forest with surplus 0 at each node is 0. If a link carries flow, some link carries as much into the node where it starts,
 -- and so on. These links, each crossed in the direction of its flow, close a trail.
-use Rattle.std.proofs.Common.{◌≡◌, ◌≢◌, ℕ, zero, suc, ◌+◌, ◌<◌, ◌≤◌, List, [], ◌∷◌, length, map, ◌⊎◌, inl, inr, ⊎_elim, Bool, true, false, if◌then◌else◌, eqb, Some, slice_get, sym, ap, subst, refl, ◌∙◌, arith}
-use Rattle.nf_thin_laws.proofs.Common.{Contains, IsDistinct, list_any, eqb_tells, slice_get_within, same_Some, length-map, ℚ, 0ℚ, 1ℚ, ◌+ℚ◌, ◌-ℚ◌, ◌*ℚ◌, ◌≤ℚ◌}
-use Rattle.nf_thin_laws.proofs.Common.{◌<ℚ◌, max_ℚ, reading_of, ≤ℚ_antisymm, ≤ℚ_of_lt, lt_or_le_ℚ, not_both_ℚ, le, lt, eq, linear_le, linear_false}
-use Rattle.nf_thin_laws.proofs.Common.{max_is_right, max_left, or_rest, Link, Network, IsLink, IsNetwork, hop_of, hops, sum_in, sum_out, IsTrail, AllDiffer}
-use Rattle.nf_thin_laws.proofs.Common.{IsForest, hop_at, IsLink-unique, out_less_in}
+use Rattle.std.proofs.Common.{◌≡◌, ◌≢◌, ℕ, zero, suc, ◌+◌, ◌<◌, ◌≤◌, List, [], ◌∷◌, length, map, ◌⊎◌, inl, inr, ⊎_elim, Bool, true, false, if◌then◌else◌}
+use Rattle.std.proofs.Common.{eqb, Some, slice_get, sym, ap, subst, refl, ◌∙◌, arith, Contains}
+use Rattle.nf_thin_laws.proofs.Common.{IsDistinct, list_any, eqb_tells, slice_get_within, same_Some, length-map, ℚ, 0ℚ, 1ℚ, ◌+ℚ◌, ◌-ℚ◌, ◌*ℚ◌, ◌≤ℚ◌, ◌<ℚ◌}
+use Rattle.nf_thin_laws.proofs.Common.{max_ℚ, reading_of, ≤ℚ_antisymm, ≤ℚ_of_lt, lt_or_le_ℚ, not_both_ℚ, le, lt, eq, linear_le, linear_false, max_is_right}
+use Rattle.nf_thin_laws.proofs.Common.{max_left, or_rest, Link, Network, IsLink, IsNetwork, hop_of, hops, sum_in, sum_out, IsTrail, AllDiffer, IsForest}
+use Rattle.nf_thin_laws.proofs.Common.{hop_at, IsLink-unique, out_less_in, sum_in-same, sum_out-same, sum_in-none, sum_out-none, sum_in-line, sum_in-order}
+use Rattle.nf_thin_laws.proofs.Common.{sum_out-order, sum_in-each, sum_out-each, distinct_more, distinct_none}
 use Rattle.std.proofs.lemmas.Map.Steps.{length-le_from_distinct_below}
-use Rattle.nf_model_laws.proofs.Sums.{sum_in-same, sum_out-same, sum_in-none, sum_out-none, sum_in-line, sum_in-order, sum_out-order, sum_in-each, sum_out-each}
-use Rattle.nf_model_laws.proofs.Ways.{distinct_more, distinct_none}
 use Rattle.nf_model_laws.proofs.Contained.{contains_none, contains_cases, not_any, contains_more, contains_first}
 
 -- ---- elements of lists

@@ -1,8 +1,8 @@
 -- Properties of a thin flow on an active link, and a comparison of two thin flows on the link.
 use Rattle.std.proofs.Common.{◌≡◌, [], ◌∷◌, ◌⊎◌, inl, inr, ⊎_elim, Bool, true, false, Option, Some, None, sym, subst, refl, ◌∙◌}
-use Rattle.nf_thin_laws.proofs.Common.{ℚ, 0ℚ, ◌*ℚ◌, ◌/ℚ◌, ◌≤ℚ◌, ◌<ℚ◌, max_ℚ, reading_of, ≤ℚ_of_same, ≤ℚ_of_lt, lt_or_le_ℚ, not_both_ℚ, max_ℚ_cases, le, lt, eq}
-use Rattle.nf_thin_laws.proofs.Common.{le_times, eq_times, linear_le, linear_lt, linear_eq, linear_false, exit_slope, IsPositive, quotient-times, le_from_times}
-use Rattle.nf_thin_laws.proofs.Common.{≤ℚ_trans, max_left}
+use Rattle.nf_thin_laws.proofs.Common.{ℚ, 0ℚ, ◌*ℚ◌, ◌/ℚ◌, ◌≤ℚ◌, ◌<ℚ◌, max_ℚ, reading_of, ≤ℚ_of_same, ≤ℚ_of_lt, lt_or_le_ℚ, not_both_ℚ, max_ℚ_cases, le, lt}
+use Rattle.nf_thin_laws.proofs.Common.{eq, le_times, eq_times, linear_le, linear_lt, linear_eq, linear_false, exit_slope, IsPositive, quotient-times}
+use Rattle.nf_thin_laws.proofs.Common.{le_from_times, ≤ℚ_trans, max_left}
 
 -- x is the flow of the link, c its capacity, s and t the slopes at its tail and its head
 pub record BoundedLaw (resets : Bool) (x c s t : ℚ) : Type 0 where

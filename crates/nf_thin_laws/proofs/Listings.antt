@@ -1,6 +1,5 @@
 -- A listing is unique: the order of patterns is strict.
-use Rattle.std.proofs.Common.{◌≡◌, ℕ, zero, suc, ◌<◌, List, [], ◌∷◌, refl, sym, ap, ◌∙◌, subst, arith, inl, inr}
-use Rattle.std.specs.Prelude.{Bool, Some, slice_get}
+use Rattle.std.proofs.Common.{◌≡◌, ℕ, zero, suc, ◌<◌, List, [], ◌∷◌, refl, sym, ap, ◌∙◌, subst, arith, inl, inr, Bool, Some, slice_get}
 use Rattle.nf_thin_laws.proofs.Common.{none-some, same_Some, Hop, Sets, Pattern, rank, IsEarlier, IsBefore, HasPlace, IsListing}
 use Rattle.nf_thin_laws.proofs.Sorted.{StandsIn, InOrder, same_list}
 

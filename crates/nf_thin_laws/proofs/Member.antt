@@ -1,15 +1,18 @@
 -- A phase run that satisfies its whole definition: one link of transit time 1 and capacity 1, supplied at rate 1, to the horizon 1.
 -- It has one phase, by its first pattern, Tight.
-use Rattle.std.proofs.Common.{◌≡◌, ℕ, zero, suc, ◌<◌, List, [], ◌∷◌, Bool, true, false, length, refl, sym, ap, ◌∙◌, subst, arith, inl, inr}
-use Rattle.nf_thin_laws.proofs.Common.{◌⊎◌, ◌↔◌, Option, Some, None, Result, Ok, Err, IsOk, unwrap_or, map, slice_get, none-some, same_Some, <ℚ_irrefl}
-use Rattle.nf_thin_laws.proofs.Common.{≤ℚ_of_same, ≤ℚ_of_lt, ps_whole, eq, linear_eq, reading_of, PassedAt, State, Tight, Full, Zero, number_at, Has, Hop}
-use Rattle.nf_thin_laws.proofs.Common.{IsHop, IsWalk, transit_sum, transit_of, IsLeastTransit, Link, Piece, Network, IsLink, IsPiece, hops, unbounded, rate_at}
-use Rattle.nf_thin_laws.proofs.Common.{Sets, slacks_of, sets_at, surplus, Pattern, HasState, NeedsState, IsTrail, AllDiffer, IsListedIn, IsBefore, IsFirstInto}
-use Rattle.nf_thin_laws.proofs.Common.{IsBase, Equation, Inequality, Solves, IsSolution, AreStartLabels, IsUnending, HasPlace, IsListingIn, Found, IsSearch}
+use Rattle.std.proofs.Common.{◌≡◌, ℕ, zero, suc, ◌<◌, List, [], ◌∷◌, Bool, true, false, length, refl, sym, ap, ◌∙◌, subst, arith, inl, inr, ◌⊎◌, ◌↔◌}
+use Rattle.std.proofs.Common.{Option, Some, None, Result, Ok, Err, IsOk, unwrap_or, map, slice_get}
+use Rattle.nf_thin_laws.proofs.Common.{none-some, same_Some, <ℚ_irrefl, ≤ℚ_of_same, ≤ℚ_of_lt, ps_whole, eq, linear_eq, reading_of, PassedAt, State, Tight}
+use Rattle.nf_thin_laws.proofs.Common.{Full, Zero, number_at, Has, Hop, IsHop, IsWalk, transit_sum, transit_of, IsLeastTransit, Link, Piece, Network}
+use Rattle.nf_thin_laws.proofs.Common.{IsLink, IsPiece, hops, unbounded, rate_at, Sets, slacks_of, sets_at, surplus, Pattern, HasState, NeedsState, IsTrail}
+use Rattle.nf_thin_laws.proofs.Common.{AllDiffer, IsListedIn, IsBefore, IsFirstInto, IsBase, Equation, Inequality, Solves, IsSolution, AreStartLabels}
+use Rattle.nf_thin_laws.proofs.Common.{IsUnending, HasPlace, IsListingIn, Found, IsSearch, ℚ, same_parts, 0ℚ, ◌≤ℚ◌, ◌<ℚ◌, Standing, Bounds, PhaseStep}
+use Rattle.nf_thin_laws.proofs.Common.{IsStart, standing_after, IsSearchHere, Goes, at_horizon, goes, report_of, IsRunReport, n, in_127_bits, link}
+use Rattle.nf_thin_laws.proofs.Common.{first_standing}
 use Rattle.nf_rational.specs.Gcd.{gcd}
-use Rattle.nf_rational.specs.Rational.{ℚ, ratio, same_parts}
-use Rattle.nf_rational.specs.Operations.{0ℚ, whole, neg_ℚ, inv_ℚ, ◌+ℚ◌, ◌-ℚ◌, ◌*ℚ◌, ◌/ℚ◌}
-use Rattle.nf_rational.specs.Order.{◌≤ℚ◌, ◌<ℚ◌, le_ℚ, lt_ℚ, min_ℚ}
+use Rattle.nf_rational.specs.Rational.{ratio}
+use Rattle.nf_rational.specs.Operations.{whole, neg_ℚ, inv_ℚ, ◌+ℚ◌, ◌-ℚ◌, ◌*ℚ◌, ◌/ℚ◌}
+use Rattle.nf_rational.specs.Order.{le_ℚ, lt_ℚ, min_ℚ}
 use Rattle.nf_frac_def.specs.Passing.{beyond}
 use Rattle.nf_frac_def.specs.Checked.{checked}
 use Rattle.nf_thin_def.specs.Slack.{slack_of, slack_list}
@@ -20,10 +23,7 @@ use Rattle.nf_thin_def.specs.Extend.{extend_list}
 use Rattle.nf_thin_def.specs.Advance.{labels_after, advance_list}
 use Rattle.nf_thin_def.specs.CurveList.{curve_list}
 use Rattle.nf_thin_def.specs.Accepted.{pattern_lists}
-use Rattle.nf_thin_def.specs.PhaseRun.{Standing, Bounds, PhaseStep, IsStart, standing_after, IsSearchHere, phase_lists, Goes, at_horizon, goes, report_of, IsRunReport}
-use Rattle.nf_frac_def.proofs.Examples.{n, in_127_bits}
-use Rattle.nf_thin_def.proofs.Examples.{link}
-use Rattle.nf_thin_def.proofs.Runs.{first_standing}
+use Rattle.nf_thin_def.specs.PhaseRun.{phase_lists}
 use Rattle.nf_thin_laws.proofs.Patterns.{none_leads}
 use Rattle.nf_thin_laws.proofs.Listings.{NextInOrder, all_in_order, ordered_by_place}
 

@@ -1,11 +1,11 @@
 -- A search among patterns with forced states, and the search among all.
 use Rattle.std.proofs.Common.{◌≡◌, ◌⊎◌, inl, inr, ℕ, zero, suc, ◌+◌, ◌<◌, ◌≤◌, List, length, refl, sym, ap, subst, ◌∙◌, arith, Some, slice_get, Bool}
 use Rattle.nf_thin_laws.proofs.Common.{same_Some, slice_get_within, ℚ, Passing, Network, hops, unbounded, Sets, Pattern, IsPattern, IsListed, IsListedIn}
-use Rattle.nf_thin_laws.proofs.Common.{IsBefore, changes, IsAccepted, HasPlace, NoneAcceptedBefore, NoneAccepted, IsOverBudget, entry, compared, unforced_of}
-use Rattle.nf_thin_laws.proofs.Common.{filled, sets_left, IsForcing, HasForced, forced_changes}
+use Rattle.nf_thin_laws.proofs.Common.{IsBefore, changes, IsAccepted, HasPlace, NoneAcceptedBefore, NoneAccepted, IsOverBudget, entry, compared}
+use Rattle.nf_thin_laws.proofs.Common.{unforced_of, filled, sets_left, IsForcing, HasForced, forced_changes, Narrows, NoneFilledBefore}
 use Rattle.nf_thin_laws.proofs.Listings.{IsBefore-asymmetric}
-use Rattle.nf_thin_laws.specs.NarrowLaws.{Narrows, NoneFilledBefore}
-use Rattle.nf_thin_laws.proofs.Forced.{unforced_of-filled, filled-unforced_of, same_count, left_count, filled_pattern, has_forced, left_bare, left_listed, filled_listed}
+use Rattle.nf_thin_laws.proofs.Forced.{unforced_of-filled, filled-unforced_of, same_count, left_count, filled_pattern, has_forced, left_bare, left_listed}
+use Rattle.nf_thin_laws.proofs.Forced.{filled_listed}
 use Rattle.nf_thin_laws.proofs.ForcedOrder.{changes_split, before_left, before_put}
 
 module _ (sets : Sets) (unbounded : List Bool) (forced base p : Pattern) (is : IsForcing sets unbounded forced) (b : IsPattern sets unbounded base)

@@ -1,12 +1,8 @@
 -- A loop that pushes a result for each numbered entry of a list: the results so far come before those of the remaining entries.
-use Rattle.std.proofs.Common.{◌≡◌, ℕ, suc, ◌+◌, ◌≤◌, List, [], ◌∷◌, ◌++◌, length, drop, sym, ap, subst, refl, ◌∙◌, arith}
-use Rattle.nf_rational_laws.proofs.Entries.{drop_entry}
-use Rattle.nf_thin_laws.proofs.Common.{Some, slice_get, Result, Ok, Err, enumerate_from, append-nil, ℚ, PassedAt, each, at_part, placed}
-use Rattle.nf_thin_laws.proofs.Common.{same_Err}
+use Rattle.std.proofs.Common.{◌≡◌, ℕ, suc, ◌+◌, ◌≤◌, List, [], ◌∷◌, ◌++◌, length, drop, sym, ap, subst, refl, ◌∙◌, arith, Some, slice_get, Result, Ok, Err}
+use Rattle.nf_thin_laws.proofs.Common.{drop_entry, enumerate_from, append-nil, ℚ, PassedAt, each, at_part, placed, same_Err, Part, Passed}
 use Rattle.std.proofs.Math.ListN.{drop_of_length-le}
 use Rattle.std.proofs.lemmas.List.FromFn.{length-enumerate_from}
-use Rattle.nf_frac_def.specs.declared.Part.{Part}
-use Rattle.nf_frac_def.specs.declared.Passed.{Passed}
 use Rattle.nf_frac_def.proofs.AtPart.{part_ok}
 use Rattle.nf_frac_def.proofs.Each.{with_front, each_ok, each_err}
 use Rattle.nf_thin_laws.proofs.Ending.{enumerated}

@@ -1,14 +1,14 @@
 -- Thin flows and phases of the network of one link.
-use Rattle.std.proofs.Common.{◌≡◌, ◌≢◌, ℕ, zero, suc, ◌<◌, List, [], ◌∷◌, length, ◌⊎◌, inl, inr, Bool, true, false, if◌then◌else◌, Option, Some, None, slice_get, sym, ap, subst, refl, ◌∙◌, arith}
-use Rattle.nf_thin_laws.proofs.Common.{is_none, none-some, same_Some, ℚ, 0ℚ, 1ℚ, ◌+ℚ◌, ◌-ℚ◌, ◌*ℚ◌, ◌/ℚ◌, ◌≤ℚ◌, ◌<ℚ◌, le_ℚ, lt_ℚ, reading_of, ≤ℚ_of_same}
-use Rattle.nf_thin_laws.proofs.Common.{≤ℚ_of_lt, ps_whole, <ℚ_irrefl, not_both_ℚ, lt_ℚ_cases, test_of_le, le, eq, linear_le, linear_eq, State, Tight, Full}
-use Rattle.nf_thin_laws.proofs.Common.{number_at, Has, Hop, IsHop, Link, Piece, Network, IsLink, IsPiece, IsNetwork, ArePieces, hop_of, hops, unbounded}
-use Rattle.nf_thin_laws.proofs.Common.{rate_at, Sets, slacks_of, sets_of, sets_at, IsThinFlow, HasState, NeedsState, IsPattern, IsForest, IsListedIn, Equation}
-use Rattle.nf_thin_laws.proofs.Common.{Inequality, Solves, Meets, IsSolution, moved, AreStartLabels, Lasts, IsPhaseSequence, IsPositive, quotient-times}
-use Rattle.nf_thin_laws.proofs.Common.{nn-quotient, le_from_times, AreSets, HoldNoCycle, ≤ℚ_refl, ≤ℚ_trans, zero_plus}
+use Rattle.std.proofs.Common.{◌≡◌, ◌≢◌, ℕ, zero, suc, ◌<◌, List, [], ◌∷◌, length, ◌⊎◌, inl, inr, Bool, true, false, if◌then◌else◌, Option, Some, None}
+use Rattle.std.proofs.Common.{slice_get, sym, ap, subst, refl, ◌∙◌, arith, is_none}
+use Rattle.nf_thin_laws.proofs.Common.{none-some, same_Some, ℚ, 0ℚ, 1ℚ, ◌+ℚ◌, ◌-ℚ◌, ◌*ℚ◌, ◌/ℚ◌, ◌≤ℚ◌, ◌<ℚ◌, le_ℚ, lt_ℚ, reading_of, ≤ℚ_of_same, ≤ℚ_of_lt}
+use Rattle.nf_thin_laws.proofs.Common.{ps_whole, <ℚ_irrefl, not_both_ℚ, lt_ℚ_cases, test_of_le, le, eq, linear_le, linear_eq, State, Tight, Full, number_at}
+use Rattle.nf_thin_laws.proofs.Common.{Has, Hop, IsHop, Link, Piece, Network, IsLink, IsPiece, IsNetwork, ArePieces, hop_of, hops, unbounded, rate_at, Sets}
+use Rattle.nf_thin_laws.proofs.Common.{slacks_of, sets_of, sets_at, IsThinFlow, HasState, NeedsState, IsPattern, IsForest, IsListedIn, Equation, Inequality}
+use Rattle.nf_thin_laws.proofs.Common.{Solves, Meets, IsSolution, moved, AreStartLabels, Lasts, IsPhaseSequence, IsPositive, quotient-times, nn-quotient}
+use Rattle.nf_thin_laws.proofs.Common.{le_from_times, AreSets, HoldNoCycle, ≤ℚ_refl, ≤ℚ_trans, zero_plus, one_link, at_rate}
 use mathlib.Core.Path.{ap₂}
 use Rattle.nf_model_laws.specs.EarliestLaws.{AreTransitLabels}
-use Rattle.nf_model_laws.specs.MemberLaws.{one_link, at_rate}
 use Rattle.nf_model_laws.proofs.EarliestTransits.{IsLeastTransit-label}
 use Rattle.nf_model_laws.proofs.MemberLink.{IsNetwork-one_link}
 use Rattle.nf_thin_laws.specs.MemberLaws.{first_labels, first_sets}

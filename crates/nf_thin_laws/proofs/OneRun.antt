@@ -3,12 +3,9 @@ use Rattle.std.proofs.Common.{◌≡◌, ℕ, suc, ◌<◌, List, length, refl, 
 use Rattle.nf_thin_laws.proofs.Common.{none-some, same_Some, length-map, length-replicate, ℚ, ◌<ℚ◌, le_ℚ, 0ℚ, <ℚ_irrefl, Passing, placed, PassedAt, Network}
 use Rattle.nf_thin_laws.proofs.Common.{hop_of, hops, rate_at, slack, slacks_of, sets_at, Pattern, IsListedIn, AreStartLabels, SearchAnswer, Found, IsSearch}
 use Rattle.nf_thin_laws.proofs.Common.{Standing, Bounds, PhaseStep, IsStart, standing_after, cause_of_search, Seeks, phase_lists, Goes, Fails, at_slack}
-use Rattle.nf_thin_laws.proofs.Common.{at_search, at_lists, Runs, at_horizon, at_phases, fails, goes, IsPhaseRun, report_of, IsRunReport, Ok_not_Err, one_Err}
-use Rattle.nf_frac_def.specs.declared.Part.TheVariants.{Slack}
-use Rattle.nf_frac_def.specs.declared.Passed.{Passed}
-use Rattle.nf_net_def.specs.declared.Cause.{Cause}
+use Rattle.nf_thin_laws.proofs.Common.{at_search, at_lists, Runs, at_horizon, at_phases, fails, goes, IsPhaseRun, report_of, IsRunReport, Ok_not_Err}
+use Rattle.nf_thin_laws.proofs.Common.{one_Err, Slack, Passed, Cause, first_label_curve, first_curves}
 use Rattle.nf_net_def.specs.Report.{Report}
-use Rattle.nf_thin_def.specs.ReportCurves.{first_label_curve, first_curves}
 use Rattle.nf_thin_laws.proofs.Bases.{one_base}
 use Rattle.nf_thin_laws.proofs.Searches.{one_answer}
 use Rattle.nf_thin_laws.proofs.Agree.{AreStartLabels-unique}

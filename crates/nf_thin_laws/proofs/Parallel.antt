@@ -1,13 +1,10 @@
 -- Two parallel links from source to sink, both active: the listing of their patterns from the base (Tight, Zero).
-use Rattle.std.proofs.Common.{◌≡◌, ℕ, zero, suc, ◌<◌, List, [], ◌∷◌, Bool, true, false, length, map, refl, sym, ap, ◌∙◌, subst, arith, inl, inr}
-use Rattle.nf_thin_laws.proofs.Common.{◌⊎◌, ◌↔◌, Option, Some, slice_get, slice_index_or, Contains, none-some, same_Some, State, Tight, Full, Zero, Has, Hop}
-use Rattle.nf_thin_laws.proofs.Common.{IsHop, Network, hops, unbounded, Sets, Pattern, HasState, NeedsState, IsPattern, IsTrail, AllDiffer, IsForest}
-use Rattle.nf_thin_laws.proofs.Common.{IsListedIn, IsBefore, HasPlace, IsListingIn}
+use Rattle.std.proofs.Common.{◌≡◌, ℕ, zero, suc, ◌<◌, List, [], ◌∷◌, Bool, true, false, length, map, refl, sym, ap, ◌∙◌, subst, arith, inl, inr, ◌⊎◌, ◌↔◌}
+use Rattle.std.proofs.Common.{Option, Some, slice_get, slice_index_or, Contains}
+use Rattle.nf_thin_laws.proofs.Common.{none-some, same_Some, State, Tight, Full, Zero, Has, Hop, IsHop, Network, hops, unbounded, Sets, Pattern, HasState}
+use Rattle.nf_thin_laws.proofs.Common.{NeedsState, IsPattern, IsTrail, AllDiffer, IsForest, IsListedIn, IsBefore, HasPlace, IsListingIn, n, link, two_links}
 use Rattle.nf_thin_laws.proofs.Patterns.{none_leads}
 use Rattle.nf_thin_laws.proofs.Listings.{NextInOrder, all_in_order, ordered_by_place}
-use Rattle.nf_frac_def.proofs.Examples.{n}
-use Rattle.nf_thin_def.proofs.Examples.{link}
-use Rattle.nf_thin_def.proofs.Runs.{two_links}
 
 abbrev parallel : Network
 parallel = record two_links { links = link 0 1 (n 1) (Some (n 2)) ∷ link 0 1 (n 1) (Some (n 2)) ∷ []; pieces = record { start = n 0; rate = n 1 } ∷ [] }

@@ -1,10 +1,9 @@
 -- Properties of a listed pattern on the links of a network.
-use Rattle.std.proofs.Common.{◌≡◌, ◌≢◌, ℕ, zero, suc, ◌<◌, List, [], ◌∷◌, length, ◌⊎◌, inl, inr, ⊎_elim, Bool, true, false, Option, Some, None, slice_get, unwrap_or, sym, ap, ◌∙◌, arith}
-use Rattle.std.specs.List.{AllByRecursion}
-use Rattle.std.proofs.lemmas.Bool.{true≢false}
-use Rattle.nf_thin_laws.proofs.Common.{none-some, same_Some, slice_get_within, ℚ, ◌*ℚ◌, ◌<ℚ◌, 0ℚ, State, Tight, Full, Zero, Has, Hop, IsHop, Link, Network}
-use Rattle.nf_thin_laws.proofs.Common.{IsLink, hop_of, hops, unbounded, Sets, Enters, Pattern, HasState, NeedsState, IsPattern, Fills, IsPositive, link_at}
-use Rattle.nf_thin_laws.proofs.Common.{AreSets, EachIsLed, entry}
+use Rattle.std.proofs.Common.{◌≡◌, ◌≢◌, ℕ, zero, suc, ◌<◌, List, [], ◌∷◌, length, ◌⊎◌, inl, inr, ⊎_elim, Bool, true, false, Option, Some, None, slice_get}
+use Rattle.std.proofs.Common.{unwrap_or, sym, ap, ◌∙◌, arith}
+use Rattle.nf_thin_laws.proofs.Common.{AllByRecursion, true≢false, none-some, same_Some, slice_get_within, ℚ, ◌*ℚ◌, ◌<ℚ◌, 0ℚ, State, Tight, Full, Zero, Has}
+use Rattle.nf_thin_laws.proofs.Common.{Hop, IsHop, Link, Network, IsLink, hop_of, hops, unbounded, Sets, Enters, Pattern, HasState, NeedsState, IsPattern}
+use Rattle.nf_thin_laws.proofs.Common.{Fills, IsPositive, link_at, AreSets, EachIsLed, entry}
 use Rattle.nf_thin_laws.proofs.Flags.{flag, flag-cases}
 
 -- A filled link has a capacity, and two flows that fill it do so by this capacity.

@@ -1,7 +1,7 @@
 -- The rank of a listed pattern is greater than the number of listed assignments before it.
 use Rattle.std.proofs.Common.{◌≡◌, ◌⊎◌, inl, inr, ℕ, zero, suc, ◌<◌, ◌≤◌, Bool, List, length, refl, sym, ap, subst, ◌∙◌, arith, Some, slice_get}
-use Rattle.nf_thin_laws.proofs.Common.{same_Some, Hop, Sets, Pattern, IsListed, IsBefore, HasPlace, IsListing, compared, Choices, AreIn, ways_before, AllAscend}
-use Rattle.nf_thin_laws.proofs.Common.{firm_before}
+use Rattle.nf_thin_laws.proofs.Common.{same_Some, Hop, Sets, Pattern, IsListed, IsBefore, HasPlace, IsListing, compared, Choices, AreIn, ways_before}
+use Rattle.nf_thin_laws.proofs.Common.{AllAscend, firm_before}
 use Rattle.nf_thin_laws.proofs.Listings.{IsBefore-asymmetric}
 use Rattle.nf_thin_laws.proofs.Counting.{AreIn-length, before_less}
 use Rattle.nf_thin_laws.proofs.Unranking.{number_before}

@@ -1,9 +1,8 @@
 -- A search has one answer.
 use Rattle.std.proofs.Common.{◌≡◌, ℕ, ◌<◌, ◌≤◌, List, refl, sym, ap, ◌∙◌, subst, arith, inl, inr, Result, Err}
-use Rattle.nf_rational_laws.proofs.Results.{IsOk-not_Err}
-use Rattle.nf_thin_laws.proofs.Common.{cases_lt, ℚ, Passing, PassedAt, Network, hops, unbounded, Sets, Pattern, Solves, pattern_lists, HasPlace, SearchAnswer}
-use Rattle.nf_thin_laws.proofs.Common.{Found, OverBudget, PassesAt, NoPattern, IsFirstAccepted, IsOverBudget, IsInVain, IsFirstPassing, NonePasses, Answers}
-use Rattle.nf_thin_laws.proofs.Common.{IsSearch}
+use Rattle.nf_thin_laws.proofs.Common.{IsOk-not_Err, cases_lt, ℚ, Passing, PassedAt, Network, hops, unbounded, Sets, Pattern, Solves, pattern_lists}
+use Rattle.nf_thin_laws.proofs.Common.{HasPlace, SearchAnswer, Found, OverBudget, PassesAt, NoPattern, IsFirstAccepted, IsOverBudget, IsInVain}
+use Rattle.nf_thin_laws.proofs.Common.{IsFirstPassing, NonePasses, Answers, IsSearch}
 use Rattle.nf_thin_laws.proofs.Listings.{same_pattern, one_listing}
 
 -- Two ranks are equal if neither is less.

@@ -3,17 +3,17 @@
 -- Links without flow do not count. A filled link carries more into the nodes, and not more out of them.
 -- Conservation makes both equal, so no filled link leads into the nodes. But backward along the links by which the pattern is listed, one
 -- must.
-use Rattle.std.proofs.Common.{◌≡◌, ◌≢◌, ℕ, ◌<◌, ◌≤◌, List, [], ◌∷◌, length, ◌⊎◌, inl, inr, ⊎_elim, Bool, true, false, if◌then◌else◌, eqb, Option, Some, None, slice_get, sym, ap, subst, refl, ◌∙◌, arith}
+use Rattle.std.proofs.Common.{◌≡◌, ◌≢◌, ℕ, ◌<◌, ◌≤◌, List, [], ◌∷◌, length, ◌⊎◌, inl, inr, ⊎_elim, Bool, true, false, if◌then◌else◌, eqb, Option, Some}
+use Rattle.std.proofs.Common.{None, slice_get, sym, ap, subst, refl, ◌∙◌, arith}
 use Rattle.nf_thin_laws.proofs.Common.{cases_lt, eqb_tells, ℚ, 0ℚ, 1ℚ, ◌+ℚ◌, ◌-ℚ◌, ◌*ℚ◌, ◌≤ℚ◌, ◌<ℚ◌, lt_ℚ, reading_of, ≤ℚ_of_same, ≤ℚ_antisymm, ≤ℚ_of_lt}
-use Rattle.nf_thin_laws.proofs.Common.{lt_or_le_ℚ, not_both_ℚ, lt_ℚ_cases, le, lt, eq, le_times, linear_le, linear_lt, linear_eq, linear_false, State, Tight}
-use Rattle.nf_thin_laws.proofs.Common.{Full, Zero, number_at, Link, Network, IsLink, IsNetwork, Sets, surplus, Enters, Pattern, HasState, IsListedIn, Fills}
-use Rattle.nf_thin_laws.proofs.Common.{Equation, Solves, Meets, IsSolution, ps-times_gap, IsPositive-link, carried-each, fall, out_less_in, AreSets}
-use Rattle.nf_thin_laws.proofs.Common.{HoldNoCycle, SolvesHomogeneous, entry, same_entries}
-use Rattle.nf_model_laws.proofs.Sums.{sum_in-line, sum_out-line, sum_in-none, sum_out-none}
+use Rattle.nf_thin_laws.proofs.Common.{lt_or_le_ℚ, not_both_ℚ, lt_ℚ_cases, le, lt, eq, le_times, linear_le, linear_lt, linear_eq, linear_false, State}
+use Rattle.nf_thin_laws.proofs.Common.{Tight, Full, Zero, number_at, Link, Network, IsLink, IsNetwork, Sets, surplus, Enters, Pattern, HasState, IsListedIn}
+use Rattle.nf_thin_laws.proofs.Common.{Fills, Equation, Solves, Meets, IsSolution, ps-times_gap, IsPositive-link, carried-each, fall, out_less_in, AreSets}
+use Rattle.nf_thin_laws.proofs.Common.{HoldNoCycle, SolvesHomogeneous, entry, same_entries, sum_in-line, sum_out-line, sum_in-none, sum_out-none}
+use Rattle.nf_thin_laws.proofs.Common.{sink_takes}
 use Rattle.nf_thin_laws.proofs.Flags.{flag, entry_beyond, number_at-beyond}
 use Rattle.nf_thin_laws.proofs.Patterns.{FillBoth, FillBoth-of, Stands, with_state, resets, inactive, stands, Leads, by_tight, by_full, by_reset, led}
 use Rattle.nf_thin_laws.proofs.Cuts.{fall_none, fall_into, fall_out, fall_same, into_equal, same_carried}
-use Rattle.nf_model_laws.proofs.Totals.{sink_takes}
 use Rattle.nf_thin_laws.proofs.Forests.{Dart, Carries, forest-none}
 use Rattle.nf_thin_laws.proofs.ActiveLinks.{none_first}
 

@@ -1,8 +1,8 @@
 -- Thin flows for the same sets and rate have the same slopes.
 use Rattle.std.proofs.Common.{◌≡◌, ◌≢◌, ℕ, ◌<◌, List, ◌⊎◌, inl, inr, ⊎_elim, Bool, true, false, if◌then◌else◌, eqb, sym, ap, subst, refl, ◌∙◌}
 use Rattle.nf_thin_laws.proofs.Common.{eqb_tells, ℚ, 0ℚ, 1ℚ, ◌*ℚ◌, ◌≤ℚ◌, ◌<ℚ◌, lt_ℚ, ≤ℚ_of_same, ≤ℚ_antisymm, lt_or_le_ℚ, not_both_ℚ, lt_ℚ_cases, number_at}
-use Rattle.nf_thin_laws.proofs.Common.{Has, Link, Network, IsLink, IsNetwork, Sets, surplus, exit_slope_at, Enters, IsThinFlow, IsPositive-link, carried-each}
-use Rattle.nf_thin_laws.proofs.Common.{fall, out_less_in, HoldNoCycle, EachIsEntered, NoneEntersSource, same_entries}
+use Rattle.nf_thin_laws.proofs.Common.{Has, Link, Network, IsLink, IsNetwork, Sets, surplus, exit_slope_at, Enters, IsThinFlow, IsPositive-link}
+use Rattle.nf_thin_laws.proofs.Common.{carried-each, fall, out_less_in, HoldNoCycle, EachIsEntered, NoneEntersSource, same_entries}
 use Rattle.nf_thin_laws.proofs.Flags.{flag, flag-cases}
 use Rattle.nf_thin_laws.proofs.LinkLaws.{LinkLaw, LinkLaw-of, into_le, out_le, stuck}
 use Rattle.nf_thin_laws.proofs.Cuts.{fall_none, fall_into, fall_out, fall_same, into_equal, same_carried}

@@ -1,7 +1,6 @@
 -- Lists of the same elements in the same strict order are the same list.
-use Rattle.std.proofs.Common.{◌≡◌, ℕ, zero, suc, ◌<◌, List, [], ◌∷◌, refl, sym, ap, ◌∙◌, subst, arith, ◌⊎◌, Some, slice_get}
-use Rattle.std.proofs.Common.{inl, inr}
-use Rattle.std.proofs.lemmas.Option.{none-some, same_Some}
+use Rattle.std.proofs.Common.{◌≡◌, ℕ, zero, suc, ◌<◌, List, [], ◌∷◌, refl, sym, ap, ◌∙◌, subst, arith, ◌⊎◌, Some, slice_get, inl, inr}
+use Rattle.nf_thin_laws.proofs.Common.{none-some, same_Some}
 
 module _ {A : Type 0} where
   -- The list contains x.

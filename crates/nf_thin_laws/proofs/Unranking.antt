@@ -1,8 +1,9 @@
 -- For each number less than the count of assignments before a pattern, some assignment before it has exactly that many before itself.
 use Rattle.std.proofs.Common.{eqb-true, ◌≡◌, ◌⊎◌, inl, inr, ℕ, zero, suc, ◌+◌, ◌-◌, ◌<◌, ◌≤◌, Bool, true, false, List, [], ◌∷◌, refl, sym, ap, ◌∙◌, arith}
-use Rattle.nf_thin_laws.proofs.Common.{Option, Some, None, ◌==◌, if◌then◌else◌, false≢true, cases_lt, State, Tight, Full, Zero, Pattern, rank, changes}
-use Rattle.nf_thin_laws.proofs.Common.{IsEarlier, IsBefore, change, Choices, IsIn, AreIn, left_ways, ways_by, ways_below, ways, ways_earlier, ways_fewer}
-use Rattle.nf_thin_laws.proofs.Common.{ways_before, Ascend, AllAscend, is_in, firm_earlier, firm_before}
+use Rattle.std.proofs.Common.{Option, Some, None, ◌==◌, if◌then◌else◌}
+use Rattle.nf_thin_laws.proofs.Common.{false≢true, cases_lt, State, Tight, Full, Zero, Pattern, rank, changes, IsEarlier, IsBefore, change, Choices, IsIn}
+use Rattle.nf_thin_laws.proofs.Common.{AreIn, left_ways, ways_by, ways_below, ways, ways_earlier, ways_fewer, ways_before, Ascend, AllAscend, is_in}
+use Rattle.nf_thin_laws.proofs.Common.{firm_earlier, firm_before}
 use Rattle.std.proofs.Math.Dec.{eqb-suc-zero}
 use Rattle.nf_thin_laws.proofs.ForcedOrder.{changes_first}
 use Rattle.nf_thin_laws.proofs.Counting.{counted_less, counted_not, left_ways-of}

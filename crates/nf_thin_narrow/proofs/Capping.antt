@@ -1,11 +1,7 @@
 -- Counts of assignments, capped at 2^64 - 1.
-use Rattle.std.proofs.Common.{◌≡◌, ℕ, zero, suc, ◌<◌, ◌≤◌, min, Bool, true, false, List, [], ◌∷◌, length, refl, arith}
-use Rattle.std.specs.Prelude.{Option, nat_lt, if◌then◌else◌}
-use Rattle.nf_model.specs.declared.State.{State}
-use Rattle.nf_model.specs.Pattern.{Pattern, rank}
-use Rattle.nf_thin_laws.specs.Forcing.{change}
-use Rattle.nf_thin_laws.specs.Ways.{Choices, left_ways, ways_by, ways_below, ways, ways_fewer}
-use Rattle.nf_thin_narrow.specs.Rows.{most, count_at, CountsCapped, first_ways}
+use Rattle.std.proofs.Common.{◌≡◌, ℕ, zero, suc, ◌<◌, ◌≤◌, min, Bool, true, false, List, [], ◌∷◌, length, refl, arith, Option, nat_lt, if◌then◌else◌}
+use Rattle.nf_thin_narrow.proofs.Common.{State, Pattern, rank, change, Choices, left_ways, ways_by, ways_below, ways, ways_fewer, most, count_at}
+use Rattle.nf_thin_narrow.proofs.Common.{CountsCapped, first_ways}
 
 pub counted_capped : (t : Bool) (x y m : ℕ) → x ≡ min y m → (if t then x else 0) ≡ min (if t then y else 0) m
 counted_capped true x y m h = h

@@ -1,8 +1,7 @@
 -- Lists that are filled entry by entry.
-use Rattle.std.proofs.Common.{◌≡◌, ⊎_elim, ℕ, zero, suc, ◌+◌, ◌<◌, List, [], ◌∷◌, length, refl, sym, ap, ◌∙◌, arith}
-use Rattle.std.specs.Prelude.{Some, slice_get, slice_set}
+use Rattle.std.proofs.Common.{◌≡◌, ⊎_elim, ℕ, zero, suc, ◌+◌, ◌<◌, List, [], ◌∷◌, length, refl, sym, ap, ◌∙◌, arith, Some, slice_get, slice_set}
+use Rattle.nf_thin_narrow.proofs.Common.{before_or_at}
 use Rattle.nf_pattern.proofs.Setting.{set_same, set_other}
-use Rattle.nf_rational_laws.proofs.Naturals.{before_or_at}
 
 -- the first entries are those of another list
 abbrev pub AreFilled : {A : Type 0} → List A → List A → ℕ → Type 0

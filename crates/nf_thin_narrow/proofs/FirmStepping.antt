@@ -1,14 +1,7 @@
 -- One more link with freely combinable states: the counts of assignments from it on, by those of the links after it.
-use Rattle.std.proofs.Common.{◌≡◌, ℕ, suc, ◌+◌, List, drop}
-use Rattle.std.specs.Prelude.{Option, Some, slice_get, if◌then◌else◌}
-use Rattle.nf_model.specs.declared.State.{State}
-use Rattle.nf_model.specs.Pattern.{Pattern}
-use Rattle.nf_thin_laws.specs.Forcing.{change}
-use Rattle.nf_thin_laws.specs.Ways.{left_ways, ways_by, ways_below, ways}
-use Rattle.nf_thin_laws.specs.Firm.{is_in, firm_earlier}
-use Rattle.nf_rational_laws.proofs.Entries.{drop_entry}
-use Rattle.nf_thin_narrow.specs.declared.firm.Firm.{Firm}
-use Rattle.nf_thin_narrow.specs.Firming.{states_of_firm, firm_choices}
+use Rattle.std.proofs.Common.{◌≡◌, ℕ, suc, ◌+◌, List, drop, Option, Some, slice_get, if◌then◌else◌}
+use Rattle.nf_thin_narrow.proofs.Common.{State, Pattern, change, left_ways, ways_by, ways_below, ways, is_in, firm_earlier, drop_entry, Firm}
+use Rattle.nf_thin_narrow.proofs.Common.{states_of_firm, firm_choices}
 
 -- The counts of assignments from link i on.
 abbrev pub ways_from : Pattern → List Firm → ℕ → ℕ → ℕ

@@ -1,12 +1,8 @@
 -- A listing that advances: its enumerated patterns, and the rank of the pattern sought.
-use Rattle.std.proofs.Common.{◌≡◌, ℕ, suc, ◌-◌, ◌^◌, ◌<◌, List, sym, ap, subst, ◌∙◌, arith}
-use Rattle.std.specs.Prelude.{Some, None}
-use Rattle.nf_model.specs.Pattern.{Pattern}
-use Rattle.nf_thin_def.specs.Listing.{HasPlace}
-use Rattle.nf_pattern.specs.Front.{IsListingOf}
-use Rattle.nf_pattern.specs.Given.{Question, IsQuestion, IsListedBy, Given, Last, AtStart, UpTo, IsLater, IsNext, NoneLeft, Enumerates}
+use Rattle.std.proofs.Common.{◌≡◌, ℕ, suc, ◌-◌, ◌^◌, ◌<◌, List, sym, ap, subst, ◌∙◌, arith, Some, None}
+use Rattle.nf_thin_narrow.proofs.Common.{Pattern, HasPlace, IsListingOf, Question, IsQuestion, IsListedBy, Given, Last, AtStart, UpTo, IsLater, IsNext}
+use Rattle.nf_thin_narrow.proofs.Common.{NoneLeft, Enumerates, GivenUpTo, GoesThrough, IsBehind, StandsAt}
 use Rattle.nf_pattern.proofs.Deciding.{has_listing}
-use Rattle.nf_thin_narrow.specs.Asking.{GivenUpTo, GoesThrough, IsBehind, StandsAt}
 use Rattle.nf_thin_narrow.proofs.Places.{later_place}
 use Rattle.nf_thin_narrow.proofs.Standing.{found_here, not_here, behind_all, given_more}
 

@@ -1,14 +1,7 @@
 -- The number of enumerated patterns of a listing.
 use Rattle.std.proofs.Common.{◌≡◌, ℕ, zero, suc, ◌<◌, ◌≤◌, List, length, ◌⊎◌, inl, inr, ⊎_elim, Some, slice_get, refl, sym, ap, subst, ◌∙◌, arith}
-use Rattle.std.proofs.lemmas.Option.{same_Some, slice_get_within}
-use Rattle.nf_model.specs.Pattern.{Pattern, IsBefore}
-use Rattle.nf_thin_def.specs.Listing.{HasPlace}
-use Rattle.nf_thin_laws.proofs.Listings.{IsBefore-asymmetric}
-use Rattle.nf_pattern.specs.Front.{IsListingOf}
-use Rattle.nf_pattern.specs.Given.{Question, Last, AtStart, UpTo, IsLater, IsNext, NoneLeft}
-use Rattle.nf_rational_laws.proofs.Entries.{entry}
-use Rattle.nf_rational_laws.proofs.Naturals.{before_or_at, compared}
-use Rattle.nf_thin_narrow.specs.Asking.{GivenUpTo}
+use Rattle.nf_thin_narrow.proofs.Common.{same_Some, slice_get_within, Pattern, IsBefore, HasPlace, IsBefore-asymmetric, IsListingOf, Question, Last}
+use Rattle.nf_thin_narrow.proofs.Common.{AtStart, UpTo, IsLater, IsNext, NoneLeft, entry, before_or_at, compared, GivenUpTo}
 
 module _ (q : Question) (listing : List Pattern) (is : IsListingOf q listing) where
   ordered : (i j : ℕ) (p r : Pattern) → i < j → slice_get listing i ≡ Some p → slice_get listing j ≡ Some r → IsBefore q.base p r

@@ -1,14 +1,7 @@
 -- Whether the pattern sought is among the enumerated patterns of a listing.
-use Rattle.std.proofs.Common.{◌≡◌, ◌⊎◌, inl, inr, ℕ, suc, ◌<◌, ◌≤◌, List, refl, sym, ap, ◌∙◌, arith}
-use Rattle.std.specs.Prelude.{Some, slice_get}
-use Rattle.std.proofs.lemmas.Option.{same_Some, slice_get_within}
-use Rattle.nf_model.specs.Pattern.{Pattern, IsBefore}
-use Rattle.nf_thin_def.specs.Listing.{HasPlace}
-use Rattle.nf_thin_laws.proofs.Listings.{IsBefore-asymmetric}
-use Rattle.nf_rational_laws.proofs.Naturals.{compared}
-use Rattle.nf_pattern.specs.Front.{IsListingOf}
-use Rattle.nf_pattern.specs.Given.{Question, Last, UpTo, IsNext, NoneLeft}
-use Rattle.nf_thin_narrow.specs.Asking.{GivenUpTo}
+use Rattle.std.proofs.Common.{◌≡◌, ◌⊎◌, inl, inr, ℕ, suc, ◌<◌, ◌≤◌, List, refl, sym, ap, ◌∙◌, arith, Some, slice_get}
+use Rattle.nf_thin_narrow.proofs.Common.{same_Some, slice_get_within, Pattern, IsBefore, HasPlace, IsBefore-asymmetric, compared, IsListingOf, Question}
+use Rattle.nf_thin_narrow.proofs.Common.{Last, UpTo, IsNext, NoneLeft, GivenUpTo}
 use Rattle.nf_thin_narrow.proofs.Places.{given_next, given_all}
 
 module _ (q : Question) (listing : List Pattern) (is : IsListingOf q listing) (place : ℕ) (pattern : Pattern) (at : HasPlace listing place pattern) where

@@ -1,17 +1,12 @@
 -- One more link: the counts of assignments from it on, by those of the links after it.
-use Rattle.std.proofs.Common.{◌≡◌, ℕ, zero, suc, ◌+◌, ◌<◌, ◌≤◌, min, Bool, true, List, [], ◌∷◌, ◌++◌, length, take, drop, sym, ap, ◌∙◌, arith}
-use Rattle.std.specs.Prelude.{Option, Some, slice_get, if◌then◌else◌}
+use Rattle.std.proofs.Common.{◌≡◌, ℕ, zero, suc, ◌+◌, ◌<◌, ◌≤◌, min, Bool, true, List, [], ◌∷◌, ◌++◌, length, take, drop, sym, ap, ◌∙◌, arith, Option, Some}
+use Rattle.std.proofs.Common.{slice_get, if◌then◌else◌}
+use Rattle.nf_thin_narrow.proofs.Common.{append-nil, State, Pattern, changes, change, left_ways, ways_by, ways_below, ways, ways_earlier, states_of}
+use Rattle.nf_thin_narrow.proofs.Common.{choices_of, drop_entry, most, count_at, CountsCapped}
 use Rattle.std.proofs.Math.ListN.{drop_of_length-le}
 use Rattle.std.proofs.Math.Seq.{take-length}
-use Rattle.std.proofs.lemmas.List.{append-nil}
-use Rattle.nf_model.specs.declared.State.{State}
-use Rattle.nf_model.specs.Pattern.{Pattern, changes}
-use Rattle.nf_thin_laws.specs.Forcing.{change}
-use Rattle.nf_thin_laws.specs.Ways.{left_ways, ways_by, ways_below, ways, ways_earlier, states_of, choices_of}
 use Rattle.nf_thin_laws.proofs.ForcedOrder.{changes_first}
 use Rattle.nf_thin_laws.proofs.Counting.{left_ways-of}
-use Rattle.nf_rational_laws.proofs.Entries.{drop_entry}
-use Rattle.nf_thin_narrow.specs.Rows.{most, count_at, CountsCapped}
 use Rattle.nf_thin_narrow.proofs.Capping.{by_capped, below_capped, caps_of, counted_capped}
 
 pub changes_behind : (base p : Pattern) (i : ℕ) → changes (drop i base) (drop i p) ≤ changes base p

@@ -1,15 +1,8 @@
 -- The places of the active links among all links, and of the unknowns of a table.
-use Rattle.std.proofs.Common.{◌≡◌, ℕ, zero, suc, ◌+◌, ◌<◌, ◌≤◌, List, [], ◌∷◌, ◌++◌, length, map, ◌⊎◌, inl, inr, Bool, true, false, Some, refl, sym, ap, ◌∙◌, add-one, arith}
-use Rattle.std.specs.Prelude.{slice_get}
-use Rattle.std.specs.List.{range_with_len}
-use Rattle.std.proofs.lemmas.Option.{none-some, same_Some, slice_get_within}
-use Rattle.nf_rational.specs.Rational.{ℚ}
-use Rattle.nf_model.specs.Entries.{number_at, Has}
-use Rattle.nf_model.specs.Network.{Network}
-use Rattle.nf_model.specs.ThinFlow.{Sets}
-use Rattle.nf_linear_def.specs.Table.{Row}
-use Rattle.nf_thin_def.specs.Equations.{Unknown, SlopeOf, FlowOn, active_from, unknowns, row}
-use Rattle.nf_thin_equation_laws.proofs.Packed.{not_set}
+use Rattle.std.proofs.Common.{◌≡◌, ℕ, zero, suc, ◌+◌, ◌<◌, ◌≤◌, List, [], ◌∷◌, ◌++◌, length, map, ◌⊎◌, inl, inr, Bool, true, false, Some, refl, sym, ap}
+use Rattle.std.proofs.Common.{◌∙◌, add-one, arith, slice_get}
+use Rattle.nf_thin_one.proofs.Common.{range_with_len, none-some, same_Some, slice_get_within, ℚ, number_at, Has, Network, Sets, Row, Unknown, SlopeOf}
+use Rattle.nf_thin_one.proofs.Common.{FlowOn, active_from, unknowns, row, not_set}
 
 -- how many links before number e are active
 abbrev pub active_before : List Bool → ℕ → ℕ

@@ -1,8 +1,6 @@
 -- Patterns are compared link by link.
-use Rattle.std.proofs.Common.{◌≡◌, ◌⊎◌, inl, inr, ℕ, ◌+◌, ◌<◌, sym, subst, arith}
-use Rattle.std.specs.Prelude.{slice_get}
-use Rattle.nf_model.specs.Pattern.{Pattern}
-use Rattle.nf_rational_laws.proofs.Naturals.{before_or_at}
+use Rattle.std.proofs.Common.{◌≡◌, ◌⊎◌, inl, inr, ℕ, ◌+◌, ◌<◌, sym, subst, arith, slice_get}
+use Rattle.nf_thin_one.proofs.Common.{Pattern, before_or_at}
 
 -- the first links have the same states
 abbrev pub AreAlikeBelow : Pattern → Pattern → ℕ → Type 0

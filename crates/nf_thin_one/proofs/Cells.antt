@@ -1,14 +1,7 @@
 -- Rows and their numbers, tables and their rows, where one of them changes.
-use Rattle.std.proofs.Common.{◌≡◌, ◌≢◌, ℕ, zero, suc, ◌+◌, ◌<◌, ◌≤◌, List, [], ◌∷◌, ◌++◌, length, set, replicate, ⊎_elim, Bool, true, false, eqb, refl, sym, ap, subst, ◌∙◌, arith}
-use Rattle.std.specs.Prelude.{slice_get, unwrap_or, if◌then◌else◌}
-use Rattle.std.proofs.Math.ListN.{length-set}
-use Rattle.std.proofs.lemmas.Bool.Decides.{eqb_tells}
-use Rattle.nf_rational.specs.Rational.{ℚ}
-use Rattle.nf_rational.specs.Operations.{0ℚ}
-use Rattle.nf_model.specs.Entries.{number_at}
-use Rattle.nf_model.proofs.Entries.{number_at-zeros}
-use Rattle.nf_linear_def.specs.Table.{Row, row_at}
-use Rattle.nf_thin_one.specs.Filling.{ChangesRow, IsFilledTo}
+use Rattle.std.proofs.Common.{◌≡◌, ◌≢◌, ℕ, zero, suc, ◌+◌, ◌<◌, ◌≤◌, List, [], ◌∷◌, ◌++◌, length, set, replicate, ⊎_elim, Bool, true, false, eqb, refl, sym}
+use Rattle.std.proofs.Common.{ap, subst, ◌∙◌, arith, slice_get, unwrap_or, if◌then◌else◌}
+use Rattle.nf_thin_one.proofs.Common.{length-set, eqb_tells, ℚ, 0ℚ, number_at, number_at-zeros, Row, row_at, ChangesRow, IsFilledTo}
 
 -- ---- one element of a list
 pub got-same : {A : Type 0} (xs : List A) (i : ℕ) (x d : A) → i < length xs → unwrap_or (slice_get (set xs i x) i) d ≡ x

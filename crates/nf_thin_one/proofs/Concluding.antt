@@ -1,29 +1,15 @@
 -- What a verdict concludes from the first link that fails.
 use Rattle.std.proofs.Common.{◌≡◌, ℕ, suc, ◌+◌, ◌<◌, ◌≤◌, List, [], ◌∷◌, length, get_or, drop, ◌⊎◌, inl, inr, Bool, sym, ap, subst, refl, ◌∙◌, arith}
-use Rattle.std.specs.Prelude.{Option, Some, None, slice_get, Result, Ok, Err, IsOk}
-use Rattle.std.specs.List.{enumerate_from}
-use Rattle.std.proofs.lemmas.Option.{slice_get_cases, slice_get_within}
-use Rattle.nf_rational.specs.Rational.{ℚ}
-use Rattle.nf_rational.specs.Operations.{0ℚ}
-use Rattle.nf_rational.specs.Order.{◌≤ℚ◌}
-use Rattle.nf_rational_laws.proofs.Order.{≤ℚ_of_same}
-use Rattle.nf_frac_def.specs.Passing.{Passing}
-use Rattle.nf_frac_def.specs.declared.Part.{Part}
-use Rattle.nf_frac_def.specs.declared.Part.TheVariants.{Verdict}
-use Rattle.nf_frac_def.specs.declared.PassedAt.{PassedAt}
-use Rattle.nf_frac_def.specs.Checked.{Checked, fold_checked, placed, at_part, ◌>>=◌}
-use Rattle.nf_model.specs.Entries.{number_at}
-use Rattle.nf_model.specs.Network.{Link, Network, IsLink}
-use Rattle.nf_model.specs.Pattern.{Pattern, Meets}
-use Rattle.nf_thin_def.specs.Verdict.{verdict_list}
+use Rattle.std.proofs.Common.{Option, Some, None, slice_get, Result, Ok, Err, IsOk}
+use Rattle.nf_thin_one.proofs.Common.{enumerate_from, slice_get_cases, slice_get_within, ℚ, 0ℚ, ◌≤ℚ◌, ≤ℚ_of_same, Passing, Part, Verdict, PassedAt, Checked}
+use Rattle.nf_thin_one.proofs.Common.{fold_checked, placed, at_part, ◌>>=◌, number_at, Link, Network, IsLink, Pattern, Meets, verdict_list}
+use Rattle.nf_thin_one.proofs.Common.{NoneNegativeBefore, IsFirstFailing, first_failed, numbered_verdict, broken_after, entry, same_Err}
 use Rattle.nf_thin_laws.proofs.Ending.{enumerated}
 use Rattle.nf_thin_laws.proofs.Flags.{number_at-beyond}
-use Rattle.nf_thin_one.specs.Judging.{NoneNegativeBefore, IsFirstFailing, first_failed, numbered_verdict, broken_after, first_broken}
+use Rattle.nf_thin_one.specs.Judging.{first_broken}
 use Rattle.nf_frac_def.proofs.AtPart.{part_ok}
 use Rattle.nf_thin_one.proofs.Folds.{goes_on, stops_in, ends}
 use Rattle.nf_thin_one.proofs.Failing.{AllMeet, SoFar, found_means, passes_means}
-use Rattle.nf_rational_laws.proofs.Entries.{entry}
-use Rattle.nf_rational_laws.proofs.Results.{same_Err}
 
 is_ok_part : {A : Type 0} (part : Part) (r : Checked A) → IsOk r → IsOk (at_part part r)
 is_ok_part part (Ok x) h = refl

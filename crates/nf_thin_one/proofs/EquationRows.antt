@@ -1,21 +1,11 @@
 -- Which row of the table of a pattern stands where, and how many rows there are.
-use Rattle.std.proofs.Common.{◌≡◌, ◌≢◌, ℕ, zero, suc, ◌+◌, ◌<◌, ◌≤◌, List, [], ◌∷◌, ◌++◌, length, map, filter, ⊎_elim, ◌⊎◌, inl, inr, Bool, true, false, not, cond, eqb, Some, None, refl, sym, ap, ◌∙◌, arith}
-use Rattle.std.specs.Prelude.{slice_get, unwrap_or, if◌then◌else◌}
-use Rattle.std.specs.List.{range_with_len, flat_map, enumerate_from}
-use Rattle.std.proofs.lemmas.Bool.{cases_order, ne_eqb}
-use Rattle.std.proofs.lemmas.Bool.Decides.{eqb_tells}
-use Rattle.std.proofs.lemmas.List.{length-map, length-append}
-use Rattle.std.proofs.lemmas.Option.{none-some, same_Some}
-use Rattle.nf_rational.specs.Rational.{ℚ}
-use Rattle.nf_rational.specs.Operations.{0ℚ, 1ℚ}
-use Rattle.nf_model.specs.Entries.{Has}
-use Rattle.nf_model.specs.Network.{Link, Network, IsLink}
-use Rattle.nf_model.specs.ThinFlow.{Sets}
-use Rattle.nf_model.specs.Pattern.{Pattern}
-use Rattle.nf_linear_def.specs.Table.{Row, row_at}
-use Rattle.nf_thin_def.specs.Equations.{unknowns, row, source_factor, node_row, link_factor, link_rows, equations}
+use Rattle.std.proofs.Common.{◌≡◌, ◌≢◌, ℕ, zero, suc, ◌+◌, ◌<◌, ◌≤◌, List, [], ◌∷◌, ◌++◌, length, map, filter, ⊎_elim, ◌⊎◌, inl, inr, Bool, true, false}
+use Rattle.std.proofs.Common.{not, cond, eqb, Some, None, refl, sym, ap, ◌∙◌, arith, slice_get, unwrap_or, if◌then◌else◌}
+use Rattle.nf_thin_one.proofs.Common.{range_with_len, flat_map, enumerate_from, cases_order, ne_eqb, eqb_tells, length-map, length-append, none-some}
+use Rattle.nf_thin_one.proofs.Common.{same_Some, ℚ, 0ℚ, 1ℚ, Has, Link, Network, IsLink, Sets, Pattern, Row, row_at, unknowns, row, source_factor, node_row}
+use Rattle.nf_thin_one.proofs.Common.{link_factor, link_rows, flow_count, unknowns-length}
+use Rattle.nf_thin_def.specs.Equations.{equations}
 use Rattle.nf_thin_equation_laws.proofs.Rows.{filtered-length, set_rows-length}
-use Rattle.nf_thin_equation_laws.proofs.Equations.{flow_count, unknowns-length}
 use Rattle.nf_thin_one.proofs.Cells.{got-past}
 use Rattle.nf_thin_one.proofs.ActivePlaces.{active_before}
 

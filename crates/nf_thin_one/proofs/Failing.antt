@@ -1,24 +1,12 @@
 -- The first link that fails, as it is found link by link; and that an operation passes there just where one of the verdict list does.
-use Rattle.std.proofs.Common.{◌≡◌, ◌≢◌, ℕ, zero, suc, ◌+◌, ◌<◌, List, [], ◌∷◌, length, ◌⊎◌, inl, inr, ⊎_elim, Bool, true, false, ◌&&◌, eqb, sym, ap, subst, refl, ◌∙◌, arith}
-use Rattle.std.specs.Prelude.{Option, Some, None, slice_get, unwrap_or, Ok, Err, IsOk}
-use Rattle.std.specs.List.{enumerate_from}
-use Rattle.std.proofs.lemmas.Bool.Decides.{eqb_tells}
-use Rattle.std.proofs.lemmas.Option.{same_Some, slice_get_within}
-use Rattle.nf_rational.specs.Rational.{ℚ}
-use Rattle.nf_rational.specs.Operations.{0ℚ}
-use Rattle.nf_rational.specs.Order.{le_ℚ}
-use Rattle.nf_rational_laws.proofs.Tests.{le_of_test, test_of_le}
-use Rattle.nf_frac_def.specs.Passing.{Passing}
-use Rattle.nf_frac_def.specs.declared.Passed.{Passed}
-use Rattle.nf_frac_def.specs.Checked.{Checked, each, fold_checked, ◌>>=◌}
-use Rattle.nf_model.specs.declared.State.{State}
-use Rattle.nf_model.specs.Entries.{number_at}
-use Rattle.nf_model.specs.Network.{Link, Network, IsLink}
-use Rattle.nf_model.specs.Pattern.{Pattern, Inequality}
-use Rattle.nf_thin_def.specs.Verdict.{bound_of, verdict_list}
-use Rattle.nf_thin_one.specs.Judging.{MeetsAt, keeps, first_failed, link_verdict, broken_after, first_broken}
+use Rattle.std.proofs.Common.{◌≡◌, ◌≢◌, ℕ, zero, suc, ◌+◌, ◌<◌, List, [], ◌∷◌, length, ◌⊎◌, inl, inr, ⊎_elim, Bool, true, false, ◌&&◌, eqb, sym, ap, subst}
+use Rattle.std.proofs.Common.{refl, ◌∙◌, arith, Option, Some, None, slice_get, unwrap_or, Ok, Err, IsOk}
+use Rattle.nf_thin_one.proofs.Common.{enumerate_from, eqb_tells, same_Some, slice_get_within, ℚ, 0ℚ, le_ℚ, le_of_test, test_of_le, Passing, Passed, Checked}
+use Rattle.nf_thin_one.proofs.Common.{each, fold_checked, ◌>>=◌, State, number_at, Link, Network, IsLink, Pattern, Inequality, bound_of, MeetsAt, keeps}
+use Rattle.nf_thin_one.proofs.Common.{first_failed, broken_after, and_parts}
+use Rattle.nf_thin_def.specs.Verdict.{verdict_list}
+use Rattle.nf_thin_one.specs.Judging.{link_verdict, first_broken}
 use Rattle.nf_thin_one.proofs.Inequalities.{bound_value, bound_exact, keeps_inequality, inequality_keeps, all_true}
-use Rattle.std.proofs.lemmas.Bool.{and_parts}
 
 module _ (passes : Passing) (net : Network) (pattern : Pattern) (flows slopes : List ℚ) where
   abbrev state_of : ℕ → Option State

@@ -1,14 +1,7 @@
 -- A fold over a list, one value after the other.
-use Rattle.std.proofs.Common.{◌≡◌, ℕ, suc, ◌≤◌, List, length, drop, ap, refl, ◌∙◌}
-use Rattle.std.specs.Prelude.{Some, slice_get, Result, Ok, Err}
-use Rattle.std.proofs.Math.ListN.{drop_of_length-le}
-use Rattle.nf_rational.specs.Rational.{ℚ}
-use Rattle.nf_frac_def.specs.declared.Part.{Part}
-use Rattle.nf_frac_def.specs.declared.Passed.{Passed}
-use Rattle.nf_frac_def.specs.declared.PassedAt.{PassedAt}
-use Rattle.nf_frac_def.specs.Checked.{fold_checked, placed, at_part}
+use Rattle.std.proofs.Common.{◌≡◌, ℕ, suc, ◌≤◌, List, length, drop, ap, refl, ◌∙◌, Some, slice_get, Result, Ok, Err}
+use Rattle.nf_thin_one.proofs.Common.{drop_of_length-le, ℚ, Part, Passed, PassedAt, fold_checked, placed, at_part, drop_entry}
 use Rattle.nf_frac_def.proofs.Each.{fold_ok, fold_err}
-use Rattle.nf_rational_laws.proofs.Entries.{drop_entry}
 
 module _ {A B E : Type 0} (f : B → A → Result B E) (xs : List A) (start : B) where
   pub goes_on : (so_far next : B) (i : ℕ) (x : A) → slice_get xs i ≡ Some x → fold_checked f start xs ≡ fold_checked f so_far (drop i xs) → f so_far x ≡ Ok next

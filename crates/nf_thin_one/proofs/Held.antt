@@ -1,16 +1,11 @@
 -- The numbers of the equations of a pattern, which a table has to hold.
-use Rattle.std.proofs.Common.{◌≡◌, ℕ, ◌+◌, ◌<◌, ◌≤◌, length, Bool, true, IsTrue, slice_get, ⊎_elim, refl, sym, ap, subst, ◌∙◌, arith}
-use Rattle.std.specs.Prelude.{Option, Some, None, unwrap_or}
-use Rattle.std.proofs.lemmas.Option.{same_Some, slice_get_within}
-use Rattle.nf_rational.specs.Rational.{ℚ}
-use Rattle.nf_rational.specs.Operations.{0ℚ, neg_ℚ}
-use Rattle.nf_model.specs.Network.{Link, Network, IsLink}
+use Rattle.std.proofs.Common.{◌≡◌, ℕ, ◌+◌, ◌<◌, ◌≤◌, length, Bool, true, IsTrue, slice_get, ⊎_elim, refl, sym, ap, subst, ◌∙◌, arith, Option, Some, None}
+use Rattle.std.proofs.Common.{unwrap_or}
+use Rattle.nf_thin_one.proofs.Common.{same_Some, slice_get_within, ℚ, 0ℚ, neg_ℚ, Link, Network, IsLink, before_or_at, HoldsCapacity, HoldsNumbers}
 use Rattle.nf_frac.specs.Parts.{IsWithin}
 use Rattle.nf_frac.specs.Short.{short}
 use Rattle.nf_frac.proofs.Turned.{neg_within}
-use Rattle.nf_rational_laws.proofs.Naturals.{before_or_at}
 use Rattle.nf_linear.specs.Holding.{takes_small, small_held, small_units}
-use Rattle.nf_thin_one.specs.Filling.{HoldsCapacity, HoldsNumbers}
 use Rattle.nf_thin_one.proofs.LinkEntries.{minus_zero}
 
 -- what is a number that is held is one

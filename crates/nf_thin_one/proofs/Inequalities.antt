@@ -1,22 +1,10 @@
 -- The tests of a link's verdict are its inequality.
-use Rattle.std.proofs.Common.{◌≡◌, ◌≢◌, ℕ, ◌+◌, ◌<◌, List, ⊎_elim, Bool, true, false, ◌&&◌, eqb, sym, subst, refl, arith}
-use Rattle.std.proofs.lemmas.Bool.Decides.{eqb_tells}
-use Rattle.std.specs.Prelude.{if◌then◌else◌, Option, Some, None, Ok, Err}
-use Rattle.nf_rational.specs.Rational.{ℚ}
-use Rattle.nf_rational.specs.Operations.{0ℚ, ◌*ℚ◌}
-use Rattle.nf_rational.specs.Order.{◌≤ℚ◌}
-use Rattle.nf_rational_laws.proofs.Tests.{le_of_test, test_of_le}
-use Rattle.nf_frac_def.specs.declared.Passed.{Passed}
+use Rattle.std.proofs.Common.{◌≡◌, ◌≢◌, ℕ, ◌+◌, ◌<◌, List, ⊎_elim, Bool, true, false, ◌&&◌, eqb, sym, subst, refl, arith, if◌then◌else◌, Option, Some, None}
+use Rattle.std.proofs.Common.{Ok, Err}
+use Rattle.nf_thin_one.proofs.Common.{eqb_tells, ℚ, 0ℚ, ◌*ℚ◌, ◌≤ℚ◌, le_of_test, test_of_le, Passed, Passing, ◌>>=◌, number_at, State, Tight, Full, Zero}
+use Rattle.nf_thin_one.proofs.Common.{Inequality, bound_on, keeps, same_Ok}
 use Rattle.nf_frac_def.specs.declared.Op.TheVariants.{Product}
-use Rattle.nf_frac_def.specs.Passing.{Passing}
-use Rattle.nf_frac_def.specs.Checked.{checked, ◌>>=◌}
-use Rattle.nf_model.specs.Entries.{number_at}
-use Rattle.nf_model.specs.declared.State.{State}
-use Rattle.nf_model.specs.declared.State.TheVariants.{Tight, Full, Zero}
-use Rattle.nf_model.specs.Pattern.{Inequality}
-use Rattle.nf_thin_def.specs.Verdict.{bound_on}
-use Rattle.nf_thin_one.specs.Judging.{keeps}
-use Rattle.nf_rational_laws.proofs.Results.{same_Ok}
+use Rattle.nf_frac_def.specs.Checked.{checked}
 
 -- the bound on the flow, where no operation passes
 abbrev pub bound_value : Option State → Option ℚ → ℚ → Option ℚ

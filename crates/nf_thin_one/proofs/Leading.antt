@@ -1,14 +1,8 @@
 -- Flags of nodes that a pattern leads to.
 use Rattle.std.proofs.Common.{◌≡◌, ◌≢◌, ⊎_elim, inl, inr, ℕ, zero, suc, Bool, true, false, List, [], ◌∷◌, slice_set, refl, sym, subst, ◌∙◌}
-use Rattle.std.proofs.lemmas.Bool.{false≢true}
-use Rattle.std.proofs.lemmas.Option.{none-some, same_Some}
-use Rattle.nf_model.specs.Entries.{Has}
-use Rattle.nf_model.specs.Network.{Link, Network, IsLink, hop_of}
-use Rattle.nf_model.specs.ThinFlow.{Sets}
-use Rattle.nf_model.specs.Pattern.{Pattern}
+use Rattle.nf_thin_one.proofs.Common.{false≢true, none-some, same_Some, Has, Link, Network, IsLink, hop_of, Sets, Pattern, MayCarry, IsLed, AreLed}
 use Rattle.nf_model_laws.proofs.Networks.{hop_at}
 use Rattle.nf_pattern.proofs.Setting.{set_other, tell}
-use Rattle.nf_thin_one.specs.Leading.{MayCarry, IsLed, AreLed}
 
 -- whether no flag is set
 abbrev pub are_clear : List Bool → Bool

@@ -1,3 +1,4 @@
+mod Common
 pub mod Folds
 pub mod Inequalities
 pub mod Failing

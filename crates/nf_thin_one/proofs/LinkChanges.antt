@@ -1,12 +1,6 @@
 -- The row of a link, number by number.
-use Rattle.std.proofs.Common.{◌≡◌, ℕ, ◌<◌, [], ◌∷◌, List, length, set, Bool, true, not, eqb, sym, ap, subst, ◌∙◌}
-use Rattle.std.specs.Prelude.{if◌then◌else◌, unwrap_or}
-use Rattle.std.proofs.lemmas.Bool.{not-true}
-use Rattle.nf_rational.specs.Rational.{ℚ}
-use Rattle.nf_rational.specs.Operations.{0ℚ, 1ℚ, neg_ℚ}
-use Rattle.nf_model.specs.Network.{Link}
-use Rattle.nf_linear_def.specs.Table.{Row, row_at}
-use Rattle.nf_thin_one.specs.Filling.{ChangesRow, with_entries, tight_entries, full_entries}
+use Rattle.std.proofs.Common.{◌≡◌, ℕ, ◌<◌, [], ◌∷◌, List, length, set, Bool, true, not, eqb, sym, ap, subst, ◌∙◌, if◌then◌else◌, unwrap_or}
+use Rattle.nf_thin_one.proofs.Common.{not-true, ℚ, 0ℚ, 1ℚ, neg_ℚ, Link, Row, row_at, ChangesRow, with_entries, tight_entries, full_entries}
 use Rattle.nf_thin_one.proofs.Cells.{none_changes, number_changes, two_changes}
 
 module _ (old once twice : List Row) (i : ℕ) (link : Link) where

@@ -1,24 +1,12 @@
 -- The few entries of the row of a link are all that its row has.
-use Rattle.std.proofs.Common.{◌≡◌, ◌≢◌, ℕ, ◌+◌, ◌<◌, ◌≤◌, [], ◌∷◌, length, set, replicate, ⊎_elim, ◌⊎◌, inl, inr, Bool, true, false, eqb, Some, None, sym, ap, ◌∙◌, add-one, arith}
-use Rattle.std.specs.Prelude.{if◌then◌else◌, Option, unwrap_or}
-use Rattle.std.proofs.Math.ListN.{length-set}
-use Rattle.std.proofs.lemmas.Bool.{cases_order, ne_eqb}
-use Rattle.std.proofs.lemmas.Bool.Decides.{eqb_tells}
-use Rattle.nf_rational.specs.Rational.{ℚ}
-use Rattle.nf_rational.specs.Operations.{0ℚ, 1ℚ, neg_ℚ, ◌-ℚ◌}
+use Rattle.std.proofs.Common.{◌≡◌, ◌≢◌, ℕ, ◌+◌, ◌<◌, ◌≤◌, [], ◌∷◌, length, set, replicate, ⊎_elim, ◌⊎◌, inl, inr, Bool, true, false, eqb, Some, None, sym}
+use Rattle.std.proofs.Common.{ap, ◌∙◌, add-one, arith, if◌then◌else◌, Option, unwrap_or}
+use Rattle.nf_thin_one.proofs.Common.{length-set, cases_order, ne_eqb, eqb_tells, ℚ, 0ℚ, 1ℚ, neg_ℚ, ◌-ℚ◌, State, Tight, Full, Zero, number_at, Has, Link}
+use Rattle.nf_thin_one.proofs.Common.{Network, Sets, number_at-zeros, Row, unknowns, row, one_if, fills_factor, link_factor, unknowns-length, with_entries}
+use Rattle.nf_thin_one.proofs.Common.{tight_entries, link_entries}
 use Rattle.nf_rational_laws.proofs.Polynomial.{reading_of}
 use Rattle.nf_rational_laws.proofs.Linear.{linear_eq}
 use Rattle.nf_rational_laws.proofs.Facts.{zero_less_zero}
-use Rattle.nf_model.specs.declared.State.{State}
-use Rattle.nf_model.specs.declared.State.TheVariants.{Tight, Full, Zero}
-use Rattle.nf_model.specs.Entries.{number_at, Has}
-use Rattle.nf_model.specs.Network.{Link, Network}
-use Rattle.nf_model.specs.ThinFlow.{Sets}
-use Rattle.nf_model.proofs.Entries.{number_at-zeros}
-use Rattle.nf_linear_def.specs.Table.{Row}
-use Rattle.nf_thin_def.specs.Equations.{unknowns, row, one_if, fills_factor, link_factor}
-use Rattle.nf_thin_equation_laws.proofs.Equations.{unknowns-length}
-use Rattle.nf_thin_one.specs.Filling.{with_entries, tight_entries, link_entries}
 use Rattle.nf_thin_one.proofs.Cells.{alone, got-same, got-other, length-copies}
 use Rattle.nf_thin_one.proofs.ActivePlaces.{active_before, before_grows, before_within, row_of_entries}
 

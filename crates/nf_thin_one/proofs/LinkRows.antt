@@ -1,17 +1,7 @@
 -- The rows of the active links one after the other.
-use Rattle.std.proofs.Common.{◌≡◌, ℕ, ◌+◌, ◌<◌, ◌≤◌, List, length, false, Some, None, refl, sym, ap, ◌∙◌, arith}
-use Rattle.std.specs.Prelude.{slice_get, unwrap_or, Option}
-use Rattle.nf_rational.specs.Rational.{ℚ}
-use Rattle.nf_rational.specs.Operations.{0ℚ}
-use Rattle.nf_model.specs.declared.State.{State}
-use Rattle.nf_model.specs.Entries.{Has}
-use Rattle.nf_model.specs.Network.{Link, Network, IsNetwork, IsLink}
-use Rattle.nf_model.specs.ThinFlow.{Sets}
-use Rattle.nf_model.specs.Pattern.{Pattern}
-use Rattle.nf_linear_def.specs.Table.{Row, row_at}
-use Rattle.nf_thin_def.specs.Equations.{unknowns, row, link_factor, equations}
-use Rattle.nf_thin_equation_laws.proofs.Equations.{unknowns-length}
-use Rattle.nf_thin_one.specs.Filling.{ChangesRow, IsFilledTo, with_entries, link_entries}
+use Rattle.std.proofs.Common.{◌≡◌, ℕ, ◌+◌, ◌<◌, ◌≤◌, List, length, false, Some, None, refl, sym, ap, ◌∙◌, arith, slice_get, unwrap_or, Option}
+use Rattle.nf_thin_one.proofs.Common.{ℚ, 0ℚ, State, Has, Link, Network, IsNetwork, IsLink, Sets, Pattern, Row, row_at, unknowns, row, link_factor}
+use Rattle.nf_thin_one.proofs.Common.{equations, unknowns-length, ChangesRow, IsFilledTo, with_entries, link_entries}
 use Rattle.nf_thin_one.proofs.Cells.{blank_row, filled_more, filled_all}
 use Rattle.nf_thin_one.proofs.ActivePlaces.{active_before, none_before, one_more_before, none_more_before, all_before, before_within}
 use Rattle.nf_thin_one.proofs.EquationRows.{link_at, as_many_rows}

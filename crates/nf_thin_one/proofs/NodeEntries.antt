@@ -1,18 +1,8 @@
 -- The row of a node, link by link.
-use Rattle.std.proofs.Common.{◌≡◌, ◌≢◌, ℕ, ◌+◌, ◌<◌, ◌≤◌, length, set, ⊎_elim, true, false, eqb, Some, sym, ap, subst, ◌∙◌, add-one, arith}
-use Rattle.std.specs.Prelude.{slice_get, if◌then◌else◌}
-use Rattle.std.proofs.Math.ListN.{length-set}
-use Rattle.std.proofs.lemmas.Option.{slice_get_within}
-use Rattle.std.proofs.lemmas.Bool.Decides.{eqb_tells}
-use Rattle.nf_rational.specs.Rational.{ℚ}
-use Rattle.nf_rational.specs.Operations.{0ℚ}
-use Rattle.nf_model.specs.Entries.{number_at, Has}
-use Rattle.nf_model.specs.Network.{Network}
-use Rattle.nf_model.specs.ThinFlow.{Sets}
-use Rattle.nf_model.proofs.Entries.{number_at-zeros}
-use Rattle.nf_linear_def.specs.Table.{Row}
-use Rattle.nf_thin_def.specs.Equations.{unknowns, leaves_less_enters, node_factor, node_row}
-use Rattle.nf_thin_equation_laws.proofs.Equations.{unknowns-length}
+use Rattle.std.proofs.Common.{◌≡◌, ◌≢◌, ℕ, ◌+◌, ◌<◌, ◌≤◌, length, set, ⊎_elim, true, false, eqb, Some, sym, ap, subst, ◌∙◌, add-one, arith, slice_get}
+use Rattle.std.proofs.Common.{if◌then◌else◌}
+use Rattle.nf_thin_one.proofs.Common.{length-set, slice_get_within, eqb_tells, ℚ, 0ℚ, number_at, Has, Network, Sets, number_at-zeros, Row, unknowns}
+use Rattle.nf_thin_one.proofs.Common.{leaves_less_enters, node_factor, node_row, unknowns-length}
 use Rattle.nf_thin_one.proofs.Cells.{got-same, got-other, length-copies, blank_row}
 use Rattle.nf_thin_one.proofs.ActivePlaces.{active_before, one_more_before, none_more_before, before_grows, before_within, row_of_entries}
 

@@ -1,18 +1,9 @@
 -- The rows of the nodes, filled link by link, the sink left out.
-use Rattle.std.proofs.Common.{◌≡◌, ◌≢◌, ℕ, zero, suc, ◌+◌, ◌<◌, ◌≤◌, List, [], length, set, ◌⊎◌, inl, inr, Bool, true, false, not, eqb, Some, refl, sym, ap, subst, ◌∙◌, arith}
-use Rattle.std.specs.Prelude.{slice_get, if◌then◌else◌, Option}
-use Rattle.std.proofs.lemmas.Bool.{cases_order, cases_lt}
-use Rattle.std.proofs.lemmas.Bool.Decides.{eqb_tells}
-use Rattle.nf_rational.specs.Rational.{ℚ}
-use Rattle.nf_rational.specs.Operations.{0ℚ, 1ℚ, neg_ℚ, ◌-ℚ◌}
-use Rattle.nf_model.specs.Entries.{number_at, Has}
-use Rattle.nf_model.specs.Network.{Link, Network, IsLink}
-use Rattle.nf_model.specs.ThinFlow.{Sets}
-use Rattle.nf_model.specs.Pattern.{Pattern}
-use Rattle.nf_linear_def.specs.Table.{Row, row_at}
-use Rattle.nf_thin_def.specs.Equations.{unknowns, one_if, leaves_less_enters, node_row, equations}
-use Rattle.nf_thin_equation_laws.proofs.Equations.{unknowns-length}
-use Rattle.nf_thin_one.specs.Filling.{ChangesRow, IsFilledTo, IsRowOf, SetsAt, AddsFlow}
+use Rattle.std.proofs.Common.{◌≡◌, ◌≢◌, ℕ, zero, suc, ◌+◌, ◌<◌, ◌≤◌, List, [], length, set, ◌⊎◌, inl, inr, Bool, true, false, not, eqb, Some, refl, sym, ap}
+use Rattle.std.proofs.Common.{subst, ◌∙◌, arith, slice_get, if◌then◌else◌, Option}
+use Rattle.nf_thin_one.proofs.Common.{cases_order, cases_lt, eqb_tells, ℚ, 0ℚ, 1ℚ, neg_ℚ, ◌-ℚ◌, number_at, Has, Link, Network, IsLink, Sets, Pattern, Row}
+use Rattle.nf_thin_one.proofs.Common.{row_at, unknowns, one_if, leaves_less_enters, node_row, equations, unknowns-length, ChangesRow, IsFilledTo, IsRowOf}
+use Rattle.nf_thin_one.proofs.Common.{SetsAt, AddsFlow}
 use Rattle.nf_thin_one.proofs.Cells.{blank_row, set_zero}
 use Rattle.nf_thin_one.proofs.LinkEntries.{no_step, unit_leaves, unit_enters, unit_neither}
 use Rattle.nf_thin_one.proofs.ActivePlaces.{active_before, none_before, one_more_before, none_more_before, all_before, before_within}

@@ -1,24 +1,11 @@
 -- What comes of a pattern once its table is solved.
-use Rattle.std.proofs.Common.{◌≡◌, ◌+◌, List, length, sym, subst, ◌∙◌}
-use Rattle.std.specs.Prelude.{Option, Some, None, Result, Ok, Err, IsOk}
-use Rattle.nf_rational.specs.Rational.{ℚ}
-use Rattle.nf_frac_def.specs.Passing.{Passing, passes_Q}
+use Rattle.std.proofs.Common.{◌≡◌, ◌+◌, List, length, sym, subst, ◌∙◌, Option, Some, None, Result, Ok, Err, IsOk}
+use Rattle.nf_thin_one.proofs.Common.{ℚ, Passing, passes_Q, PassedAt, at_part, Stops, Network, Sets, Pattern, IsSolution, IsSolvable, table_list}
+use Rattle.nf_thin_one.proofs.Common.{verdict_list, active_from, equations, slopes_in, link_flows_in, pattern_lists, IsPatternIn, rows-length, is_square}
+use Rattle.nf_thin_one.proofs.Common.{Judged, IsJudged}
 use Rattle.nf_frac_def.specs.declared.Part.TheVariants as Part
 use Rattle.nf_frac_def.specs.declared.Halt.{Halt}
-use Rattle.nf_frac_def.specs.declared.PassedAt.{PassedAt}
-use Rattle.nf_frac_def.specs.Checked.{at_part, Stops}
-use Rattle.nf_model.specs.Network.{Network}
-use Rattle.nf_model.specs.ThinFlow.{Sets}
-use Rattle.nf_model.specs.Pattern.{Pattern, IsSolution, IsSolvable}
-use Rattle.nf_linear_def.specs.Table.{table_list}
-use Rattle.nf_thin_def.specs.Verdict.{verdict_list}
-use Rattle.nf_thin_def.specs.Equations.{active_from, equations, slopes_in, link_flows_in}
-use Rattle.nf_thin_def.specs.Accepted.{pattern_lists}
 use Rattle.nf_linear_laws.proofs.Solutions.{one_solution}
-use Rattle.nf_thin_equation_laws.specs.Equations.{IsPatternIn}
-use Rattle.nf_thin_equation_laws.proofs.Table.{rows-length, is_square}
-use Rattle.nf_thin_one.specs.declared.verdicts.Judged.{Judged}
-use Rattle.nf_thin_one.specs.Judging.{IsJudged}
 use Rattle.nf_thin_one.specs.declared.trying.Tried.{Tried}
 use Rattle.nf_thin_one.specs.declared.thin.ThinFlow.{ThinFlow}
 use Rattle.nf_thin_one.specs.Trying.{AreValuesOf, JudgesFlows, JudgesValues, TriesOne, TriesInto}

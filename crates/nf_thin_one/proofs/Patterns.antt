@@ -1,25 +1,9 @@
 -- What is known of a pattern from its table and its verdict.
-use Rattle.std.proofs.Common.{◌≡◌, List, refl, sym, ap, subst, ◌∙◌}
-use Rattle.std.specs.Prelude.{Option, Some, None, Result, Ok, Err, IsOk}
-use Rattle.nf_rational.specs.Rational.{ℚ}
-use Rattle.nf_rational.specs.Operations.{0ℚ}
-use Rattle.nf_rational_laws.proofs.Order.{not_both_ℚ}
-use Rattle.nf_frac_def.specs.Passing.{Passing}
-use Rattle.nf_frac_def.specs.declared.Part.TheVariants.{Table, Verdict}
-use Rattle.nf_frac_def.specs.declared.PassedAt.{PassedAt}
-use Rattle.nf_frac_def.specs.Checked.{Checked, at_part, ◌>>=◌}
-use Rattle.nf_model.specs.Entries.{number_at}
-use Rattle.nf_model.specs.Network.{Network}
-use Rattle.nf_model.specs.ThinFlow.{Sets}
-use Rattle.nf_model.specs.Pattern.{Pattern, Meets, IsSolution, IsSolvable}
-use Rattle.nf_linear_def.specs.Table.{table_list}
-use Rattle.nf_thin_def.specs.Verdict.{verdict_list}
-use Rattle.nf_thin_def.specs.Equations.{equations, slopes_in, link_flows_in}
-use Rattle.nf_thin_def.specs.Accepted.{Solved, after_table, pattern_lists, IsAccepted}
-use Rattle.nf_thin_equation_laws.specs.Equations.{IsPatternIn, SolvesAlone}
-use Rattle.nf_thin_equation_laws.proofs.Table.{solves_alone, solves_not_alone}
-use Rattle.nf_thin_one.specs.declared.verdicts.Judged.{Judged}
-use Rattle.nf_thin_one.specs.Judging.{IsJudged}
+use Rattle.std.proofs.Common.{◌≡◌, List, refl, sym, ap, subst, ◌∙◌, Option, Some, None, Result, Ok, Err, IsOk}
+use Rattle.nf_thin_one.proofs.Common.{ℚ, 0ℚ, not_both_ℚ, Passing, Table, Verdict, PassedAt, Checked, at_part, ◌>>=◌, number_at, Network, Sets, Pattern}
+use Rattle.nf_thin_one.proofs.Common.{Meets, IsSolution, IsSolvable, table_list, verdict_list, equations, slopes_in, link_flows_in, after_table, IsAccepted}
+use Rattle.nf_thin_one.proofs.Common.{IsPatternIn, SolvesAlone, solves_alone, solves_not_alone, Judged, IsJudged}
+use Rattle.nf_thin_def.specs.Accepted.{Solved, pattern_lists}
 
 -- ---- what fails doesn't meet
 module _ (net : Network) (pattern : Pattern) (flows slopes : List ℚ) where

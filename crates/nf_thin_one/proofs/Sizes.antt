@@ -1,15 +1,8 @@
 -- How many unknowns a table has, and at most.
 use Rattle.std.proofs.Common.{◌≡◌, ℕ, ◌+◌, ◌≤◌, List, length, Bool, ap, ◌∙◌, arith}
-use Rattle.nf_model.specs.Network.{Network, hops}
+use Rattle.nf_thin_one.proofs.Common.{Network, hops, Sets, Named, IsNamed, most_unknowns, unknowns, unknowns-length, few_nodes, few_links}
 use Rattle.nf_model.specs.Walk.{Hop}
-use Rattle.nf_model.specs.ThinFlow.{Sets}
-use Rattle.nf_net_def.specs.Named.{Named}
-use Rattle.nf_net_def.specs.WellNamed.{IsNamed}
-use Rattle.nf_linear.specs.Limits.{most_unknowns}
-use Rattle.nf_thin_def.specs.Equations.{unknowns}
-use Rattle.nf_thin_equation_laws.proofs.Equations.{unknowns-length}
 use Rattle.nf_graph.proofs.NetworkHops.{hops_length}
-use Rattle.nf_net.proofs.Limits.{few_nodes, few_links}
 use Rattle.nf_thin_one.proofs.ActivePlaces.{active_before, few_before, all_before}
 
 module _ (n : Named) (named : IsNamed n) (flags : List Bool) where

@@ -1,10 +1,6 @@
 -- What is found of a table over small numbers alone.
 use Rattle.std.proofs.Common.{◌≡◌, List, Option, Result, Ok, IfOk, IfSome, subst}
-use Rattle.nf_rational.specs.Rational.{ℚ}
-use Rattle.nf_frac_def.specs.Passing.{passes_Q}
-use Rattle.nf_linear_def.specs.Table.{Row, table_list}
-use Rattle.nf_linear.specs.declared.solution.Solved.{Solved}
-use Rattle.nf_linear.specs.Solved.{values_of}
+use Rattle.nf_thin_one.proofs.Common.{ℚ, passes_Q, Row, table_list, Solved, values_of}
 
 -- it is what is found of the table
 abbrev pub AreFoundOf : List Row → Solved ℚ → Type 0

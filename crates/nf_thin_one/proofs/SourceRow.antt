@@ -1,16 +1,7 @@
 -- The row of the source's slope, in a table that was all zero.
 use Rattle.std.proofs.Common.{◌≡◌, ℕ, ◌+◌, ◌<◌, List, [], length, set, replicate, sym, ap, subst, ◌∙◌, add-one, arith}
-use Rattle.std.proofs.Math.ListN.{length-set}
-use Rattle.nf_rational.specs.Rational.{ℚ}
-use Rattle.nf_rational.specs.Operations.{0ℚ, 1ℚ}
-use Rattle.nf_model.specs.Network.{Network}
-use Rattle.nf_model.specs.ThinFlow.{Sets}
-use Rattle.nf_model.specs.Pattern.{Pattern}
-use Rattle.nf_model.proofs.Entries.{number_at-zeros}
-use Rattle.nf_linear_def.specs.Table.{Row, row_at}
-use Rattle.nf_thin_def.specs.Equations.{unknowns, row, source_factor, equations}
-use Rattle.nf_thin_equation_laws.proofs.Equations.{unknowns-length}
-use Rattle.nf_thin_one.specs.Filling.{ChangesRow, IsFilledTo}
+use Rattle.nf_thin_one.proofs.Common.{length-set, ℚ, 0ℚ, 1ℚ, Network, Sets, Pattern, number_at-zeros, Row, row_at, unknowns, row, source_factor, equations}
+use Rattle.nf_thin_one.proofs.Common.{unknowns-length, ChangesRow, IsFilledTo}
 use Rattle.nf_thin_one.proofs.Cells.{alone, got-same, got-other, got-copies, length-copies, none_changes, number_changes, filled_first, filled_more}
 use Rattle.nf_thin_one.proofs.ActivePlaces.{active_before, before_within, row_of_entries}
 use Rattle.nf_thin_one.proofs.EquationRows.{source_at, as_many_rows}

@@ -1,10 +1,7 @@
 -- The flows of all links, taken link by link from the values of the unknowns.
-use Rattle.std.proofs.Common.{◌≡◌, ℕ, suc, ◌+◌, ◌<◌, List, [], ◌∷◌, ◌++◌, length, drop, append_assoc, Bool, true, false, refl, sym, ap, ◌∙◌, arith}
-use Rattle.std.specs.Prelude.{Some, slice_get}
-use Rattle.nf_rational.specs.Rational.{ℚ}
-use Rattle.nf_rational.specs.Operations.{0ℚ}
-use Rattle.nf_thin_def.specs.Equations.{active_from, onto_links, link_flows_in}
-use Rattle.nf_rational_laws.proofs.Entries.{drop_entry}
+use Rattle.std.proofs.Common.{◌≡◌, ℕ, suc, ◌+◌, ◌<◌, List, [], ◌∷◌, ◌++◌, length, drop, append_assoc, Bool, true, false, refl, sym, ap, ◌∙◌, arith, Some}
+use Rattle.std.proofs.Common.{slice_get}
+use Rattle.nf_thin_one.proofs.Common.{ℚ, 0ℚ, active_from, onto_links, link_flows_in, drop_entry}
 
 -- the flows of the links before link e, with the values from this place on left for the others
 pub record AreFlows (active : List Bool) (values : List ℚ) (nodes : ℕ) (flows : List ℚ) (e next : ℕ) : Type 0 where

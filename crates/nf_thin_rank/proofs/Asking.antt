@@ -1,12 +1,7 @@
 -- The listing of a network's patterns, for a search.
-use Rattle.std.proofs.Common.{◌≡◌, subst}
-use Rattle.nf_model.specs.Network.{Network, IsNetwork}
-use Rattle.nf_model.specs.ThinFlow.{Sets}
-use Rattle.nf_model.specs.Pattern.{Pattern, IsListedIn}
-use Rattle.std.specs.Prelude.{Option, Some, None, IfSome}
-use Rattle.nf_pattern.specs.Given.{Question, Given, IsListedBy, Enumerates}
-use Rattle.nf_thin_equation_laws.specs.Equations.{IsPatternIn}
-use Rattle.nf_thin_rank.specs.Questions.{AreSetsOf, AsksOf, question_of}
+use Rattle.std.proofs.Common.{◌≡◌, subst, Option, Some, None, IfSome}
+use Rattle.nf_thin_rank.proofs.Common.{Network, IsNetwork, Sets, Pattern, IsListedIn, Question, Given, IsListedBy, Enumerates, IsPatternIn, AreSetsOf}
+use Rattle.nf_thin_rank.proofs.Common.{AsksOf, question_of}
 
 -- a listed pattern is one of the network's
 pub listed_in : (net : Network) (sets : Sets) (q : Question) (pattern : Pattern) → IsNetwork net → AreSetsOf net sets → q ≡ question_of net sets q.base

@@ -1,25 +1,13 @@
 -- Families of freely combinable states, no pattern in two of them, and how many of their assignments come before a pattern.
 use Rattle.std.proofs.Common.{◌≡◌, ◌≢◌, ◌⊎◌, inl, inr, ℕ, zero, suc, ◌+◌, ◌<◌, ◌≤◌, min, true, List, [], ◌∷◌, length, refl, sym, ap, subst, ◌∙◌, arith}
-use Rattle.std.specs.Prelude.{Option, Some, None, slice_get, slice_set, map}
+use Rattle.std.proofs.Common.{Option, Some, None, slice_get, slice_set, map}
+use Rattle.nf_thin_rank.proofs.Common.{none-some, same_Some, slice_get_within, State, Tight, Full, Zero, Network, hops, unbounded, Sets, Pattern, HasState}
+use Rattle.nf_thin_rank.proofs.Common.{IsPattern, IsListedIn, rank, Choices, IsIn, AreIn, if_allowed, choices_by, firm_before, AllAscend, IsListingOf, Firm}
+use Rattle.nf_thin_rank.proofs.Common.{most, MayKeep, AreKeepers, AreFirmBy, CountsOther, IsByOther, CountsBefore, question_of, hops_length}
 use Rattle.std.proofs.Math.ListN.{length-set}
-use Rattle.std.proofs.lemmas.Option.{none-some, same_Some, slice_get_within}
-use Rattle.nf_model.specs.declared.State.{State}
-use Rattle.nf_model.specs.declared.State.TheVariants.{Tight, Full, Zero}
-use Rattle.nf_model.specs.Network.{Network, hops, unbounded}
-use Rattle.nf_model.specs.ThinFlow.{Sets}
-use Rattle.nf_model.specs.Pattern.{Pattern, HasState, IsPattern, IsListedIn, rank}
-use Rattle.nf_thin_laws.specs.Ways.{Choices, IsIn, AreIn}
-use Rattle.nf_thin_laws.specs.Firm.{if_allowed, choices_by, firm_before, AllAscend}
 use Rattle.nf_thin_laws.proofs.FirmListed.{firm_listed, all_ascend, in_allowed}
-use Rattle.nf_pattern.specs.Front.{IsListingOf}
 use Rattle.nf_pattern.proofs.Setting.{set_same, set_other, tell}
-use Rattle.nf_thin_narrow.specs.declared.firm.Firm.{Firm}
-use Rattle.nf_thin_narrow.specs.Rows.{most}
 use Rattle.nf_thin_narrow.specs.Firming.{states_of_firm, firm_choices}
-use Rattle.nf_thin_rank.specs.Firming.{MayKeep, AreKeepers, AreFirmBy}
-use Rattle.nf_thin_rank.specs.Families.{CountsOther, IsByOther, CountsBefore}
-use Rattle.nf_thin_rank.specs.Questions.{question_of}
-use Rattle.nf_graph.proofs.NetworkHops.{hops_length}
 use Rattle.nf_thin_rank.proofs.Members.{members, members_sum, members_few, in_family, told_in, members_before}
 
 -- ---- the states of one link

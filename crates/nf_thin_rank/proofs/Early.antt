@@ -1,19 +1,9 @@
 -- If few assignments come before a pattern, its rank is within the budget.
-use Rattle.std.proofs.Common.{◌≡◌, ⊎_elim, true, false, leb, ℕ, suc, ◌<◌, ◌≤◌, min, Bool, List, length, sym, subst, ◌∙◌, arith}
-use Rattle.std.specs.Prelude.{nat_lt}
-use Rattle.std.proofs.lemmas.Bool.{true≢false}
-use Rattle.std.proofs.lemmas.Bool.Decides.{leb_tells}
-use Rattle.nf_model.specs.Network.{Network, IsNetwork, hops, unbounded}
-use Rattle.nf_model.specs.ThinFlow.{Sets}
-use Rattle.nf_model.specs.Pattern.{Pattern, IsPattern}
-use Rattle.nf_thin_def.specs.Listing.{HasPlace}
-use Rattle.nf_thin_laws.specs.Ways.{AreSole, choices_of, ways_before}
+use Rattle.std.proofs.Common.{◌≡◌, ⊎_elim, true, false, leb, ℕ, suc, ◌<◌, ◌≤◌, min, Bool, List, length, sym, subst, ◌∙◌, arith, nat_lt}
+use Rattle.nf_thin_rank.proofs.Common.{true≢false, leb_tells, Network, IsNetwork, hops, unbounded, Sets, Pattern, IsPattern, HasPlace, AreSole, choices_of}
+use Rattle.nf_thin_rank.proofs.Common.{ways_before, IsListingOf, most, AreSetsOf, question_of, hops_length, unbounded_length, below_nodes}
 use Rattle.nf_thin_laws.proofs.Places.{bounded}
 use Rattle.nf_thin_laws.proofs.Choosing.{listed_in}
-use Rattle.nf_pattern.specs.Front.{IsListingOf}
-use Rattle.nf_thin_narrow.specs.Rows.{most}
-use Rattle.nf_thin_rank.specs.Questions.{AreSetsOf, question_of}
-use Rattle.nf_graph.proofs.NetworkHops.{hops_length, unbounded_length, below_nodes}
 
 pub from_test : (x y : ℕ) → nat_lt x y ≡ true → x < y
 from_test x y told = ⊎_elim

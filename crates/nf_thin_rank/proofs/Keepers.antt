@@ -1,26 +1,14 @@
 -- Keepers of nodes, and the combinable states of links by them.
 use Rattle.std.proofs.Common.{◌≡◌, ◌≢◌, ◌⊎◌, inl, inr, ℕ, ◌+◌, ◌<◌, Bool, true, false, not, List, length, replicate, refl, sym, ap, subst, ◌∙◌, arith}
-use Rattle.std.specs.Prelude.{Option, Some, None, slice_get, slice_set, map, is_some, is_none}
-use Rattle.std.proofs.lemmas.Bool.{true≢false}
+use Rattle.std.proofs.Common.{Option, Some, None, slice_get, slice_set, map, is_some, is_none}
+use Rattle.nf_thin_rank.proofs.Common.{true≢false, get_or_from_slice_get, none-some, same_Some, slice_get_within, State, Tight, Full, Hop, IsHop, Link}
+use Rattle.nf_thin_rank.proofs.Common.{Network, hop_of, hops, Sets, Pattern, HasState, IsPattern, IsListedIn, rank, entry, slice_get-image, IsKeeper}
+use Rattle.nf_thin_rank.proofs.Common.{EachEntry, Firm, HaveFirm, MayKeep, AreKeepers, IsFirmOf, AreFirmBy, AreSetsOf, hops_length}
 use Rattle.std.proofs.lemmas.List.{get_or-replicate, length-map, length-replicate}
-use Rattle.std.proofs.lemmas.Option.{get_or_from_slice_get, none-some, same_Some, slice_get_within}
-use Rattle.nf_model.specs.declared.State.{State}
-use Rattle.nf_model.specs.declared.State.TheVariants.{Tight, Full}
 use Rattle.nf_model.specs.Entries.{Has}
-use Rattle.nf_model.specs.Walk.{Hop, IsHop}
-use Rattle.nf_model.specs.Network.{Link, Network, hop_of, hops}
-use Rattle.nf_model.specs.ThinFlow.{Sets}
-use Rattle.nf_model.specs.Pattern.{Pattern, HasState, IsPattern, IsListedIn, rank}
 use Rattle.nf_thin_laws.proofs.Ending.{from_map}
-use Rattle.nf_rational_laws.proofs.Entries.{entry, slice_get-image}
 use Rattle.nf_rational_laws.proofs.Naturals.{before_or_at}
-use Rattle.nf_thin_laws.specs.Firm.{IsKeeper}
-use Rattle.nf_pattern.proofs.Each.{EachEntry}
 use Rattle.nf_thin_guess.proofs.Changing.{still_pattern}
-use Rattle.nf_thin_narrow.specs.declared.firm.Firm.{Firm}
-use Rattle.nf_thin_rank.specs.Firming.{HaveFirm, MayKeep, AreKeepers, IsFirmOf, AreFirmBy}
-use Rattle.nf_thin_rank.specs.Questions.{AreSetsOf}
-use Rattle.nf_graph.proofs.NetworkHops.{hops_length}
 
 -- no link
 pub none_kept : (net : Network) (sets : Sets) (listed : Pattern) (count : ℕ) (keepers : List (Option ℕ)) → keepers ≡ replicate {A = Option ℕ} count None → count ≡ net.nodes

@@ -1,3 +1,4 @@
+mod Common
 pub mod Posed
 pub mod Asking
 pub mod Early

@@ -1,16 +1,8 @@
 -- How many of a listing's first patterns a family has: at least as many as its assignments before the next pattern.
-use Rattle.std.proofs.Common.{◌≡◌, ◌≢◌, ◌⊎◌, inl, inr, ℕ, zero, suc, ◌+◌, ◌<◌, ◌≤◌, Bool, true, false, List, [], ◌∷◌, length, refl, ap, ◌∙◌, arith}
-use Rattle.std.specs.Prelude.{Option, Some, None, slice_get, ◌==◌, if◌then◌else◌}
-use Rattle.std.proofs.lemmas.Bool.{false≢true}
-use Rattle.std.proofs.lemmas.Bool.Decides.{eqb_tells}
-use Rattle.std.proofs.lemmas.Option.{none-some, same_Some}
-use Rattle.nf_model.specs.declared.State.{State}
-use Rattle.nf_model.specs.Walk.{Hop}
-use Rattle.nf_model.specs.ThinFlow.{Sets}
-use Rattle.nf_model.specs.Pattern.{Pattern, rank, IsListed}
-use Rattle.nf_thin_def.specs.Listing.{IsListing}
-use Rattle.nf_thin_laws.specs.Ways.{Choices, IsIn, AreIn, ways_before}
-use Rattle.nf_thin_laws.specs.Firm.{AllAscend, is_in, firm_before}
+use Rattle.std.proofs.Common.{◌≡◌, ◌≢◌, ◌⊎◌, inl, inr, ℕ, zero, suc, ◌+◌, ◌<◌, ◌≤◌, Bool, true, false, List, [], ◌∷◌, length, refl, ap, ◌∙◌, arith, Option}
+use Rattle.std.proofs.Common.{Some, None, slice_get, ◌==◌, if◌then◌else◌}
+use Rattle.nf_thin_rank.proofs.Common.{false≢true, eqb_tells, none-some, same_Some, State, Hop, Sets, Pattern, rank, IsListed, IsListing, Choices, IsIn}
+use Rattle.nf_thin_rank.proofs.Common.{AreIn, ways_before, AllAscend, is_in, firm_before}
 use Rattle.nf_thin_laws.proofs.Unranking.{number_before, is_in-is}
 use Rattle.nf_thin_laws.proofs.PlacesBelow.{there, fewer_lower, before_lower}
 

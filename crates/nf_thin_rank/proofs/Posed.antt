@@ -1,13 +1,8 @@
 -- The question and the patterns of a posed ranking.
 use Rattle.std.proofs.Common.{sym, ◌∙◌, arith}
-use Rattle.nf_net.proofs.Limits.{few_nodes, few_hops}
-use Rattle.nf_model.specs.Network.{unbounded}
-use Rattle.nf_model.specs.Pattern.{Pattern, IsPattern}
-use Rattle.nf_pattern.specs.Given.{IsQuestion}
-use Rattle.nf_thin_equation_laws.specs.Equations.{IsPatternIn}
+use Rattle.nf_thin_rank.proofs.Common.{few_nodes, few_hops, unbounded, Pattern, IsPattern, IsQuestion, IsPatternIn, IsPosed, question_in, hops_length}
+use Rattle.nf_thin_rank.proofs.Common.{unbounded_length, below_nodes}
 use Rattle.nf_thin_rank.specs.declared.ranking.Ranking.{Ranking}
-use Rattle.nf_thin_rank.specs.Posing.{IsPosed, question_in}
-use Rattle.nf_graph.proofs.NetworkHops.{hops_length, unbounded_length, below_nodes}
 
 pub posed_question : (ranking : Ranking) → IsPosed ranking → IsQuestion (question_in ranking)
 posed_question ranking posed = record {

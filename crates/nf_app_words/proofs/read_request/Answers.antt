@@ -1,8 +1,6 @@
-use Rattle.std.proofs.Common.{◌∙◌, ap, option_map}
-use Rattle.std.specs.Prelude.{option_and_then}
-use Rattle.nf_edge.specs.Names.{texts}
-use Rattle.nf_app_words.specs.Requests.{request_in, request_of}
-use Rattle.nf_app_words.specs.MatchViews.{rows_in}
+use Rattle.std.proofs.Common.{◌∙◌, ap, option_map, option_and_then}
+use Rattle.nf_app_words.proofs.Common.{texts, request_in, rows_in}
+use Rattle.nf_app_words.specs.Requests.{request_of}
 use Rattle.nf_app_words.proofs.Asked.{can_be}
 use Rattle.nf_app_words.proofs.read_request.Goals as goal
 

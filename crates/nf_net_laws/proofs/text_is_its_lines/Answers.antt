@@ -1,4 +1,5 @@
-use Rattle.nf_net_laws.proofs.Common.{slice_split, ◌==◌}
+use Rattle.std.proofs.Common.{◌==◌}
+use Rattle.nf_net_laws.proofs.Common.{slice_split}
 use Rattle.nf_net_laws.proofs.Wholes.{text_whole, parts_numbered}
 use Rattle.nf_net_laws.proofs.text_is_its_lines.Goals as goal
 

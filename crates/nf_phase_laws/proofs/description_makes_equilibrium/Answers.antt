@@ -1,4 +1,4 @@
-use Rattle.nf_model.specs.Equilibrium.{inflow, label, outflow, queue}
+use Rattle.nf_phase_laws.proofs.Common.{inflow, label, outflow, queue}
 use Rattle.nf_phase_laws.proofs.Holds.{IsNashFlow-from_HoldsUpTo}
 use Rattle.nf_phase_laws.proofs.Description.{IsOutflow-described, IsQueue-described}
 use Rattle.nf_phase_laws.proofs.description_makes_equilibrium.Goals as goal

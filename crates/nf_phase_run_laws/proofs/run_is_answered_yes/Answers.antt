@@ -1,4 +1,4 @@
-use Rattle.nf_phase_laws.proofs.Run.{report_equilibrium}
+use Rattle.nf_phase_run_laws.proofs.Common.{report_equilibrium}
 use Rattle.nf_phase_run_laws.proofs.Verdicts.{answered_yes}
 use Rattle.nf_phase_run_laws.proofs.run_is_answered_yes.Goals as goal
 

@@ -1,7 +1,5 @@
 use Rattle.std.proofs.Common.{sym, ap, ◌∙◌, ◌≡◌}
-use Rattle.nf_phase_run_laws.proofs.Common.{passes_Q, Report, check_list, same_Ok, report_equilibrium}
-use Rattle.nf_report_laws.proofs.ReportBack.{report_back}
-use Rattle.nf_report_laws.proofs.ReportFit.{fit}
+use Rattle.nf_phase_run_laws.proofs.Common.{passes_Q, Report, check_list, same_Ok, report_equilibrium, report_back, fit}
 use Rattle.nf_phase_run_laws.proofs.Running.{report_readable}
 use Rattle.nf_phase_run_laws.proofs.Verdicts.{answered_yes}
 use Rattle.nf_phase_run_laws.proofs.written_is_answered_yes.Goals as goal

@@ -1,4 +1,4 @@
-use Rattle.nf_rational.proofs.Lowest.{parts_ratio}
+use Rattle.nf_rational_laws.proofs.Common.{parts_ratio}
 use Rattle.nf_rational_laws.proofs.Ratio.{same_cross}
 use Rattle.nf_rational_laws.proofs.reduced_laws.Goals as goal
 

@@ -1,5 +1,5 @@
+use Rattle.nf_resume_laws.proofs.Common.{closed-at_start}
 use Rattle.nf_resume_laws.proofs.CutPhase.{IsOpen-cut, closed-at_extension}
-use Rattle.nf_phase_laws.proofs.RunsOn.{closed-at_start}
 use Rattle.nf_resume_laws.proofs.open_is_within_phase.Goals as goal
 
 pub returns : goal.returns

@@ -1,10 +1,5 @@
 use Rattle.std.proofs.Common.{arith, ℕ, ◌≡◌, ◌≤◌, ◌+◌, ◌++◌, length, map, sym, ap, ◌∙◌, append-nil, vec_len}
-use Rattle.std.proofs.lemmas.List.{drop_all}
-use Rattle.std.proofs.lemmas.Result.{err_from_is_err_and}
-use Rattle.nf_text_def.specs.Words.{read_line, read_lines}
-use Rattle.nf_text_def.specs.Lines.{lines_from}
-use Rattle.nf_text_def.specs.Faults.{first_fault, first_fault_of}
-use Rattle.nf_text.specs.Reading.{seen_line}
+use Rattle.nf_text.proofs.Common.{drop_all, err_from_is_err_and, read_line, read_lines, lines_from, first_fault, first_fault_of, seen_line}
 use Rattle.nf_text.proofs.LineSteps.{words_are_in, step_read, step_fault, step_rise, stops_at_fault}
 use Rattle.nf_text.proofs.lines.Goals as goal
 

@@ -1,9 +1,5 @@
 use Rattle.std.proofs.Common.{◌≡◌, ◌+◌, ◌-◌, ◌≤◌, ◌++◌, length, map, drop, vec_len}
-use Rattle.nf_text_def.specs.Lines.{lines_from}
-use Rattle.nf_text_def.specs.Words.{read_line, read_lines}
-use Rattle.nf_text_def.specs.Faults.{first_fault, first_fault_of}
-use Rattle.nf_text.specs.Spans.{Rise}
-use Rattle.nf_text.specs.Reading.{seen_line, spans_of}
+use Rattle.nf_text.proofs.Common.{lines_from, read_line, read_lines, first_fault, first_fault_of, Rise, seen_line, spans_of}
 use Rattle.nf_text.proofs.lines.Given as goal
 
 abbrev pub invariant-loop-start : goal.invariant-loop-start

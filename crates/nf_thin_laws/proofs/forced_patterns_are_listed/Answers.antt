@@ -1,6 +1,6 @@
-use Rattle.nf_thin_laws.proofs.Forced.{filled-unforced_of, same_count, left_pattern, left_listed, filled_listed}
+use Rattle.nf_thin_laws.proofs.Forced.{filled-unforced_of, same_count, left_pattern, left_listed, filled_listed, left_count, left_bare, has_forced}
+use Rattle.nf_thin_laws.proofs.Forced.{unforced_of-filled}
 use Rattle.nf_thin_laws.proofs.Narrowed.{more_changes, order_put, order_left}
-use Rattle.nf_thin_laws.proofs.Forced.{left_count, left_bare, has_forced, unforced_of-filled}
 use Rattle.nf_thin_laws.proofs.forced_patterns_are_listed.Goals as goal
 
 pub returns : goal.returns

@@ -1,5 +1,5 @@
-use Rattle.std.specs.Prelude.{[]}
-use Rattle.nf_model_laws.specs.MemberLaws.{at_rate}
+use Rattle.std.proofs.Common.{[]}
+use Rattle.nf_thin_laws.proofs.Common.{at_rate}
 use Rattle.nf_thin_laws.proofs.OneLink.{first_sets-are, OneLink-tight, OneLink-full, OneLink-phase, ArePieces-rate, starts_at_once, rate_at-once}
 use Rattle.nf_thin_laws.proofs.one_link_has_phase.Goals as goal
 

@@ -1,4 +1,4 @@
-use Rattle.nf_model_laws.proofs.Totals.{IsThinFlow-sink}
+use Rattle.nf_thin_laws.proofs.Common.{IsThinFlow-sink}
 use Rattle.nf_thin_laws.proofs.thin_flow_comes_to_sink.Goals as goal
 
 pub returns : goal.returns

@@ -1,6 +1,4 @@
-use Rattle.std.proofs.lemmas.Result.{err_from_is_err_and}
-use Rattle.nf_app_words.specs.RequestViews.{requested}
-use Rattle.nf_app_files.specs.Files.{visit}
+use Rattle.nf_app.proofs.Common.{err_from_is_err_and, requested, visit}
 use Rattle.nf_app.proofs.Calls.{given}
 use Rattle.nf_app.proofs.answering.answer_request.Goals as goal
 

@@ -1,5 +1,5 @@
 use Rattle.std.proofs.Common.{refl, inl, inr}
-use Rattle.std.proofs.lemmas.Result.{err_from_is_err_and}
+use Rattle.nf_app.proofs.Common.{err_from_is_err_and}
 use Rattle.nf_app.proofs.QuickTold.{from_0, departure_passes, quickest_given}
 use Rattle.nf_app.proofs.answering.beside_arrival.Goals as goal
 

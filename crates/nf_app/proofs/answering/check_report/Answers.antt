@@ -1,10 +1,5 @@
-use Rattle.std.proofs.Common.{◌≡◌, ℕ, List, length, sym, ap, subst, ◌∙◌, arith}
-use Rattle.std.specs.Prelude.{map, Err}
-use Rattle.std.proofs.lemmas.List.{length-map}
-use Rattle.std.proofs.lemmas.Result.{err_from_is_err_and}
-use Rattle.nf_curve.specs.Flows.{seen_trace}
-use Rattle.nf_report_def.specs.ReportFile.{report_in}
-use Rattle.nf_report_read.specs.Files.{IfBroken, seen_report}
+use Rattle.std.proofs.Common.{◌≡◌, ℕ, List, length, sym, ap, subst, ◌∙◌, arith, map, Err}
+use Rattle.nf_app.proofs.Common.{length-map, err_from_is_err_and, seen_trace, report_in, IfBroken, seen_report}
 use Rattle.nf_app.proofs.CheckResult.{report_refused, checking_stopped, verdict_given}
 use Rattle.nf_app.proofs.answering.check_report.Goals as goal
 

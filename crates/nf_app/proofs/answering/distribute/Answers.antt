@@ -1,6 +1,4 @@
-use Rattle.std.proofs.lemmas.Result.{err_from_is_err_and}
-use Rattle.nf_routes_def.specs.RoutesFile.{routes_of}
-use Rattle.nf_routes.specs.Carried.{carried_of}
+use Rattle.nf_app.proofs.Common.{err_from_is_err_and, routes_of, carried_of}
 use Rattle.nf_app.proofs.RoutesResult.{routes_refused, distributing_stopped, distributed_given, routed_counts}
 use Rattle.nf_app.proofs.answering.distribute.Goals as goal
 

@@ -1,7 +1,6 @@
-use Rattle.std.proofs.Common.{refl, inl, ap, ◌∙◌}
-use Rattle.std.proofs.lemmas.Result.{err_from_is_err_and}
+use Rattle.std.proofs.Common.{refl, inl, ap, ◌∙◌, List}
+use Rattle.nf_app.proofs.Common.{err_from_is_err_and}
 use Rattle.nf_quick_def.specs.Quick as lists
-use Rattle.std.specs.Prelude.{List}
 use Rattle.nf_app_answers.specs.QuickText.{augments_text}
 use Rattle.nf_app.proofs.QuickTold.{budget_given}
 use Rattle.nf_app.proofs.answering.end_over_budget.Goals as goal

@@ -1,14 +1,6 @@
-use Rattle.std.proofs.Common.{◌≡◌, ℕ, List, ◌≤◌, length, ap, sym, subst, arith}
-use Rattle.std.specs.Prelude.{Result}
-use Rattle.nf_net_def.specs.Named.{Named}
-use Rattle.nf_app_answers.specs.declared.outcome.Computed.{Computed}
-use Rattle.nf_app_answers.specs.declared.refusal.Refusal.{Refusal}
+use Rattle.std.proofs.Common.{◌≡◌, ℕ, List, ◌≤◌, length, ap, sym, subst, arith, Result}
+use Rattle.nf_app.proofs.Common.{Named, Computed, Refusal, Request, CanBeAsked, requested, input_limit, OtherFits, FindsResult}
 use Rattle.nf_app_words.specs.declared.request.Request as code
-use Rattle.nf_app_words.specs.Requests.{Request, CanBeAsked}
-use Rattle.nf_app_words.specs.RequestViews.{requested}
-use Rattle.nf_app_files.specs.Files.{input_limit}
-use Rattle.nf_app.specs.Gathered.{OtherFits}
-use Rattle.nf_app.specs.Outcomes.{FindsResult}
 use Rattle.nf_app.proofs.answering.find.Goals as goal
 
 -- a request gives with the bytes of its second file what it gives with a borrow of them

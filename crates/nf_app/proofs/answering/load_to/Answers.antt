@@ -1,9 +1,5 @@
-use Rattle.std.proofs.Common.{List, subst}
-use Rattle.std.specs.Prelude.{map}
-use Rattle.std.proofs.lemmas.Result.{err_from_is_err_and}
-use Rattle.nf_model.specs.Network.{Piece, ArePieces}
-use Rattle.nf_report_def.specs.LoadsFile.{pieces_at}
-use Rattle.nf_load.specs.Loadings.{loaded_of}
+use Rattle.std.proofs.Common.{List, subst, map}
+use Rattle.nf_app.proofs.Common.{err_from_is_err_and, Piece, ArePieces, pieces_at, loaded_of}
 use Rattle.nf_app.proofs.LoadResult.{loads_refused, loading_stopped, loading_given}
 use Rattle.nf_app.proofs.answering.load_to.Goals as goal
 

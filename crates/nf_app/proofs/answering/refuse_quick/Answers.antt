@@ -1,8 +1,5 @@
-use Rattle.std.proofs.Common.{refl, inl, inr, subst}
-use Rattle.std.specs.Prelude.{Err}
-use Rattle.nf_frac_def.specs.Passing.{passes_Q}
-use Rattle.nf_quick.specs.Answered.{IsAnswered, IsInOrder}
-use Rattle.nf_quick.specs.declared.fault.QuickFault.{QuickFault}
+use Rattle.std.proofs.Common.{refl, inl, inr, subst, Err}
+use Rattle.nf_app.proofs.Common.{passes_Q, IsAnswered, IsInOrder, QuickFault}
 use Rattle.nf_app.proofs.QuickTold.{unbounded_given, passed_given}
 use Rattle.nf_app.proofs.answering.refuse_quick.Goals as goal
 

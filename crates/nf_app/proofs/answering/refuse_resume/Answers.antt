@@ -1,8 +1,5 @@
 use Rattle.std.proofs.Common.{subst, inl, inr, refl}
-use Rattle.nf_rational.specs.Rational.{ℚ}
-use Rattle.nf_rational.specs.Order.{◌<ℚ◌}
-use Rattle.nf_frac_def.specs.Passing.{passes_Q}
-use Rattle.nf_resume.specs.Faults.{IsResumeFault}
+use Rattle.nf_app.proofs.Common.{ℚ, ◌<ℚ◌, passes_Q, IsResumeFault}
 use Rattle.nf_resume.specs.declared.fault.ResumeFault.{ResumeFault}
 use Rattle.nf_app.proofs.ResumeResult.{no_start_given, passes_given, earlier_given}
 use Rattle.nf_app.proofs.answering.refuse_resume.Goals as goal

@@ -1,10 +1,7 @@
-use Rattle.std.proofs.Common.{◌≡◌, ℕ, List, length, sym, ap, subst, ◌∙◌, arith}
-use Rattle.std.specs.Prelude.{Err}
-use Rattle.std.proofs.lemmas.Result.{err_from_is_err_and}
+use Rattle.std.proofs.Common.{◌≡◌, ℕ, List, length, sym, ap, subst, ◌∙◌, arith, Err}
+use Rattle.nf_app.proofs.Common.{err_from_is_err_and, IfBroken, seen_report, bounds_of, solution_report}
 use Rattle.nf_phase_run_laws.proofs.Reading.{resumed_reads_back}
 use Rattle.nf_report_def.specs.ReportFile as reports
-use Rattle.nf_report_read.specs.Files.{IfBroken, seen_report}
-use Rattle.nf_phase.specs.Solution.{bounds_of, solution_report}
 use Rattle.nf_app.proofs.Reports.{a_report}
 use Rattle.nf_app.proofs.ResumeResult.{old_refused, gone_on_given}
 use Rattle.nf_app.proofs.answering.resume_to.Goals as goal

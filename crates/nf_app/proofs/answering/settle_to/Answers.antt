@@ -1,9 +1,6 @@
-use Rattle.std.proofs.Common.{subst, inr}
-use Rattle.std.specs.Prelude.{Option, Ok}
-use Rattle.std.proofs.lemmas.Result.{err_from_is_err_and}
+use Rattle.std.proofs.Common.{subst, inr, Option, Ok}
+use Rattle.nf_app.proofs.Common.{err_from_is_err_and, given_of, SettlesAtStart}
 use Rattle.nf_complete.specs.declared.settled.Settled.{Settled}
-use Rattle.nf_complete_read.specs.Files.{given_of}
-use Rattle.nf_app.specs.SettlingSteps.{SettlesAtStart}
 use Rattle.nf_app.proofs.SettleResult.{flows_refused, settling_halted, not_thin_given, settled_given, settled_counts}
 use Rattle.nf_app.proofs.answering.settle_to.Goals as goal
 

@@ -1,6 +1,5 @@
-use Rattle.std.proofs.Common.{ℕ, List, refl, subst}
-use Rattle.std.specs.Prelude.{Ok}
-use Rattle.nf_net_def.specs.NetFile.{Reads}
+use Rattle.std.proofs.Common.{ℕ, List, refl, subst, Ok}
+use Rattle.nf_app.proofs.Common.{Reads}
 use Rattle.nf_app.proofs.answering.show.Goals as goal
 
 pub returns : goal.returns

@@ -1,14 +1,5 @@
-use Rattle.std.proofs.Common.{◌≡◌, refl, inl}
-use Rattle.std.specs.Prelude.{None}
-use Rattle.std.proofs.lemmas.Result.{err_from_is_err_and}
-use Rattle.nf_rational.specs.Rational.{ℚ}
-use Rattle.nf_rational.specs.Operations.{0ℚ}
-use Rattle.nf_rational.specs.Order.{◌≤ℚ◌}
-use Rattle.nf_frac_def.specs.Passing.{passes_Q}
-use Rattle.nf_model.specs.Equilibrium.{Equilibrium}
-use Rattle.nf_forever_def.specs.Extended.{flow_until}
-use Rattle.nf_forever_laws.specs.TailGrowth.{TailGrows}
-use Rattle.nf_forever.specs.Seen.{forever_in}
+use Rattle.std.proofs.Common.{◌≡◌, refl, inl, None}
+use Rattle.nf_app.proofs.Common.{err_from_is_err_and, ℚ, 0ℚ, ◌≤ℚ◌, passes_Q, Equilibrium, flow_until, TailGrows, forever_in}
 use Rattle.nf_app.proofs.ForeverResult.{stop_seen, tail_seen, forever_short, forever_ends}
 use Rattle.nf_app.proofs.answering.solve_on.Goals as goal
 

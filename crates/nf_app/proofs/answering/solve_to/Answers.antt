@@ -1,5 +1,5 @@
 use Rattle.std.proofs.Common.{refl, arith}
-use Rattle.nf_phase.specs.Solution.{bounds_of, solution_report}
+use Rattle.nf_app.proofs.Common.{bounds_of, solution_report}
 use Rattle.nf_phase_run_laws.proofs.ReadingBack.{reads_back}
 use Rattle.nf_app.proofs.answering.solve_to.Goals as goal
 

@@ -1,5 +1,5 @@
 use Rattle.std.proofs.Common.{ℕ, ◌<◌, refl, sym, subst}
-use Rattle.nf_phase.specs.Solution.{bounds_of, solution_report}
+use Rattle.nf_app.proofs.Common.{bounds_of, solution_report}
 use Rattle.nf_app.proofs.QuickTold.{sink_in, at_sink, last_is_label}
 use Rattle.nf_app.proofs.answering.sum_up.Goals as goal
 

@@ -1,5 +1,5 @@
 use Rattle.std.proofs.Common.{sym, ap}
-use Rattle.nf_app.specs.Outcomes.{with_net}
+use Rattle.nf_app.proofs.Common.{with_net}
 use Rattle.nf_app.proofs.answering.with_net.Goals as goal
 
 pub returns-in-Ok : goal.returns-in-Ok

@@ -1,7 +1,5 @@
-use Rattle.std.proofs.Common.{◌≡◌, ℕ, ◌<◌, ap, sym, subst, ◌∙◌}
-use Rattle.std.specs.Prelude.{Some, None}
-use Rattle.std.specs.Option.{option_copied}
-use Rattle.nf_phase.specs.Solution.{bounds_of, solution_report, IsRunSolution}
+use Rattle.std.proofs.Common.{◌≡◌, ℕ, ◌<◌, ap, sym, subst, ◌∙◌, Some, None}
+use Rattle.nf_app.proofs.Common.{option_copied, bounds_of, solution_report, IsRunSolution}
 use Rattle.nf_phase.specs.declared.solution.Budgets.{Budgets}
 use Rattle.nf_app.proofs.QuickTold.{sink_in, at_sink, stopped_arrives, reached_arrives}
 use Rattle.nf_app.proofs.arrival.arrival_at.Goals as goal

@@ -1,8 +1,5 @@
-use Rattle.std.proofs.Common.{◌≡◌, ℕ, ◌-◌, ◌<◌, List, length, subst, sym}
-use Rattle.std.specs.Prelude.{Some, slice_get}
-use Rattle.nf_model.specs.Curve.{Point}
-use Rattle.nf_model.specs.Equilibrium.{points_at}
-use Rattle.nf_curve.specs.Flows.{seen_flow}
+use Rattle.std.proofs.Common.{◌≡◌, ℕ, ◌-◌, ◌<◌, List, length, subst, sym, Some, slice_get}
+use Rattle.nf_app.proofs.Common.{Point, points_at, seen_flow}
 use Rattle.nf_report_pages.proofs.Parts.{points_there}
 use Rattle.nf_app.proofs.arrival.last_label.Goals as goal
 

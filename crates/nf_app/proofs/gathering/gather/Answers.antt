@@ -1,12 +1,7 @@
-use Rattle.std.proofs.Common.{ap, sym, subst, refl}
-use Rattle.std.specs.Prelude.{IfOk}
+use Rattle.std.proofs.Common.{ap, sym, subst, refl, IfOk}
+use Rattle.nf_app.proofs.Common.{Request, CanBeAsked, requested, visit, input_file, report_file, files_of, generated_by, OtherFits}
 use Rattle.nf_app_words.specs.declared.request.Request as code
-use Rattle.nf_app_words.specs.Requests.{Request, CanBeAsked}
-use Rattle.nf_app_words.specs.RequestViews.{requested}
 use Rattle.nf_gen.specs.Ladder.{ladder}
-use Rattle.nf_app_files.specs.Files.{visit, input_file, report_file}
-use Rattle.nf_app.specs.Requests.{files_of, generated_by}
-use Rattle.nf_app.specs.Gathered.{OtherFits}
 use Rattle.nf_app.proofs.Calls.{gathered_one, gathered_two, gathered_none, any_fit}
 use Rattle.nf_app.proofs.gathering.gather.Goals as goal
 

@@ -1,21 +1,11 @@
-use Rattle.std.proofs.Common.{List, sym, subst}
-use Rattle.std.specs.Prelude.{Result}
-use Rattle.std.proofs.lemmas.Result.{err_from_is_err_and}
-use Rattle.nf_rational.specs.Rational.{ℚ}
-use Rattle.nf_rational.specs.Operations.{0ℚ}
-use Rattle.nf_rational.specs.Order.{◌≤ℚ◌}
+use Rattle.std.proofs.Common.{List, sym, subst, Result}
+use Rattle.nf_app.proofs.Common.{err_from_is_err_and, ℚ, 0ℚ, ◌≤ℚ◌, PassedAt, passes_Q, at_part, Gives, Point, Link, after_err, after_ok, stops_on}
+use Rattle.nf_app.proofs.Common.{loaded_of}
 use Rattle.nf_frac_def.specs.declared.Part.TheVariants.{Load}
-use Rattle.nf_frac_def.specs.declared.PassedAt.{PassedAt}
-use Rattle.nf_frac_def.specs.Passing.{passes_Q}
-use Rattle.nf_frac_def.specs.Checked.{at_part, Gives}
-use Rattle.nf_model.specs.Curve.{Point}
-use Rattle.nf_model.specs.Network.{Link}
 use Rattle.nf_model_laws.specs.Capacity.{IsPositive}
 use Rattle.nf_load_def.specs.Cumulative.{checked_cumulative}
 use Rattle.nf_load_def.specs.Loading as lists
 use Rattle.nf_load_def.specs.Loads.{load_link_list}
-use Rattle.nf_curve.proofs.Exits.{after_err, after_ok, stops_on}
-use Rattle.nf_load.specs.Loadings.{loaded_of}
 use Rattle.nf_app.proofs.loading.load_by_pieces.Goals as goal
 
 pub supplied-requires-clause-pieces : goal.supplied-requires-clause-pieces

@@ -1,20 +1,10 @@
-use Rattle.std.proofs.Common.{◌≡◌, ℕ, ◌+◌, ◌<◌, List, [], ◌∷◌, ◌++◌, length, drop, sym, ap, subst, ◌∙◌, arith}
-use Rattle.std.specs.Prelude.{Ok, Err, zip, map}
-use Rattle.std.proofs.lemmas.Result.{IfOk-from_err, err_from_is_err_and}
-use Rattle.std.proofs.lemmas.List.{map-append, length-append}
-use Rattle.nf_rational.specs.Rational.{ℚ}
+use Rattle.std.proofs.Common.{◌≡◌, ℕ, ◌+◌, ◌<◌, List, [], ◌∷◌, ◌++◌, length, drop, sym, ap, subst, ◌∙◌, arith, Ok, Err, zip, map}
+use Rattle.nf_app.proofs.Common.{IfOk-from_err, err_from_is_err_and, map-append, length-append, ℚ, passes_Q, at_part, each, Gives, with_front, no_front}
+use Rattle.nf_app.proofs.Common.{Link, Piece, load_link_list, each_goes, each_stops, each_ends, stops_on, pieces_at, loaded_of, loading_list}
 use Rattle.nf_frac_def.specs.declared.Part.TheVariants.{Load}
-use Rattle.nf_frac_def.specs.Passing.{passes_Q}
-use Rattle.nf_frac_def.specs.Checked.{at_part, each, Gives}
-use Rattle.nf_frac_def.proofs.Each.{with_front, no_front}
-use Rattle.nf_model.specs.Network.{Link, Piece}
 use Rattle.nf_load_def.specs.Loading as lists
-use Rattle.nf_load_def.specs.Loads.{load_link_list, load_list}
-use Rattle.nf_curve.proofs.Exits.{each_goes, each_stops, each_ends, stops_on}
-use Rattle.nf_report_def.specs.LoadsFile.{pieces_at}
-use Rattle.nf_load.specs.Loadings.{loaded_of}
+use Rattle.nf_load_def.specs.Loads.{load_list}
 use Rattle.nf_load.specs.declared.loading.Loaded as code
-use Rattle.nf_app.specs.Lists.{loading_list}
 use Rattle.nf_app.proofs.LinkLoads.{zip_next, zip_ends}
 use Rattle.nf_app.proofs.loading.load_links.Goals as goal
 

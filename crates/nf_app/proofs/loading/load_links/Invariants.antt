@@ -1,10 +1,5 @@
-use Rattle.std.proofs.Common.{◌≡◌, length, drop}
-use Rattle.std.specs.Prelude.{zip, map}
-use Rattle.nf_frac_def.specs.Passing.{passes_Q}
-use Rattle.nf_frac_def.specs.Checked.{each}
-use Rattle.nf_frac_def.proofs.Each.{with_front}
-use Rattle.nf_load_def.specs.Loads.{load_link_list}
-use Rattle.nf_load.specs.Loadings.{loaded_of}
+use Rattle.std.proofs.Common.{◌≡◌, length, drop, zip, map}
+use Rattle.nf_app.proofs.Common.{passes_Q, each, with_front, load_link_list, loaded_of}
 use Rattle.nf_app.proofs.loading.load_links.Given as goal
 
 -- the loadings so far, before those of the links from here on

@@ -1,7 +1,6 @@
 use Rattle.std.proofs.Common.{refl}
+use Rattle.nf_app.proofs.Common.{refused_answer, took_of}
 use Rattle.nf_app_answers.specs.Outcomes.{answer_in}
-use Rattle.nf_app_answers.specs.Refusals.{refused_answer}
-use Rattle.nf_app_files.specs.Sinks.{took_of}
 use Rattle.nf_app.proofs.Calls.{took_no_text, refused_shown}
 use Rattle.nf_app.proofs.Derived.{derived}
 use Rattle.nf_app.proofs.running.run.Goals as goal

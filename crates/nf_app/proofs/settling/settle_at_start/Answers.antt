@@ -1,9 +1,8 @@
 use Rattle.std.proofs.Common.{◌∙◌, sym, ap, length}
-use Rattle.std.proofs.lemmas.Result.{err_from_is_err_and}
+use Rattle.nf_app.proofs.Common.{err_from_is_err_and, Halt, given_of}
 use Rattle.std.proofs.lemmas.Bool.{MatchBool-at_true, MatchBool-at_false}
-use Rattle.nf_frac_def.specs.declared.Halt.{Halt}
-use Rattle.nf_complete_read.specs.Files.{given_of}
-use Rattle.nf_app.proofs.SettleCalls.{start_stopped, rate_there, Called, sets_good, sets_source, sets_rate, tested, thin_there, thin_again, not_thin, test_stopped, settling_stopped, settled_there}
+use Rattle.nf_app.proofs.SettleCalls.{start_stopped, rate_there, Called, sets_good, sets_source, sets_rate, tested, thin_there, thin_again, not_thin}
+use Rattle.nf_app.proofs.SettleCalls.{test_stopped, settling_stopped, settled_there}
 use Rattle.nf_app.proofs.settling.settle_at_start.Goals as goal
 
 pub returns-in_err-sets : goal.returns-in_err-sets

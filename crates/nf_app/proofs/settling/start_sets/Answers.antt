@@ -1,4 +1,4 @@
-use Rattle.std.proofs.lemmas.Result.{err_from_is_err_and}
+use Rattle.nf_app.proofs.Common.{err_from_is_err_and}
 use Rattle.nf_graph.proofs.NetworkHops.{below_nodes}
 use Rattle.nf_app.proofs.SettleCalls.{slacks_stopped, sets_there}
 use Rattle.nf_app.proofs.settling.start_sets.Goals as goal

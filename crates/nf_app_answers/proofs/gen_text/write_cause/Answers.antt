@@ -1,8 +1,5 @@
-use Rattle.std.proofs.Common.{[], ◌∷◌, sym, ap}
-use Rattle.std.specs.Prelude.{codes}
-use Rattle.std.specs.Option.{option_copied}
-use Rattle.nf_net_def.specs.Causes.{cause_words}
-use Rattle.nf_report_pages.proofs.Written.{same_lines}
+use Rattle.std.proofs.Common.{[], ◌∷◌, sym, ap, codes}
+use Rattle.nf_app_answers.proofs.Common.{option_copied, cause_words, same_lines}
 use Rattle.nf_app_answers.proofs.gen_text.write_cause.Goals as goal
 
 pub returns-in-None : goal.returns-in-None

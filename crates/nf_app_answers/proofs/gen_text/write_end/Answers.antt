@@ -1,10 +1,5 @@
-use Rattle.std.proofs.Common.{[], ◌∷◌, refl}
-use Rattle.std.specs.Prelude.{codes}
-use Rattle.std.specs.Option.{option_copied}
-use Rattle.nf_frac_words.specs.Printed.{printed}
-use Rattle.nf_net_def.specs.Causes.{cause_words}
-use Rattle.nf_report_pages.proofs.Written.{wrote_next, wrote_failed}
-use Rattle.nf_app_answers.specs.GenText.{run_end_lines}
+use Rattle.std.proofs.Common.{[], ◌∷◌, refl, codes}
+use Rattle.nf_app_answers.proofs.Common.{option_copied, printed, cause_words, wrote_next, wrote_failed, run_end_lines}
 use Rattle.nf_app_answers.proofs.gen_text.write_end.Goals as goal
 
 pub returns-in_err-write_cause : goal.returns-in_err-write_cause

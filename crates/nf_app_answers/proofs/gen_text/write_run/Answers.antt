@@ -1,9 +1,5 @@
-use Rattle.std.proofs.Common.{[], ◌∷◌, refl}
-use Rattle.std.specs.Prelude.{codes}
-use Rattle.nf_frac_words.specs.Digits.{digits_of}
-use Rattle.nf_frac_words.specs.Printed.{printed}
-use Rattle.nf_report_pages.proofs.Written.{wrote_next, wrote_failed}
-use Rattle.nf_app_answers.specs.GenText.{run_lines}
+use Rattle.std.proofs.Common.{[], ◌∷◌, refl, codes}
+use Rattle.nf_app_answers.proofs.Common.{digits_of, printed, wrote_next, wrote_failed, run_lines}
 use Rattle.nf_app_answers.proofs.gen_text.write_run.Goals as goal
 
 pub returns-in_err-write_counted : goal.returns-in_err-write_counted

@@ -1,8 +1,5 @@
-use Rattle.std.proofs.Common.{ℕ, List, [], ◌∷◌, length, ap, ◌∙◌}
-use Rattle.std.specs.Prelude.{codes}
-use Rattle.nf_frac_words.specs.Digits.{digits_of}
-use Rattle.nf_report_pages.proofs.Written.{wrote_next, wrote_failed}
-use Rattle.nf_app_answers.specs.GenText.{size_lines}
+use Rattle.std.proofs.Common.{ℕ, List, [], ◌∷◌, length, ap, ◌∙◌, codes}
+use Rattle.nf_app_answers.proofs.Common.{digits_of, wrote_next, wrote_failed, size_lines}
 use Rattle.nf_app_answers.proofs.gen_text.write_size.Goals as goal
 
 abbrev nodes_line : ℕ → List (List ℕ)

@@ -1,15 +1,8 @@
-use Rattle.std.proofs.Common.{◌≡◌, ℕ, List, ◌++◌, refl, ap}
-use Rattle.std.specs.Prelude.{Option, Result}
-use Rattle.std.specs.Option.{option_copied}
-use Rattle.nf_rational.specs.Rational.{ℚ}
-use Rattle.nf_edge.specs.Writing.{SinkState, Wrote}
+use Rattle.std.proofs.Common.{◌≡◌, ℕ, List, ◌++◌, refl, ap, Option, Result}
+use Rattle.nf_app_answers.proofs.Common.{option_copied, ℚ, SinkState, Wrote, Named, Report, WroteLines, wrote_next, wrote_failed, wrote_then_failed}
+use Rattle.nf_app_answers.proofs.Common.{same_lines, ladder_lines, size_lines, run_lines, run_end_lines, last_arrival, gen_text}
 use Rattle.nf_net_def.specs.declared.Cause.{Cause}
-use Rattle.nf_net_def.specs.Named.{Named}
-use Rattle.nf_net_def.specs.Report.{Report}
-use Rattle.nf_report_pages.specs.Written.{WroteLines}
-use Rattle.nf_report_pages.proofs.Written.{wrote_next, wrote_failed, wrote_then_failed, same_lines}
 use Rattle.nf_phase.specs.Solution.{solution_report}
-use Rattle.nf_app_answers.specs.GenText.{ladder_lines, size_lines, run_lines, run_end_lines, last_arrival, gen_text}
 use Rattle.nf_app_answers.proofs.gen_text.write_summary.Goals as goal
 
 -- with the arrival of the last departure, the lines are the text

@@ -1,11 +1,6 @@
-use Rattle.std.proofs.Common.{ℕ, List, ◌++◌, refl, sym, ap, ◌∙◌, append_assoc}
-use Rattle.std.specs.Prelude.{codes}
-use Rattle.nf_net_def.specs.Report.{point_lines}
+use Rattle.std.proofs.Common.{ℕ, List, ◌++◌, refl, sym, ap, ◌∙◌, append_assoc, codes}
+use Rattle.nf_app_answers.proofs.Common.{point_lines, loaded_lines, loaded_of, Line, wrote_next, wrote_failed, wrote_then_failed}
 use Rattle.nf_load_def.specs.Loading as lists
-use Rattle.nf_report_def.specs.Texts.{loaded_lines}
-use Rattle.nf_load.specs.Loadings.{loaded_of}
-use Rattle.nf_report_pages.specs.Written.{Line}
-use Rattle.nf_report_pages.proofs.Written.{wrote_next, wrote_failed, wrote_then_failed}
 use Rattle.nf_app_answers.proofs.load_text.write_curves.Goals as goal
 
 abbrev queue_lines : List ℕ → lists.Loaded → List Line

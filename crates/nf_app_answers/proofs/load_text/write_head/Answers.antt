@@ -1,7 +1,5 @@
-use Rattle.std.proofs.Common.{ℕ, List, [], ◌∷◌, refl, ap, ◌∙◌}
-use Rattle.std.specs.Prelude.{codes}
-use Rattle.nf_frac_words.specs.Printed.{printed}
-use Rattle.nf_report_pages.proofs.Written.{wrote_next, wrote_failed, same_lines}
+use Rattle.std.proofs.Common.{ℕ, List, [], ◌∷◌, refl, ap, ◌∙◌, codes}
+use Rattle.nf_app_answers.proofs.Common.{printed, wrote_next, wrote_failed, same_lines}
 use Rattle.nf_app_answers.proofs.load_text.write_head.Goals as goal
 
 pub returns-in_err-write_line : goal.returns-in_err-write_line

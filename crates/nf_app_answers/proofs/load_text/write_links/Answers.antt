@@ -1,13 +1,7 @@
-use Rattle.std.proofs.Common.{◌≡◌, ℕ, ◌+◌, suc, length, take, drop, refl, sym, ◌∙◌, arith}
-use Rattle.std.specs.Prelude.{flat_map, map, slice_get, Some}
-use Rattle.std.specs.List.{enumerate_from}
-use Rattle.std.proofs.lemmas.List.{length-map}
-use Rattle.std.proofs.lemmas.Option.{slice_get_read}
+use Rattle.std.proofs.Common.{◌≡◌, ℕ, ◌+◌, suc, length, take, drop, refl, sym, ◌∙◌, arith, flat_map, map, slice_get, Some}
+use Rattle.nf_app_answers.proofs.Common.{enumerate_from, length-map, slice_get_read, loaded_lines, loaded_of, next_part, parts_left, all_parts, wrote_next}
+use Rattle.nf_app_answers.proofs.Common.{wrote_then_failed, same_lines}
 use Rattle.nf_load_def.specs.Loading as lists
-use Rattle.nf_report_def.specs.Texts.{loaded_lines}
-use Rattle.nf_load.specs.Loadings.{loaded_of}
-use Rattle.nf_report_pages.proofs.Parts.{next_part, parts_left, all_parts}
-use Rattle.nf_report_pages.proofs.Written.{wrote_next, wrote_then_failed, same_lines}
 use Rattle.nf_app_answers.proofs.LoadLines.{numbered_there, numbered_length}
 use Rattle.nf_app_answers.proofs.load_text.write_links.Goals as goal
 

@@ -1,11 +1,5 @@
-use Rattle.std.proofs.Common.{take}
-use Rattle.std.specs.Prelude.{Ok, flat_map, map}
-use Rattle.std.specs.List.{enumerate_from}
-use Rattle.nf_edge.specs.declared.SinkFault.{SinkFault}
-use Rattle.nf_edge.specs.Writing.{state_of}
-use Rattle.nf_report_def.specs.Texts.{loaded_lines}
-use Rattle.nf_report_pages.specs.Written.{WroteLines}
-use Rattle.nf_load.specs.Loadings.{loaded_of}
+use Rattle.std.proofs.Common.{take, Ok, flat_map, map}
+use Rattle.nf_app_answers.proofs.Common.{enumerate_from, SinkFault, state_of, loaded_lines, WroteLines, loaded_of}
 use Rattle.nf_app_answers.proofs.load_text.write_links.Given as goal
 
 -- the curves of the links before this one

@@ -1,10 +1,5 @@
-use Rattle.std.proofs.Common.{[], ◌∷◌, ◌++◌, refl}
-use Rattle.std.specs.Prelude.{codes, flat_map, map}
-use Rattle.std.specs.List.{enumerate_from}
-use Rattle.nf_frac_words.specs.Printed.{printed}
-use Rattle.nf_report_def.specs.Texts.{loaded_lines}
-use Rattle.nf_load.specs.Loadings.{loaded_of}
-use Rattle.nf_report_pages.proofs.Written.{wrote_next, wrote_failed, wrote_then_failed}
+use Rattle.std.proofs.Common.{[], ◌∷◌, ◌++◌, refl, codes, flat_map, map}
+use Rattle.nf_app_answers.proofs.Common.{enumerate_from, printed, loaded_lines, loaded_of, wrote_next, wrote_failed, wrote_then_failed}
 use Rattle.nf_app_answers.proofs.load_text.write_loads.Goals as goal
 
 pub returns-in_err-write_head : goal.returns-in_err-write_head

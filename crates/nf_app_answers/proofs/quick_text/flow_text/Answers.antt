@@ -1,11 +1,5 @@
-use Rattle.std.proofs.Common.{◌≡◌, ℕ, List, [], ◌++◌, length, ap, ◌∙◌}
-use Rattle.std.specs.Prelude.{flat_map}
-use Rattle.std.specs.List.{enumerate_from}
-use Rattle.std.proofs.lemmas.Result.{IfOk-from_err}
-use Rattle.nf_rational.specs.Rational.{ℚ}
-use Rattle.nf_model.specs.Quickest.{Fed}
-use Rattle.nf_quick_def.specs.Quick.{Quick}
-use Rattle.nf_app_answers.specs.QuickText.{walk_line, cut_line, flow_text}
+use Rattle.std.proofs.Common.{◌≡◌, ℕ, List, [], ◌++◌, length, ap, ◌∙◌, flat_map}
+use Rattle.nf_app_answers.proofs.Common.{enumerate_from, IfOk-from_err, ℚ, Fed, Quick, walk_line, cut_line, flow_text}
 use Rattle.nf_app_answers.proofs.quick_text.flow_text.Goals as goal
 
 pub returns-in_err-put_number_line : goal.returns-in_err-put_number_line

@@ -1,8 +1,5 @@
-use Rattle.std.proofs.Common.{◌≡◌, length, refl, arith}
-use Rattle.std.specs.Prelude.{Some, slice_get}
-use Rattle.std.proofs.lemmas.Option.{slice_get_read}
-use Rattle.std.proofs.lemmas.Result.{IfOk-from_err}
-use Rattle.nf_app_answers.specs.QuickText.{cut_line}
+use Rattle.std.proofs.Common.{◌≡◌, length, refl, arith, Some, slice_get}
+use Rattle.nf_app_answers.proofs.Common.{slice_get_read, IfOk-from_err, cut_line}
 use Rattle.nf_app_answers.proofs.QuickLines.{numbered_more, numbered_all}
 use Rattle.nf_app_answers.proofs.quick_text.put_cut.Goals as goal
 

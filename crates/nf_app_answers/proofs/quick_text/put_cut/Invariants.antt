@@ -1,6 +1,5 @@
 use Rattle.std.proofs.Common.{◌≡◌, ◌++◌, take}
-use Rattle.std.specs.List.{flat_map, enumerate_from}
-use Rattle.nf_app_answers.specs.QuickText.{cut_line}
+use Rattle.nf_app_answers.proofs.Common.{flat_map, enumerate_from, cut_line}
 use Rattle.nf_app_answers.proofs.quick_text.put_cut.Given as goal
 
 abbrev pub invariant-loop-node : goal.invariant-loop-node

@@ -1,7 +1,5 @@
 use Rattle.std.proofs.Common.{◌≤◌, List, ℕ, ◌∷◌, ◌++◌, length, refl, ap, ◌∙◌, arith}
-use Rattle.std.proofs.lemmas.Option.{slice_get_read}
-use Rattle.std.proofs.lemmas.Result.{IfOk-from_err}
-use Rattle.nf_net_def.specs.Names.{name_at}
+use Rattle.nf_app_answers.proofs.Common.{slice_get_read, IfOk-from_err, name_at}
 use Rattle.nf_app_answers.proofs.QuickLines.{word_more, word_ends}
 use Rattle.nf_app_answers.proofs.quick_text.put_links.Goals as goal
 

@@ -1,6 +1,5 @@
 use Rattle.std.proofs.Common.{◌≡◌, ◌++◌, drop, map}
-use Rattle.nf_report_pages.specs.Written.{after_words}
-use Rattle.nf_net_def.specs.Names.{name_at}
+use Rattle.nf_app_answers.proofs.Common.{after_words, name_at}
 use Rattle.nf_app_answers.proofs.quick_text.put_links.Given as goal
 
 abbrev pub invariant-loop-link : goal.invariant-loop-link

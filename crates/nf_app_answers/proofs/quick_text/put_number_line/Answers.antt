@@ -1,6 +1,5 @@
 use Rattle.std.proofs.Common.{[], sym, append-nil}
-use Rattle.std.proofs.lemmas.Result.{IfOk-from_err}
-use Rattle.nf_frac_words.specs.Printed.{printed}
+use Rattle.nf_app_answers.proofs.Common.{IfOk-from_err, printed}
 use Rattle.nf_app_answers.proofs.QuickLines.{line_put}
 use Rattle.nf_app_answers.proofs.quick_text.put_number_line.Goals as goal
 

@@ -1,8 +1,5 @@
-use Rattle.std.proofs.Common.{ℕ, List, [], ◌∷◌, ◌++◌, sym, ap, ◌∙◌, append-nil}
-use Rattle.std.specs.Prelude.{codes}
-use Rattle.std.proofs.lemmas.Result.{IfOk-from_err}
-use Rattle.nf_frac_words.specs.Printed.{printed}
-use Rattle.nf_net_def.specs.Names.{name_at}
+use Rattle.std.proofs.Common.{ℕ, List, [], ◌∷◌, ◌++◌, sym, ap, ◌∙◌, append-nil, codes}
+use Rattle.nf_app_answers.proofs.Common.{IfOk-from_err, printed, name_at}
 use Rattle.nf_app_answers.proofs.QuickLines.{line_put}
 use Rattle.nf_app_answers.proofs.quick_text.put_time.Goals as goal
 

@@ -1,11 +1,5 @@
-use Rattle.std.proofs.Common.{ℕ, List, ◌∷◌, ◌++◌, map, ap, ◌∙◌}
-use Rattle.std.specs.Prelude.{codes}
-use Rattle.std.proofs.lemmas.Result.{IfOk-from_err}
-use Rattle.nf_text_def.specs.Words.{line_of_words}
-use Rattle.nf_frac_words.specs.Printed.{printed}
-use Rattle.nf_model.specs.Quickest.{Fed}
-use Rattle.nf_net_def.specs.Names.{name_at}
-use Rattle.nf_app_answers.specs.QuickText.{walk_line}
+use Rattle.std.proofs.Common.{ℕ, List, ◌∷◌, ◌++◌, map, ap, ◌∙◌, codes}
+use Rattle.nf_app_answers.proofs.Common.{IfOk-from_err, line_of_words, printed, Fed, name_at, walk_line}
 use Rattle.nf_app_answers.proofs.QuickLines.{line_put}
 use Rattle.nf_app_answers.proofs.quick_text.put_walk.Goals as goal
 

@@ -1,7 +1,5 @@
 use Rattle.std.proofs.Common.{◌≤◌, length, refl, arith}
-use Rattle.std.proofs.lemmas.Option.{slice_get_read}
-use Rattle.std.proofs.lemmas.Result.{IfOk-from_err}
-use Rattle.nf_app_answers.specs.QuickText.{walk_line}
+use Rattle.nf_app_answers.proofs.Common.{slice_get_read, IfOk-from_err, walk_line}
 use Rattle.nf_app_answers.proofs.QuickLines.{part_more, part_ends}
 use Rattle.nf_app_answers.proofs.quick_text.put_walks.Goals as goal
 

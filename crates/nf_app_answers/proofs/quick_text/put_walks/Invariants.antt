@@ -1,6 +1,5 @@
 use Rattle.std.proofs.Common.{◌≡◌, ◌++◌, drop}
-use Rattle.std.specs.List.{flat_map}
-use Rattle.nf_app_answers.specs.QuickText.{walk_line}
+use Rattle.nf_app_answers.proofs.Common.{flat_map, walk_line}
 use Rattle.nf_app_answers.proofs.quick_text.put_walks.Given as goal
 
 abbrev pub invariant-loop-walk : goal.invariant-loop-walk

@@ -1,8 +1,5 @@
-use Rattle.std.proofs.Common.{ℕ, List, [], ◌∷◌, sym, ap, ◌∙◌, append-nil}
-use Rattle.std.specs.Prelude.{codes, flat_map, Some}
-use Rattle.nf_text_def.specs.Words.{line_of_words}
-use Rattle.nf_net_def.specs.Causes.{cause_words}
-use Rattle.nf_app_answers.specs.QuickText.{arrival_text}
+use Rattle.std.proofs.Common.{ℕ, List, [], ◌∷◌, sym, ap, ◌∙◌, append-nil, codes, flat_map, Some}
+use Rattle.nf_app_answers.proofs.Common.{line_of_words, cause_words, arrival_text}
 use Rattle.nf_app_answers.proofs.ErrorTexts.{same_text}
 use Rattle.nf_app_answers.proofs.QuickLines.{stopped_put}
 use Rattle.nf_app_answers.proofs.quick_text.write_arrival.Goals as goal

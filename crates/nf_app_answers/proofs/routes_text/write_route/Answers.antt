@@ -1,7 +1,5 @@
-use Rattle.std.proofs.Common.{◌++◌, refl}
-use Rattle.std.specs.Prelude.{codes}
-use Rattle.nf_net_def.specs.Report.{point_lines}
-use Rattle.nf_report_pages.proofs.Written.{wrote_next, wrote_failed}
+use Rattle.std.proofs.Common.{◌++◌, refl, codes}
+use Rattle.nf_app_answers.proofs.Common.{point_lines, wrote_next, wrote_failed}
 use Rattle.nf_app_answers.proofs.routes_text.write_route.Goals as goal
 
 pub returns-in_err-write_curve : goal.returns-in_err-write_curve

@@ -1,13 +1,6 @@
-use Rattle.std.proofs.Common.{List, [], ◌∷◌, ◌++◌, length, refl, sym, ap, ◌∙◌, append_assoc}
-use Rattle.std.specs.Prelude.{codes, map}
-use Rattle.std.proofs.lemmas.List.{length-map}
-use Rattle.nf_frac_words.specs.Printed.{printed}
-use Rattle.nf_net_def.specs.Report.{for_each}
-use Rattle.nf_load.specs.Loadings.{loaded_of}
-use Rattle.nf_routes_def.specs.RoutesText.{link_curve_lines, route_lines, routed_lines}
-use Rattle.nf_routes.specs.Carried.{with_kept_entries}
-use Rattle.nf_report_pages.specs.Written.{Line}
-use Rattle.nf_report_pages.proofs.Written.{wrote_next, wrote_failed, wrote_then_failed, same_lines}
+use Rattle.std.proofs.Common.{List, [], ◌∷◌, ◌++◌, length, refl, sym, ap, ◌∙◌, append_assoc, codes, map}
+use Rattle.nf_app_answers.proofs.Common.{length-map, printed, for_each, loaded_of, link_curve_lines, route_lines, routed_lines, with_kept_entries, Line}
+use Rattle.nf_app_answers.proofs.Common.{wrote_next, wrote_failed, wrote_then_failed, same_lines}
 use Rattle.nf_app_answers.proofs.RouteLines.{links_told}
 use Rattle.nf_app_answers.proofs.routes_text.write_routed.Goals as goal
 

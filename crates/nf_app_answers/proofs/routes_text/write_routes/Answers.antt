@@ -1,16 +1,8 @@
-use Rattle.std.proofs.Common.{◌≡◌, ℕ, List, [], ◌+◌, ◌<◌, ◌++◌, take, drop, suc, length, ◌∙◌, arith}
-use Rattle.std.specs.Prelude.{flat_map, codes}
-use Rattle.std.specs.List.{range_with_len}
+use Rattle.std.proofs.Common.{◌≡◌, ℕ, List, [], ◌+◌, ◌<◌, ◌++◌, take, drop, suc, length, ◌∙◌, arith, flat_map, codes}
+use Rattle.nf_app_answers.proofs.Common.{range_with_len, Name, name_at, for_each, point_lines, Routed, arrival_at, travel_at, route_lines}
+use Rattle.nf_app_answers.proofs.Common.{with_kept_entries, each_next, each_left, each_all, points_there, wrote_next, wrote_then_failed, same_lines}
 use Rattle.nf_model.specs.Curve.{Point}
-use Rattle.nf_net_def.specs.Names.{Name, name_at}
-use Rattle.nf_net_def.specs.Report.{for_each, point_lines}
 use Rattle.nf_routes_def.specs.RoutesFile.{NamedRoute, route_names}
-use Rattle.nf_routes_def.specs.RoutesList.{Routed}
-use Rattle.nf_routes_def.specs.Meanings.{arrival_at, travel_at}
-use Rattle.nf_routes_def.specs.RoutesText.{route_lines}
-use Rattle.nf_routes.specs.Carried.{with_kept_entries}
-use Rattle.nf_report_pages.proofs.Parts.{each_next, each_left, each_all, points_there}
-use Rattle.nf_report_pages.proofs.Written.{wrote_next, wrote_then_failed, same_lines}
 use Rattle.nf_app_answers.proofs.routes_text.write_routes.Goals as goal
 
 same_route : (routes : List NamedRoute) (routed : Routed) (i : ℕ) (name : Name) (arrival travel : List Point) → name ≡ name_at (route_names routes) i

@@ -1,11 +1,5 @@
-use Rattle.std.proofs.Common.{[], take, length}
-use Rattle.std.specs.Prelude.{Ok, flat_map}
-use Rattle.std.specs.List.{range_with_len}
-use Rattle.nf_edge.specs.declared.SinkFault.{SinkFault}
-use Rattle.nf_edge.specs.Writing.{state_of}
-use Rattle.nf_routes_def.specs.RoutesText.{route_lines}
-use Rattle.nf_report_pages.specs.Written.{WroteLines}
-use Rattle.nf_routes.specs.Carried.{with_kept_entries}
+use Rattle.std.proofs.Common.{[], take, length, Ok, flat_map}
+use Rattle.nf_app_answers.proofs.Common.{range_with_len, SinkFault, state_of, route_lines, WroteLines, with_kept_entries}
 use Rattle.nf_app_answers.proofs.routes_text.write_routes.Given as goal
 
 -- the curves of the routes before this one

@@ -1,16 +1,8 @@
-use Rattle.std.proofs.Common.{◌≡◌, ℕ, List, [], ◌∷◌, ◌+◌, ◌<◌, take, drop, suc, length, refl, sym, ap, arith}
-use Rattle.std.specs.Prelude.{flat_map, codes, slice_get, unwrap_or, Some, Option}
-use Rattle.std.specs.List.{range_with_len}
-use Rattle.std.proofs.lemmas.Option.{slice_get_read}
-use Rattle.nf_rational.specs.Rational.{ℚ}
+use Rattle.std.proofs.Common.{◌≡◌, ℕ, List, [], ◌∷◌, ◌+◌, ◌<◌, take, drop, suc, length, refl, sym, ap, arith, flat_map, codes, slice_get, unwrap_or, Some}
+use Rattle.std.proofs.Common.{Option}
+use Rattle.nf_app_answers.proofs.Common.{range_with_len, slice_get_read, ℚ, printed, name_at, Named, for_each, flow_line, each_next, each_left, each_all}
+use Rattle.nf_app_answers.proofs.Common.{gathered_nil, gathered_next, gathered_then_failed, same_gathered}
 use Rattle.nf_rational.specs.Operations.{0ℚ}
-use Rattle.nf_frac_words.specs.Printed.{printed}
-use Rattle.nf_net_def.specs.Names.{name_at}
-use Rattle.nf_net_def.specs.Named.{Named}
-use Rattle.nf_net_def.specs.Report.{for_each}
-use Rattle.nf_complete_def.specs.SettleText.{flow_line}
-use Rattle.nf_report_pages.proofs.Parts.{each_next, each_left, each_all}
-use Rattle.nf_report_pages.proofs.Gathering.{gathered_nil, gathered_next, gathered_then_failed, same_gathered}
 use Rattle.nf_app_answers.proofs.settle_text.put_flows.Goals as goal
 
 line_is : (n : Named) (flows : List ℚ) (e : ℕ) (x : ℚ) → slice_get flows e ≡ Some x → (codes "flow" ∷ name_at n.link_names e ∷ printed x ∷ []) ∷ [] ≡ flow_line n flows e

@@ -1,9 +1,5 @@
-use Rattle.std.proofs.Common.{take, length}
-use Rattle.std.specs.Prelude.{Ok, flat_map}
-use Rattle.std.specs.List.{range_with_len}
-use Rattle.nf_edge.specs.declared.SinkFault.{SinkFault}
-use Rattle.nf_edge.specs.Writing.{state_of}
-use Rattle.nf_complete_def.specs.SettleText.{flow_line}
+use Rattle.std.proofs.Common.{take, length, Ok, flat_map}
+use Rattle.nf_app_answers.proofs.Common.{range_with_len, SinkFault, state_of, flow_line}
 use Rattle.nf_report_pages.specs.Pages.{GatheredLines}
 use Rattle.nf_app_answers.proofs.settle_text.put_flows.Given as goal
 

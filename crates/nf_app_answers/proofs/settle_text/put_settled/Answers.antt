@@ -1,9 +1,6 @@
-use Rattle.std.proofs.Common.{List, [], ◌∷◌, ◌++◌, length, ap, refl, sym, append_assoc}
-use Rattle.std.specs.Prelude.{codes}
-use Rattle.nf_rational.specs.Rational.{ℚ}
-use Rattle.nf_net_def.specs.Report.{for_each, state_lines}
-use Rattle.nf_complete_def.specs.SettleText.{flow_line, settled_lines}
-use Rattle.nf_report_pages.proofs.Gathering.{gathered_next, gathered_failed, gathered_then_failed, same_gathered}
+use Rattle.std.proofs.Common.{List, [], ◌∷◌, ◌++◌, length, ap, refl, sym, append_assoc, codes}
+use Rattle.nf_app_answers.proofs.Common.{ℚ, for_each, state_lines, flow_line, settled_lines, gathered_next, gathered_failed, gathered_then_failed}
+use Rattle.nf_app_answers.proofs.Common.{same_gathered}
 use Rattle.nf_app_answers.proofs.settle_text.put_settled.Goals as goal
 
 pub returns-in_err-put_states : goal.returns-in_err-put_states

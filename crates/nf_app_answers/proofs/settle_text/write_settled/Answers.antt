@@ -1,4 +1,4 @@
-use Rattle.nf_report_pages.proofs.Gathering.{gathered_written, gathered_refused}
+use Rattle.nf_app_answers.proofs.Common.{gathered_written, gathered_refused}
 use Rattle.nf_app_answers.proofs.settle_text.write_settled.Goals as goal
 
 pub returns-in_err-put_settled : goal.returns-in_err-put_settled

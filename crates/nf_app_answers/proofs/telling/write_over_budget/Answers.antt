@@ -1,6 +1,5 @@
-use Rattle.std.proofs.Common.{[], ◌++◌, ◌∙◌}
-use Rattle.std.specs.Prelude.{codes}
-use Rattle.nf_frac_words.specs.Digits.{digits_of}
+use Rattle.std.proofs.Common.{[], ◌++◌, ◌∙◌, codes}
+use Rattle.nf_app_answers.proofs.Common.{digits_of}
 use Rattle.nf_app_answers.proofs.ErrorTexts.{augments_pieces, same_text}
 use Rattle.nf_app_answers.proofs.telling.write_over_budget.Goals as goal
 

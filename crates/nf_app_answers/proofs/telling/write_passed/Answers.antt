@@ -1,8 +1,5 @@
-use Rattle.std.proofs.Common.{[], ◌∷◌}
-use Rattle.std.specs.Prelude.{codes, flat_map, None}
-use Rattle.nf_text_def.specs.Words.{line_of_words}
-use Rattle.nf_net_def.specs.Causes.{passed_words}
-use Rattle.nf_report_pages.proofs.Written.{wrote_both, wrote_front}
+use Rattle.std.proofs.Common.{[], ◌∷◌, codes, flat_map, None}
+use Rattle.nf_app_answers.proofs.Common.{line_of_words, passed_words, wrote_both, wrote_front}
 use Rattle.nf_app_answers.proofs.ErrorTexts.{stopped_pieces}
 use Rattle.nf_app_answers.proofs.telling.write_passed.Goals as goal
 

@@ -1,7 +1,6 @@
-use Rattle.std.proofs.Common.{List, ℕ, sym, ap, ◌∙◌}
-use Rattle.std.specs.Prelude.{codes}
+use Rattle.std.proofs.Common.{List, ℕ, sym, ap, ◌∙◌, codes}
+use Rattle.nf_app_answers.proofs.Common.{broken_line}
 use Rattle.nf_app_answers.specs.declared.refusal.Refusal.{Refusal}
-use Rattle.nf_app_answers.specs.ErrorLines.{broken_line}
 use Rattle.nf_app_answers.specs.Answers.{err_text}
 use Rattle.nf_app_answers.specs.Refusals.{refused_answer}
 use Rattle.nf_app_answers.proofs.ErrorTexts.{same_text}

@@ -1,8 +1,5 @@
-use Rattle.std.proofs.Common.{◌≡◌, drop, suc, length, refl, arith}
-use Rattle.std.specs.Prelude.{flat_map}
-use Rattle.std.proofs.lemmas.Option.{slice_get-get_or}
-use Rattle.nf_report_pages.proofs.Parts.{next_part, parts_left, all_parts}
-use Rattle.nf_report_pages.proofs.Written.{wrote_both, wrote_front}
+use Rattle.std.proofs.Common.{◌≡◌, drop, suc, length, refl, arith, flat_map}
+use Rattle.nf_app_answers.proofs.Common.{slice_get-get_or, next_part, parts_left, all_parts, wrote_both, wrote_front}
 use Rattle.nf_app_answers.proofs.ErrorTexts.{same_text}
 use Rattle.nf_app_answers.proofs.telling.write_texts.Goals as goal
 

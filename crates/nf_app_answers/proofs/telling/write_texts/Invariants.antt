@@ -1,7 +1,5 @@
-use Rattle.std.proofs.Common.{take}
-use Rattle.std.specs.Prelude.{Ok, flat_map}
-use Rattle.nf_edge.specs.Writing.{state_of, Wrote}
-use Rattle.nf_edge.specs.declared.SinkFault.{SinkFault}
+use Rattle.std.proofs.Common.{take, Ok, flat_map}
+use Rattle.nf_app_answers.proofs.Common.{state_of, Wrote, SinkFault}
 use Rattle.nf_app_answers.proofs.telling.write_texts.Given as goal
 
 abbrev pub invariant-loop-text : goal.invariant-loop-text

@@ -1,4 +1,4 @@
-use Rattle.std.proofs.lemmas.Result.{IfOk-from_err}
+use Rattle.nf_app_answers.proofs.Common.{IfOk-from_err}
 use Rattle.nf_app_answers.proofs.walks_text.augments_text.Goals as goal
 
 pub returns-in_err-put_augments : goal.returns-in_err-put_augments

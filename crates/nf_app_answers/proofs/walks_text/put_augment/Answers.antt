@@ -1,9 +1,5 @@
-use Rattle.std.proofs.Common.{◌++◌, map, ap, ◌∙◌}
-use Rattle.std.specs.Prelude.{codes}
-use Rattle.std.proofs.lemmas.Result.{IfOk-from_err}
-use Rattle.nf_frac_words.specs.Printed.{printed}
-use Rattle.nf_quick_def.specs.Quick.{Augment}
-use Rattle.nf_app_answers.specs.QuickText.{step_word, augment_line}
+use Rattle.std.proofs.Common.{◌++◌, map, ap, ◌∙◌, codes}
+use Rattle.nf_app_answers.proofs.Common.{IfOk-from_err, printed, Augment, step_word, augment_line}
 use Rattle.nf_app_answers.proofs.QuickLines.{line_put}
 use Rattle.nf_app_answers.proofs.walks_text.put_augment.Goals as goal
 

@@ -1,6 +1,5 @@
 use Rattle.std.proofs.Common.{◌≡◌, ◌++◌, drop}
-use Rattle.std.specs.List.{flat_map}
-use Rattle.nf_app_answers.specs.QuickText.{augment_line}
+use Rattle.nf_app_answers.proofs.Common.{flat_map, augment_line}
 use Rattle.nf_app_answers.proofs.walks_text.put_augments.Given as goal
 
 abbrev pub invariant-loop-walk : goal.invariant-loop-walk

@@ -1,6 +1,5 @@
 use Rattle.std.proofs.Common.{◌≡◌, ◌++◌, drop, map}
-use Rattle.nf_report_pages.specs.Written.{after_words}
-use Rattle.nf_app_answers.specs.QuickText.{step_word}
+use Rattle.nf_app_answers.proofs.Common.{after_words, step_word}
 use Rattle.nf_app_answers.proofs.walks_text.put_steps.Given as goal
 
 abbrev pub invariant-loop-step : goal.invariant-loop-step

@@ -3,7 +3,7 @@ use Rattle.std.specs.Prelude.{map}
 use Rattle.std.specs.Option.{option_copied}
 use Rattle.nf_net_def.specs.Report.{Report, report_text}
 use Rattle.nf_curve.specs.Flows.{seen_flow}
-use Rattle.nf_app_answers.specs.Solution.{report_in}
+use Rattle.nf_app_answers.specs.Solution.{solution_report}
 use Rattle.nf_report_def.specs.Texts.{load_text}
 use Rattle.nf_load.specs.declared.loading.Loaded as code
 use Rattle.nf_load.specs.Loadings.{loaded_of}
@@ -26,7 +26,7 @@ pub returns-in-Solved : goal.returns-in-Solved
 returns-in-Solved g c =
     let s = c.in-Solved.solution in
     let written : Report = record { horizon = c.in-Solved.horizon; flow = seen_flow s.flow; stop = option_copied c.as_ref.result; last = s.last } in
-    let same : written ≡ report_in c.in-Solved.horizon s = cc (c.as_ref.ensures.value) in
+    let same : written ≡ solution_report c.in-Solved.horizon s = cc (c.as_ref.ensures.value) in
     same_text (report_text c.args.net.now written) (text_with c.args.net.now c.args.found.now)
     (ap (λ (r : Report). report_text c.args.net.now r) same ∙ sym (ap (text_with c.args.net.now) c.in-Solved.is))
     c.write_report.ensures.wrote
@@ -47,7 +47,7 @@ pub returns-in-Generated : goal.returns-in-Generated
 returns-in-Generated g c =
     let ladder = c.in-Generated.ladder in
     let s = c.in-Generated.solution in
-    same_text (gen_text ladder.number ladder.rungs c.args.net.now s.phases (report_in c.in-Generated.horizon s)) (text_with c.args.net.now c.args.found.now)
+    same_text (gen_text ladder.number ladder.rungs c.args.net.now s.phases (solution_report c.in-Generated.horizon s)) (text_with c.args.net.now c.args.found.now)
     (sym (ap (text_with c.args.net.now) c.in-Generated.is))
     (c.write_summary.ensures.text c.in-Generated.horizon (subst (λ (f : Computed). HasTextWith c.args.net.now f) c.in-Generated.is c.requires))
 

@@ -1,7 +1,6 @@
 use Rattle.std.proofs.Common.{◌≡◌, ◌∙◌, ap, ap₂, codes, map, refl, rules}
-use Rattle.std.proofs.lemmas.Result.{IfOk-weaker}
-use Rattle.clap.specs.Simple.{App, with_rule}
-use Rattle.nf_app_words.specs.CommandLine.{bare, nfot, command_rule, files_rule, flag_rule, options, with_options}
+use Rattle.nf_app_words.proofs.Common.{IfOk-weaker, App, with_rule, command_rule, files_rule, flag_rule, options, with_options}
+use Rattle.nf_app_words.specs.CommandLine.{bare, nfot}
 use Rattle.nf_app_words.proofs.command_line.command_line.Goals as goal
 
 abbrev with_all : App → App

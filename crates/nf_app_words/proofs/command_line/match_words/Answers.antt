@@ -1,8 +1,5 @@
 use Rattle.std.proofs.Common.{◌≡◌, ◌∙◌, ap, refl}
-use Rattle.clap.specs.Simple.{app_of}
-use Rattle.clap.specs.Faults.{is_simple_and_free}
-use Rattle.nf_edge.specs.Names.{texts}
-use Rattle.nf_app_words.specs.CommandLine.{nfot}
+use Rattle.nf_app_words.proofs.Common.{app_of, is_simple_and_free, texts, nfot}
 use Rattle.nf_app_words.specs.MatchViews.{app_in}
 use Rattle.nf_app_words.proofs.Taken.{free, matched, not_matched}
 use Rattle.nf_app_words.proofs.command_line.match_words.Goals as goal

@@ -1,8 +1,6 @@
 use Rattle.std.proofs.Common.{◌≡◌, ◌∙◌, ap, ap₂, rules, true}
-use Rattle.std.proofs.lemmas.Result.{IfOk-weaker}
-use Rattle.clap.specs.Walk.{rule_of}
-use Rattle.clap.specs.Simple.{Shape, app_of, app_of_fields, on_top, with_rule}
-use Rattle.nf_app_words.specs.CommandLine.{bare, command_rule}
+use Rattle.nf_app_words.proofs.Common.{IfOk-weaker, rule_of, Shape, app_of, app_of_fields, on_top, with_rule, command_rule}
+use Rattle.nf_app_words.specs.CommandLine.{bare}
 use Rattle.nf_app_words.specs.MatchViews.{app_in}
 use Rattle.nf_app_words.proofs.command_line.start_command.Goals as goal
 

@@ -1,11 +1,6 @@
-use Rattle.std.proofs.Common.{◌≡◌, ◌∙◌, ap, ap₂, rules}
-use Rattle.std.specs.Prelude.{Option, Some, None, IsSomeAnd}
-use Rattle.std.proofs.lemmas.Result.{IfOk-weaker}
-use Rattle.clap.specs.Lexer.{usize_max}
-use Rattle.clap.specs.Walk.{Rule, rule_of}
-use Rattle.clap.specs.Simple.{app_of, with_rule}
+use Rattle.std.proofs.Common.{◌≡◌, ◌∙◌, ap, ap₂, rules, Option, Some, None, IsSomeAnd}
+use Rattle.nf_app_words.proofs.Common.{IfOk-weaker, usize_max, Rule, rule_of, app_of, with_rule, files_rule}
 use Rattle.clap.specs.declared.builder.range.ValueRange.{ValueRange}
-use Rattle.nf_app_words.specs.CommandLine.{files_rule}
 use Rattle.nf_app_words.specs.MatchViews.{app_in}
 use Rattle.nf_app_words.proofs.command_line.with_files.Goals as goal
 

@@ -1,8 +1,5 @@
 use Rattle.std.proofs.Common.{◌≡◌, ◌∙◌, ap, rules}
-use Rattle.std.proofs.lemmas.Result.{IfOk-weaker}
-use Rattle.clap.specs.Walk.{rule_of}
-use Rattle.clap.specs.Simple.{app_of, with_rule}
-use Rattle.nf_app_words.specs.CommandLine.{flag_rule}
+use Rattle.nf_app_words.proofs.Common.{IfOk-weaker, rule_of, app_of, with_rule, flag_rule}
 use Rattle.nf_app_words.specs.MatchViews.{app_in}
 use Rattle.nf_app_words.proofs.command_line.with_flag.Goals as goal
 

@@ -1,9 +1,5 @@
 use Rattle.std.proofs.Common.{◌≡◌, ◌∙◌, ◌+◌, List, [], drop, map, slice_index_or, refl, sym, ap, rules}
-use Rattle.std.specs.Borrow.{Bor}
-use Rattle.std.proofs.lemmas.List.{at_drop_all, at_drop_more}
-use Rattle.clap.specs.Walk.{Text, rule_of}
-use Rattle.clap.specs.Simple.{app_of, with_rule}
-use Rattle.nf_app_words.specs.CommandLine.{option_rule, with_options}
+use Rattle.nf_app_words.proofs.Common.{Bor, at_drop_all, at_drop_more, Text, rule_of, app_of, with_rule, option_rule, with_options}
 use Rattle.nf_app_words.specs.MatchViews.{app_in}
 use Rattle.nf_app_words.proofs.command_line.with_options.Goals as goal
 

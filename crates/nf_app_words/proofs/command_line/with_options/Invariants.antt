@@ -1,6 +1,5 @@
 use Rattle.std.proofs.Common.{◌≡◌, drop, map}
-use Rattle.nf_app_words.specs.CommandLine.{with_options}
-use Rattle.nf_app_words.specs.MatchViews.{app_in}
+use Rattle.nf_app_words.proofs.Common.{with_options, app_in}
 use Rattle.nf_app_words.proofs.command_line.with_options.Given as goal
 
 abbrev pub invariant-loop-name : goal.invariant-loop-name

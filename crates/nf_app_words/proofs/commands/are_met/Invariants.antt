@@ -1,5 +1,5 @@
 use Rattle.std.proofs.Common.{◌≡◌, drop}
-use Rattle.nf_app_words.specs.MatchViews.{rows_in}
+use Rattle.nf_app_words.proofs.Common.{rows_in}
 use Rattle.nf_app_words.proofs.Table.{all_met}
 use Rattle.nf_app_words.proofs.commands.are_met.Given as goal
 

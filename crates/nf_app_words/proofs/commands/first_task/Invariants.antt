@@ -1,5 +1,5 @@
 use Rattle.std.proofs.Common.{◌≡◌, drop}
-use Rattle.nf_app_words.specs.MatchViews.{rows_in}
+use Rattle.nf_app_words.proofs.Common.{rows_in}
 use Rattle.nf_app_words.proofs.Table.{task_of}
 use Rattle.nf_app_words.proofs.commands.first_task.Given as goal
 

@@ -1,7 +1,5 @@
 use Rattle.std.proofs.Common.{◌≡◌, ◌∙◌, ap, map, rules}
-use Rattle.nf_app_words.specs.CommandLine.{options}
-use Rattle.nf_app_words.specs.Commands.{are_met}
-use Rattle.nf_app_words.specs.MatchViews.{rows_in, wanted_of}
+use Rattle.nf_app_words.proofs.Common.{options, are_met, rows_in, wanted_of}
 use Rattle.nf_app_words.proofs.commands.options_met.Goals as goal
 
 pub returns : goal.returns

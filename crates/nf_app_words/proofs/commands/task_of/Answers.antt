@@ -1,6 +1,6 @@
 use Rattle.std.proofs.Common.{◌≡◌, ◌∙◌, ap, map, rules}
-use Rattle.nf_app_words.specs.Commands.{commands, first_task}
-use Rattle.nf_app_words.specs.MatchViews.{line_of, rows_in}
+use Rattle.nf_app_words.proofs.Common.{first_task, line_of, rows_in}
+use Rattle.nf_app_words.specs.Commands.{commands}
 use Rattle.nf_app_words.proofs.commands.task_of.Goals as goal
 
 pub returns : goal.returns

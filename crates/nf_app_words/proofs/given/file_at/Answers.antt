@@ -1,6 +1,5 @@
 use Rattle.std.proofs.Common.{ap, sym, refl, length}
-use Rattle.std.proofs.lemmas.Option.{slice_get_read, slice_get_past}
-use Rattle.nf_app_words.specs.MatchViews.{text_in}
+use Rattle.nf_app_words.proofs.Common.{slice_get_read, slice_get_past, text_in}
 use Rattle.nf_app_words.proofs.given.file_at.Goals as goal
 
 pub returns-in-Some : goal.returns-in-Some

@@ -1,8 +1,5 @@
-use Rattle.std.proofs.Common.{◌∙◌, ap, false}
-use Rattle.std.specs.Prelude.{Option}
-use Rattle.std.specs.Option.{option_map_or}
-use Rattle.std.specs.Str.{bytes_eq}
-use Rattle.clap.specs.Walk.{Text}
+use Rattle.std.proofs.Common.{◌∙◌, ap, false, Option}
+use Rattle.nf_app_words.proofs.Common.{option_map_or, bytes_eq, Text}
 use Rattle.nf_app_words.specs.Commands.{is_named}
 use Rattle.nf_app_words.proofs.given.is_named.Goals as goal
 

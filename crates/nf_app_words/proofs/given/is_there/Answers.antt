@@ -1,9 +1,6 @@
-use Rattle.std.proofs.Common.{◌≡◌, ◌∙◌, ap, refl}
-use Rattle.std.specs.Prelude.{Option, Some, None, is_some}
-use Rattle.std.specs.Borrow.{Bor}
-use Rattle.clap.specs.Walk.{Text}
+use Rattle.std.proofs.Common.{◌≡◌, ◌∙◌, ap, refl, Option, Some, None, is_some}
+use Rattle.nf_app_words.proofs.Common.{Bor, Text, text_in}
 use Rattle.nf_app_words.specs.Commands.{is_there}
-use Rattle.nf_app_words.specs.MatchViews.{text_in}
 use Rattle.nf_app_words.proofs.given.is_there.Goals as goal
 
 same_there : (word : Option (Bor Text)) → is_some word ≡ is_some (text_in word)

@@ -1,6 +1,5 @@
 use Rattle.std.proofs.Common.{◌∙◌}
-use Rattle.clap.specs.Matches.{found_of}
-use Rattle.clap.proofs.WalkLemmas.{first_value-rows}
+use Rattle.nf_app_words.proofs.Common.{found_of, first_value-rows}
 use Rattle.nf_app_words.specs.CommandLine.{word_in}
 use Rattle.nf_app_words.specs.MatchViews.{rows_in}
 use Rattle.nf_app_words.proofs.given.word_of.Goals as goal

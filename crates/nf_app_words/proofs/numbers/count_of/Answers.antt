@@ -1,6 +1,5 @@
-use Rattle.std.proofs.Common.{◌∙◌, ap, refl, sym}
-use Rattle.std.specs.Prelude.{option_and_then}
-use Rattle.nf_app_words.specs.Numbers.{count_between}
+use Rattle.std.proofs.Common.{◌∙◌, ap, refl, sym, option_and_then}
+use Rattle.nf_app_words.proofs.Common.{count_between}
 use Rattle.nf_app_words.proofs.numbers.count_of.Goals as goal
 
 pub returns-in_err-word-clause-value : goal.returns-in_err-word-clause-value

@@ -1,5 +1,5 @@
 use Rattle.std.proofs.Common.{◌≡◌, ◌∙◌, ap, sym, true}
-use Rattle.nf_app_words.specs.Numbers.{is_whole}
+use Rattle.nf_app_words.proofs.Common.{is_whole}
 use Rattle.nf_app_words.proofs.Counts.{not_whole, count_read, not_between, too_wide}
 use Rattle.nf_app_words.proofs.numbers.read_count.Goals as goal
 

@@ -1,5 +1,5 @@
 use Rattle.std.proofs.Common.{refl, sym}
-use Rattle.nf_app_words.specs.Requests.{gen_request}
+use Rattle.nf_app_words.proofs.Common.{gen_request}
 use Rattle.nf_app_words.proofs.Asked.{same_5}
 use Rattle.nf_app_words.proofs.request.generate.Goals as goal
 

@@ -1,8 +1,5 @@
-use Rattle.std.proofs.Common.{◌∙◌, ap, sym}
-use Rattle.std.specs.Prelude.{option_and_then}
-use Rattle.nf_app_words.specs.declared.commands.Task.{Task}
-use Rattle.nf_app_words.specs.MatchViews.{rows_in}
-use Rattle.nf_app_words.specs.Requests.{asked}
+use Rattle.std.proofs.Common.{◌∙◌, ap, sym, option_and_then}
+use Rattle.nf_app_words.proofs.Common.{Task, rows_in, asked}
 use Rattle.nf_app_words.proofs.request.request_of.Goals as goal
 
 pub returns-in-Solve : goal.returns-in-Solve

@@ -1,5 +1,5 @@
 use Rattle.std.proofs.Common.{refl, sym}
-use Rattle.nf_app_words.specs.Requests.{resume_request}
+use Rattle.nf_app_words.proofs.Common.{resume_request}
 use Rattle.nf_app_words.proofs.Asked.{same_5}
 use Rattle.nf_app_words.proofs.request.resume.Goals as goal
 

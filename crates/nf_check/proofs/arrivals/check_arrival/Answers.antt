@@ -1,17 +1,7 @@
-use Rattle.std.proofs.lemmas.Result.{err_from_is_err_and}
-use Rattle.std.proofs.Common.{List, Some, sym, ap, ◌∙◌}
-use Rattle.std.specs.Prelude.{Option, Ok, option_map}
-use Rattle.nf_frac_def.specs.Passing.{passes_Q}
-use Rattle.nf_frac_def.specs.declared.Part.TheVariants.{Check}
-use Rattle.nf_model.specs.Curve.{Point}
-use Rattle.nf_curve.specs.Points.{Grown}
-use Rattle.nf_check_def.specs.declared.CheckRule.TheVariants.{C3}
-use Rattle.nf_check_def.specs.declared.Subject.TheVariants.{Node}
+use Rattle.std.proofs.Common.{List, Some, sym, ap, ◌∙◌, Option, Ok, option_map}
+use Rattle.nf_check.proofs.Common.{err_from_is_err_and, passes_Q, Check, Point, Grown, C3, Node, arrivals, labels_in, loaded_in, in_view, compared_by}
+use Rattle.nf_check.proofs.Common.{part_goes, part_stops, tries_as}
 use Rattle.nf_check_def.specs.Curves.{least_exits}
-use Rattle.nf_check_def.specs.CheckList.{arrivals}
-use Rattle.nf_check_rules.specs.Views.{labels_in, loaded_in, in_view}
-use Rattle.nf_check_rules.specs.Steps.{compared_by}
-use Rattle.nf_check_rules.proofs.Trying.{part_goes, part_stops, tries_as}
 use Rattle.nf_check.proofs.arrivals.check_arrival.Goals as goal
 
 pub least_exits-requires : goal.least_exits-requires

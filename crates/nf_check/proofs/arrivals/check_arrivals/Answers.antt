@@ -1,13 +1,6 @@
-use Rattle.std.proofs.lemmas.Result.{err_from_is_err_and}
 use Rattle.std.proofs.Common.{ap, ◌∙◌}
-use Rattle.nf_model.specs.Equilibrium.{points_at}
-use Rattle.nf_frac_def.specs.Passing.{passes_Q}
-use Rattle.nf_check_def.specs.declared.CheckRule.TheVariants.{C3}
-use Rattle.nf_check_def.specs.declared.Subject.TheVariants.{Node}
-use Rattle.nf_check_rules.specs.Views.{flow_in, labels_in, loaded_in, in_view}
-use Rattle.nf_check_rules.specs.Steps.{compared_by, arrivals_list}
-use Rattle.nf_check_rules.proofs.Trying.{ends, ends_as, goes_on, tries_as}
-use Rattle.nf_check_rules.proofs.Testing.{arrivals-is}
+use Rattle.nf_check.proofs.Common.{err_from_is_err_and, points_at, passes_Q, C3, Node, flow_in, labels_in, loaded_in, in_view, compared_by, arrivals_list}
+use Rattle.nf_check.proofs.Common.{ends, ends_as, goes_on, tries_as, arrivals-is}
 use Rattle.nf_check.proofs.arrivals.check_arrivals.Goals as goal
 
 pub returns-in_err-compare-clause-tries : goal.returns-in_err-compare-clause-tries

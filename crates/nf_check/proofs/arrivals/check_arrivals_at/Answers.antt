@@ -1,8 +1,5 @@
 use Rattle.std.proofs.Common.{◌<◌, sym, ◌∙◌, arith}
-use Rattle.std.proofs.lemmas.Result.{err_from_is_err_and}
-use Rattle.nf_check_def.specs.CheckList.{arrivals}
-use Rattle.nf_check_rules.specs.Views.{in_view}
-use Rattle.nf_check_rules.proofs.Looping.{but_ends, but_goes, but_skips, is_other, is_one}
+use Rattle.nf_check.proofs.Common.{err_from_is_err_and, arrivals, in_view, but_ends, but_goes, but_skips, is_other, is_one}
 use Rattle.nf_check.proofs.arrivals.check_arrivals_at.Goals.{then-ne+in_ok-check_arrival, else-ne}
 use Rattle.nf_check.proofs.arrivals.check_arrivals_at.Goals as goal
 

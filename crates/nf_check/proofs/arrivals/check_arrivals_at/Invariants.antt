@@ -1,7 +1,5 @@
-use Rattle.nf_check_def.specs.CheckList.{arrivals}
+use Rattle.nf_check.proofs.Common.{arrivals, in_view, LeftBut}
 use Rattle.nf_check_rules.specs.Exits.{AreStored}
-use Rattle.nf_check_rules.specs.Views.{in_view}
-use Rattle.nf_check_rules.proofs.Looping.{LeftBut}
 use Rattle.nf_check.proofs.arrivals.check_arrivals_at.Given as goal
 
 abbrev pub invariant-loop-number : goal.invariant-loop-number

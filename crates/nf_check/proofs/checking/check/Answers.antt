@@ -1,5 +1,4 @@
-use Rattle.nf_frac_def.specs.Passing.{passes_Q}
-use Rattle.nf_curve.specs.Flows.{seen_flow}
+use Rattle.nf_check.proofs.Common.{passes_Q, seen_flow}
 use Rattle.nf_check.proofs.Answering.{by_list, rules_answer, is_exact, given_by}
 use Rattle.nf_check.proofs.checking.check.Goals as goal
 

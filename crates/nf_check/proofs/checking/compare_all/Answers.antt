@@ -1,9 +1,7 @@
-use Rattle.std.proofs.lemmas.Result.{err_from_is_err_and}
 use Rattle.std.proofs.Common.{◌∙◌, rules}
-use Rattle.nf_check_rules.specs.Views.{in_view}
-use Rattle.nf_check_rules.specs.Steps.{arrivals_list, told_list, balances_list, compared_list}
+use Rattle.nf_check.proofs.Common.{err_from_is_err_and, in_view, arrivals_list, told_list, balances_list, goes_on, ends, ends_as, tries_as}
+use Rattle.nf_check_rules.specs.Steps.{compared_list}
 use Rattle.nf_check_rules.proofs.Keeping.{none_kept}
-use Rattle.nf_check_rules.proofs.Trying.{goes_on, ends, ends_as, tries_as}
 use Rattle.nf_check.proofs.checking.compare_all.Goals as goal
 
 pub check_arrivals-requires : goal.check_arrivals-requires

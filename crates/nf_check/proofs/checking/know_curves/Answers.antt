@@ -1,5 +1,4 @@
-use Rattle.nf_model.specs.Curve.{IsCurve}
-use Rattle.nf_check_rules.proofs.ByNumber.{next_curve}
+use Rattle.nf_check.proofs.Common.{IsCurve, next_curve}
 use Rattle.nf_check.proofs.checking.know_curves.Goals as goal
 
 pub loop-curve-preserved : goal.loop-curve-preserved

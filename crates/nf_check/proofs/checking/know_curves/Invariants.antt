@@ -1,7 +1,5 @@
 use Rattle.std.proofs.Common.{ℕ, ◌<◌}
-use Rattle.nf_model.specs.Curve.{IsCurve}
-use Rattle.nf_model.specs.Equilibrium.{points_at}
-use Rattle.nf_check_rules.specs.Kept.{points_of_each}
+use Rattle.nf_check.proofs.Common.{IsCurve, points_at, points_of_each}
 use Rattle.nf_check.proofs.checking.know_curves.Given as goal
 
 abbrev pub invariant-loop-curve : goal.invariant-loop-curve

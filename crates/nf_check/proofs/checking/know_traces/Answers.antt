@@ -1,4 +1,4 @@
-use Rattle.nf_check_rules.proofs.ByNumber.{next_trace}
+use Rattle.nf_check.proofs.Common.{next_trace}
 use Rattle.nf_check.proofs.checking.know_traces.Goals as goal
 
 pub loop-trace-preserved : goal.loop-trace-preserved

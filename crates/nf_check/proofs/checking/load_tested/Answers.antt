@@ -1,18 +1,10 @@
-use Rattle.std.proofs.lemmas.Result.{err_from_is_err_and}
 use Rattle.std.proofs.Common.{List, Vec, Global, ◌∙◌}
+use Rattle.nf_check.proofs.Common.{err_from_is_err_and, passes_Q, each, seen_flow, Loaded, numbers_of_nodes, numbers_of_links, label_cut, inflow_rule}
+use Rattle.nf_check.proofs.Common.{link_rates, loading, points_of_each, loadings_of, done, goes_on, ends, ends_as, tries_as, tries_map, labels_in_number}
+use Rattle.nf_check.proofs.Common.{inflows_known}
 use Rattle.std.specs.List.{enumerate_from}
-use Rattle.nf_frac_def.specs.Passing.{passes_Q}
-use Rattle.nf_frac_def.specs.Checked.{each}
-use Rattle.nf_curve.specs.Flows.{seen_flow}
 use Rattle.nf_load_def.specs.Loading as lists
-use Rattle.nf_load.specs.declared.loading.Loaded.{Loaded}
-use Rattle.nf_check_def.specs.Rules.{numbers_of_nodes, numbers_of_links}
-use Rattle.nf_check_def.specs.CheckList.{label_cut, inflow_rule, link_rates, loading}
-use Rattle.nf_check_rules.specs.Kept.{points_of_each, loadings_of}
 use Rattle.nf_check_rules.specs.Steps.{worked_list}
-use Rattle.nf_check_rules.specs.Trials.{done}
-use Rattle.nf_check_rules.proofs.Trying.{goes_on, ends, ends_as, tries_as, tries_map}
-use Rattle.nf_check_rules.proofs.Known.{labels_in_number, inflows_known}
 use Rattle.nf_check.proofs.checking.load_tested.Goals as goal
 
 pub load_links-requires-clause-labels : goal.load_links-requires-clause-labels

@@ -1,18 +1,6 @@
-use Rattle.std.proofs.lemmas.Result.{err_from_is_err_and}
-use Rattle.std.proofs.Common.{◌≡◌, List, ap, subst, sym, ◌∙◌}
-use Rattle.std.specs.Prelude.{Ok}
-use Rattle.nf_frac_def.specs.Passing.{passes_Q}
-use Rattle.nf_frac_def.specs.Checked.{each}
-use Rattle.nf_curve.specs.Flows.{seen_flow}
-use Rattle.nf_curve.specs.Points.{Grown}
-use Rattle.nf_check_def.specs.Rules.{numbers_of_nodes}
-use Rattle.nf_check_def.specs.CheckList.{label_cut, trial}
-use Rattle.nf_check_rules.specs.Kept.{points_of_each}
-use Rattle.nf_check_rules.specs.Steps.{worked_list, tested_list}
-use Rattle.nf_check_rules.specs.Trials.{done}
-use Rattle.nf_check_rules.proofs.Trying.{ends, ends_as}
-use Rattle.nf_check_rules.proofs.Testing.{tested-is, labels_end}
-use Rattle.nf_check.specs.Given.{AreWhole}
+use Rattle.std.proofs.Common.{◌≡◌, List, ap, subst, sym, ◌∙◌, Ok}
+use Rattle.nf_check.proofs.Common.{err_from_is_err_and, passes_Q, each, seen_flow, Grown, numbers_of_nodes, label_cut, trial, points_of_each, worked_list}
+use Rattle.nf_check.proofs.Common.{tested_list, done, ends, ends_as, tested-is, labels_end, AreWhole}
 use Rattle.nf_check.proofs.checking.test_all.Goals as goal
 
 pub are_whole-requires : goal.are_whole-requires

@@ -1,15 +1,7 @@
-use Rattle.std.proofs.lemmas.Result.{err_from_is_err_and}
 use Rattle.std.proofs.Common.{List, length, sym, ap, ◌∙◌}
-use Rattle.nf_frac_def.specs.Passing.{passes_Q}
-use Rattle.nf_curve.specs.Flows.{seen_flow}
-use Rattle.nf_load.specs.declared.loading.Loaded.{Loaded}
-use Rattle.nf_check_def.specs.CheckList.{trial}
-use Rattle.nf_check_rules.specs.Kept.{points_of_each, loadings_of}
-use Rattle.nf_check_rules.specs.Steps.{worked_list, compared_list, tested_list}
-use Rattle.nf_check_rules.specs.Trials.{done}
-use Rattle.nf_check_rules.proofs.Known.{worked_known}
-use Rattle.nf_check_rules.proofs.Trying.{goes_on, ends, ends_as, tries_as}
-use Rattle.nf_check_rules.proofs.Testing.{tested-is}
+use Rattle.nf_check.proofs.Common.{err_from_is_err_and, passes_Q, seen_flow, Loaded, trial, points_of_each, loadings_of, worked_list, compared_list, done}
+use Rattle.nf_check.proofs.Common.{worked_known, goes_on, ends, ends_as, tries_as, tested-is}
+use Rattle.nf_check_rules.specs.Steps.{tested_list}
 use Rattle.nf_check.proofs.checking.test_with.Goals as goal
 
 pub returns-in_err-loaded : goal.returns-in_err-loaded

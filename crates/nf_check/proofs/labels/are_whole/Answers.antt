@@ -1,9 +1,5 @@
-use Rattle.std.proofs.Common.{◌≡◌, ◌≤◌, List, length, subst, arith}
-use Rattle.std.specs.Prelude.{Ok}
-use Rattle.nf_frac_def.specs.Passing.{passes_Q}
-use Rattle.nf_model.specs.Curve.{Point}
-use Rattle.nf_curve_def.specs.Values.{checked_cut}
-use Rattle.nf_check_rules.proofs.ByNumber.{next_curve}
+use Rattle.std.proofs.Common.{◌≡◌, ◌≤◌, List, length, subst, arith, Ok}
+use Rattle.nf_check.proofs.Common.{passes_Q, Point, checked_cut, next_curve}
 use Rattle.nf_check.proofs.labels.are_whole.Goals as goal
 
 pub loop-label-preserved : goal.loop-label-preserved

@@ -1,9 +1,5 @@
-use Rattle.std.proofs.Common.{◌≡◌, ℕ, ◌<◌}
-use Rattle.std.specs.Prelude.{Ok}
-use Rattle.nf_frac_def.specs.Passing.{passes_Q}
-use Rattle.nf_model.specs.Equilibrium.{points_at}
-use Rattle.nf_curve_def.specs.Values.{checked_cut}
-use Rattle.nf_check_rules.specs.Kept.{points_of_each}
+use Rattle.std.proofs.Common.{◌≡◌, ℕ, ◌<◌, Ok}
+use Rattle.nf_check.proofs.Common.{passes_Q, points_at, checked_cut, points_of_each}
 use Rattle.nf_check.proofs.labels.are_whole.Given as goal
 
 abbrev pub invariant-loop-label : goal.invariant-loop-label

@@ -1,17 +1,6 @@
-use Rattle.std.proofs.Common.{◌≡◌, List, refl, sym, ap, ◌∙◌}
-use Rattle.std.specs.Prelude.{Ok}
-use Rattle.nf_frac_def.specs.Passing.{passes_Q}
-use Rattle.nf_model.specs.Equilibrium.{points_at}
-use Rattle.nf_curve.specs.Flows.{seen_flow}
-use Rattle.nf_curve.specs.Points.{Grown}
-use Rattle.nf_check_def.specs.declared.CheckRule.TheVariants.{C1}
-use Rattle.nf_check_def.specs.declared.Subject.TheVariants.{Node}
-use Rattle.nf_check_def.specs.PointRules.{negative_point}
-use Rattle.nf_check_def.specs.Trial.{unless}
-use Rattle.nf_check_def.specs.CheckList.{label_cut}
-use Rattle.nf_check_rules.specs.Kept.{points_of_each}
-use Rattle.nf_check_rules.proofs.Trying.{tries_as, tries_map}
-use Rattle.nf_check_rules.proofs.Known.{label_cut_whole}
+use Rattle.std.proofs.Common.{◌≡◌, List, refl, sym, ap, ◌∙◌, Ok}
+use Rattle.nf_check.proofs.Common.{passes_Q, points_at, seen_flow, Grown, C1, Node, negative_point, unless, label_cut, points_of_each, tries_as, tries_map}
+use Rattle.nf_check.proofs.Common.{label_cut_whole}
 use Rattle.nf_check.proofs.labels.check_label.Goals as goal
 
 pub returns : goal.returns

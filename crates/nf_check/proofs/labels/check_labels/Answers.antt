@@ -1,16 +1,6 @@
-use Rattle.std.proofs.Common.{◌≡◌, ◌+◌, ◌<◌, ◌≤◌, List, length, take, refl, ap, ◌∙◌, arith}
-use Rattle.std.specs.Prelude.{Ok}
-use Rattle.std.proofs.lemmas.List.{take_all, length-map}
-use Rattle.std.proofs.lemmas.Result.{err_from_is_err_and}
-use Rattle.nf_frac_def.specs.Passing.{passes_Q}
-use Rattle.nf_model.specs.Curve.{Point}
-use Rattle.nf_model.specs.Equilibrium.{points_at}
-use Rattle.nf_check_def.specs.CheckList.{label_cut}
-use Rattle.nf_curve.specs.Points.{Grown}
-use Rattle.nf_curve.specs.Flows.{seen_flow}
-use Rattle.nf_check_rules.specs.Kept.{points_of_each}
-use Rattle.nf_check_rules.proofs.ByNumber.{curves_more}
-use Rattle.nf_check_rules.proofs.Looping.{kept_first, kept_ends, kept_goes, kept_last, link_there}
+use Rattle.std.proofs.Common.{◌≡◌, ◌+◌, ◌<◌, ◌≤◌, List, length, take, refl, ap, ◌∙◌, arith, Ok}
+use Rattle.nf_check.proofs.Common.{take_all, length-map, err_from_is_err_and, passes_Q, Point, points_at, label_cut, Grown, seen_flow, points_of_each}
+use Rattle.nf_check.proofs.Common.{curves_more, kept_first, kept_ends, kept_goes, kept_last, link_there}
 use Rattle.nf_check.proofs.labels.check_labels.Goals as goal
 
 pub loop-number-init : goal.loop-number-init

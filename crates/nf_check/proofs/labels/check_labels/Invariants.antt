@@ -1,9 +1,5 @@
 use Rattle.std.proofs.Common.{take}
-use Rattle.nf_frac_def.specs.Passing.{passes_Q}
-use Rattle.nf_check_def.specs.CheckList.{label_cut}
-use Rattle.nf_curve.specs.Flows.{seen_flow}
-use Rattle.nf_check_rules.specs.Kept.{points_of_each}
-use Rattle.nf_check_rules.proofs.Looping.{FrontBelow}
+use Rattle.nf_check.proofs.Common.{passes_Q, label_cut, seen_flow, points_of_each, FrontBelow}
 use Rattle.nf_check.proofs.labels.check_labels.Given as goal
 
 abbrev pub invariant-loop-number : goal.invariant-loop-number

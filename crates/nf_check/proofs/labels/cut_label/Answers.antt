@@ -1,18 +1,6 @@
-use Rattle.std.proofs.lemmas.Result.{err_from_is_err_and}
 use Rattle.std.proofs.Common.{◌≡◌, List, ap, ◌∙◌}
-use Rattle.nf_frac_def.specs.Passing.{passes_Q}
-use Rattle.nf_frac_def.specs.declared.Part.TheVariants.{Check}
-use Rattle.nf_model.specs.Equilibrium.{points_at}
-use Rattle.nf_curve.specs.Flows.{seen_flow}
-use Rattle.nf_curve.specs.Points.{Grown}
-use Rattle.nf_curve_def.specs.Values.{checked_cut}
-use Rattle.nf_check_def.specs.declared.CheckRule.TheVariants.{C1}
-use Rattle.nf_check_def.specs.declared.Subject.TheVariants.{Node}
-use Rattle.nf_check_def.specs.PointRules.{negative_point}
-use Rattle.nf_check_def.specs.Trial.{unless}
-use Rattle.nf_check_def.specs.CheckList.{label_cut}
-use Rattle.nf_check_rules.specs.Kept.{points_of_each}
-use Rattle.nf_check_rules.proofs.Trying.{goes_on, ends, ends_as, part_goes, part_stops}
+use Rattle.nf_check.proofs.Common.{err_from_is_err_and, passes_Q, Check, points_at, seen_flow, Grown, checked_cut, C1, Node, negative_point, unless}
+use Rattle.nf_check.proofs.Common.{label_cut, points_of_each, goes_on, ends, ends_as, part_goes, part_stops}
 use Rattle.nf_check.proofs.labels.cut_label.Goals as goal
 
 pub returns-in_err-cut : goal.returns-in_err-cut

@@ -1,12 +1,6 @@
 use Rattle.std.proofs.Common.{◌<◌, ◌≤◌, List, ap, ◌∙◌, arith}
-use Rattle.std.proofs.lemmas.List.{map-append}
-use Rattle.std.proofs.lemmas.Result.{err_from_is_err_and}
-use Rattle.nf_frac_def.specs.Passing.{passes_Q}
-use Rattle.nf_check_def.specs.CheckList.{label_cut}
-use Rattle.nf_curve.specs.Points.{Grown}
-use Rattle.nf_curve.specs.Flows.{seen_flow}
-use Rattle.nf_check_rules.specs.Kept.{points_of_each}
-use Rattle.nf_check_rules.proofs.Looping.{kept_first, kept_ends, kept_goes, kept_last}
+use Rattle.nf_check.proofs.Common.{map-append, err_from_is_err_and, passes_Q, label_cut, Grown, seen_flow, points_of_each, kept_first, kept_ends, kept_goes}
+use Rattle.nf_check.proofs.Common.{kept_last}
 use Rattle.nf_check.proofs.labels.cut_labels.Goals as goal
 
 pub loop-number-init : goal.loop-number-init

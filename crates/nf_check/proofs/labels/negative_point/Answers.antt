@@ -1,9 +1,5 @@
 use Rattle.std.proofs.Common.{◌≡◌, ◌≤◌, length, true, false, List, Some, refl, sym, ap, ◌∙◌, arith}
-use Rattle.std.proofs.lemmas.List.{at_drop_all}
-use Rattle.nf_rational.specs.Rational.{ℚ}
-use Rattle.nf_rational.specs.Operations.{0ℚ}
-use Rattle.nf_rational.specs.Order.{lt_ℚ}
-use Rattle.nf_check_def.specs.PointRules.{negative_point}
+use Rattle.nf_check.proofs.Common.{at_drop_all, ℚ, 0ℚ, lt_ℚ, negative_point}
 use Rattle.nf_check_rules.proofs.PointByPoint.{is_negative, not_negative}
 use Rattle.nf_check.proofs.labels.negative_point.Goals as goal
 

@@ -1,5 +1,5 @@
 use Rattle.std.proofs.Common.{◌≡◌, drop}
-use Rattle.nf_check_def.specs.PointRules.{negative_point}
+use Rattle.nf_check.proofs.Common.{negative_point}
 use Rattle.nf_check.proofs.labels.negative_point.Given as goal
 
 abbrev pub invariant-loop-i : goal.invariant-loop-i

@@ -1,12 +1,7 @@
 use Rattle.nf_load_def.specs.Loading as lists
-use Rattle.nf_model.specs.Equilibrium.{points_at}
-use Rattle.nf_check_rules.specs.Views.{labels_in, loaded_in}
-use Rattle.nf_check_def.specs.Curves.{loaded_at}
-use Rattle.nf_load.specs.declared.loading.Loaded.{Loaded}
-use Rattle.nf_load.specs.Loadings.{loaded_of}
-use Rattle.nf_check_rules.proofs.Keeping.{same_some}
 use Rattle.std.proofs.Common.{refl, ap, ◌∙◌, ◌≡◌, sym}
-use Rattle.nf_model.specs.Network.{Link}
+use Rattle.nf_check_rules.proofs.Common.{points_at, labels_in, loaded_in, loaded_at, Loaded, loaded_of, Link}
+use Rattle.nf_check_rules.proofs.Keeping.{same_some}
 use Rattle.nf_check_rules.proofs.Known.{never_negative, below_as, one_there}
 use Rattle.nf_check_rules.proofs.arriving.exit_along.Goals as goal
 

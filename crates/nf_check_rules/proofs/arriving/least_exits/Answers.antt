@@ -1,10 +1,6 @@
-use Rattle.std.proofs.Common.{◌<◌, ◌≤◌, length, None, refl, arith, rules}
-use Rattle.std.proofs.lemmas.Result.{err_from_is_err_and}
-use Rattle.nf_frac_def.specs.Passing.{passes_Q}
-use Rattle.std.specs.Prelude.{option_map}
-use Rattle.nf_curve.specs.Points.{Grown}
-use Rattle.nf_check_def.specs.Curves.{with_exit, least_exits}
-use Rattle.nf_check_rules.specs.Views.{labels_in, loaded_in}
+use Rattle.std.proofs.Common.{◌<◌, ◌≤◌, length, None, refl, arith, rules, option_map}
+use Rattle.nf_check_rules.proofs.Common.{err_from_is_err_and, passes_Q, Grown, with_exit, labels_in, loaded_in}
+use Rattle.nf_check_def.specs.Curves.{least_exits}
 use Rattle.nf_check_rules.proofs.Looping.{link_there}
 use Rattle.nf_check_rules.proofs.Folding.{fold_first, fold_stops, fold_goes, fold_last}
 use Rattle.nf_check_rules.proofs.arriving.least_exits.Goals as goal

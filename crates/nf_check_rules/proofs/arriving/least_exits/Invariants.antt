@@ -1,9 +1,5 @@
-use Rattle.std.proofs.Common.{None}
-use Rattle.std.specs.Prelude.{option_map}
-use Rattle.nf_frac_def.specs.Passing.{passes_Q}
-use Rattle.nf_check_def.specs.Curves.{with_exit}
-use Rattle.nf_check_rules.specs.Exits.{AreStored}
-use Rattle.nf_check_rules.specs.Views.{labels_in, loaded_in}
+use Rattle.std.proofs.Common.{None, option_map}
+use Rattle.nf_check_rules.proofs.Common.{passes_Q, with_exit, AreStored, labels_in, loaded_in}
 use Rattle.nf_check_rules.proofs.Folding.{Folds}
 use Rattle.nf_check_rules.proofs.arriving.least_exits.Given as goal
 

@@ -1,12 +1,5 @@
-use Rattle.std.proofs.Common.{sym, ap, ◌∙◌, ℕ, ◌<◌, subst}
-use Rattle.std.specs.Prelude.{option_map}
-use Rattle.std.proofs.lemmas.Result.{err_from_is_err_and}
-use Rattle.nf_frac_def.specs.Passing.{passes_Q}
-use Rattle.nf_model.specs.Network.{Link}
-use Rattle.nf_curve.specs.Points.{Grown}
-use Rattle.nf_check_rules.specs.declared.exits.Exits.{Exits}
-use Rattle.nf_check_rules.specs.Exits.{AreStored}
-use Rattle.nf_check_rules.specs.Views.{labels_in, loaded_in}
+use Rattle.std.proofs.Common.{sym, ap, ◌∙◌, ℕ, ◌<◌, subst, option_map}
+use Rattle.nf_check_rules.proofs.Common.{err_from_is_err_and, passes_Q, Link, Grown, Exits, AreStored, labels_in, loaded_in}
 use Rattle.nf_check_rules.proofs.Attaining.{exit_left_out, exit_goes, exit_stops}
 use Rattle.nf_check_rules.proofs.Keeping.{keep_kept, same_some}
 use Rattle.nf_check_rules.proofs.arriving.with_exit.Goals as goal

@@ -1,16 +1,6 @@
 use Rattle.std.proofs.Common.{sym, ap, ◌∙◌}
-use Rattle.std.proofs.lemmas.Result.{err_from_is_err_and}
-use Rattle.nf_rational.specs.Rational.{ℚ}
-use Rattle.nf_model.specs.Equilibrium.{points_of}
-use Rattle.nf_frac_def.specs.Passing.{passes_Q}
-use Rattle.nf_frac_def.specs.declared.Part.TheVariants.{Check}
-use Rattle.nf_check_def.specs.declared.CheckRule.TheVariants.{C6}
-use Rattle.nf_check_def.specs.declared.Subject.TheVariants.{Node}
-use Rattle.nf_check_def.specs.Curves.{total_in, total_out}
-use Rattle.nf_check_def.specs.CheckList.{balance}
-use Rattle.nf_check_rules.specs.Views.{flow_in, loaded_in, in_view}
-use Rattle.nf_check_rules.specs.Steps.{compared_by, with_supply_by}
-use Rattle.nf_check_rules.specs.Trials.{of_halt}
+use Rattle.nf_check_rules.proofs.Common.{err_from_is_err_and, ℚ, points_of, passes_Q, Check, C6, Node, total_in, total_out, balance, flow_in, loaded_in}
+use Rattle.nf_check_rules.proofs.Common.{in_view, compared_by, with_supply_by, of_halt}
 use Rattle.nf_check_rules.proofs.Trying.{part_goes, part_stops, ends_as, tries_as}
 use Rattle.nf_check_rules.proofs.balances.check_balance.Goals as goal
 

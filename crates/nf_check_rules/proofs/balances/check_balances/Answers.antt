@@ -1,14 +1,6 @@
-use Rattle.std.proofs.lemmas.Result.{err_from_is_err_and}
 use Rattle.std.proofs.Common.{◌∙◌}
-use Rattle.nf_frac_def.specs.Passing.{passes_Q}
-use Rattle.nf_frac_def.specs.Checked.{each}
-use Rattle.nf_frac_def.specs.declared.Part.TheVariants.{Load}
-use Rattle.nf_load_def.specs.Cumulative.{checked_cumulative}
-use Rattle.nf_check_def.specs.Rules.{nodes_but}
-use Rattle.nf_check_def.specs.CheckList.{balance}
-use Rattle.nf_check_rules.specs.Views.{in_view}
+use Rattle.nf_check_rules.proofs.Common.{err_from_is_err_and, passes_Q, each, Load, checked_cumulative, nodes_but, balance, in_view, done}
 use Rattle.nf_check_rules.specs.Steps.{balances_list}
-use Rattle.nf_check_rules.specs.Trials.{done}
 use Rattle.nf_check_rules.proofs.Trying.{goes_on, ends, ends_as, part_goes, part_stops, tries_as}
 use Rattle.nf_check_rules.proofs.balances.check_balances.Goals as goal
 

@@ -1,5 +1,4 @@
-use Rattle.nf_check_def.specs.CheckList.{balance}
-use Rattle.nf_check_rules.specs.Views.{in_view}
+use Rattle.nf_check_rules.proofs.Common.{balance, in_view}
 use Rattle.nf_check_rules.proofs.Looping.{LeftBut}
 use Rattle.nf_check_rules.proofs.balances.check_balances_at.Given as goal
 

@@ -1,16 +1,6 @@
-use Rattle.std.proofs.lemmas.Result.{err_from_is_err_and}
 use Rattle.std.proofs.Common.{ℕ, refl, ap, ◌∙◌}
-use Rattle.nf_model.specs.Equilibrium.{points_at, points_of}
-use Rattle.nf_frac_def.specs.Passing.{passes_Q}
-use Rattle.nf_frac_def.specs.declared.Part.TheVariants.{Check}
-use Rattle.nf_check_def.specs.declared.CheckRule.TheVariants.{C7}
-use Rattle.nf_check_def.specs.declared.Subject.TheVariants.{Node}
-use Rattle.nf_check_def.specs.Curves.{total_in, total_out}
-use Rattle.nf_check_def.specs.CheckList.{sink_rules}
-use Rattle.nf_check_rules.specs.Views.{flow_in, labels_in, loaded_in, in_view}
-use Rattle.nf_check_rules.specs.Steps.{compared_by, stays_by}
-use Rattle.nf_check_rules.specs.Trials.{of_halt}
-use Rattle.nf_check_rules.specs.Points.{first_value}
+use Rattle.nf_check_rules.proofs.Common.{err_from_is_err_and, points_at, points_of, passes_Q, Check, C7, Node, total_in, total_out, sink_rules, flow_in}
+use Rattle.nf_check_rules.proofs.Common.{labels_in, loaded_in, in_view, compared_by, stays_by, of_halt, first_value}
 use Rattle.nf_check_rules.proofs.Trying.{goes_on, ends, ends_as, part_goes, part_stops, tries_as}
 use Rattle.nf_check_rules.proofs.Testing.{sink-is}
 use Rattle.nf_check_rules.proofs.balances.check_sink.Goals as goal

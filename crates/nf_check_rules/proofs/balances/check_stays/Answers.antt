@@ -1,13 +1,5 @@
 use Rattle.std.proofs.Common.{ℕ, ap, sym, ◌∙◌}
-use Rattle.std.proofs.lemmas.Result.{err_from_is_err_and}
-use Rattle.nf_frac_def.specs.Passing.{passes_Q}
-use Rattle.nf_frac_def.specs.declared.Part.TheVariants.{Check}
-use Rattle.nf_curve_def.specs.Sums.{checked_sum}
-use Rattle.nf_curve_def.specs.Composed.{checked_composed}
-use Rattle.nf_check_def.specs.declared.CheckRule.TheVariants.{C7}
-use Rattle.nf_check_def.specs.declared.Subject.TheVariants.{Node}
-use Rattle.nf_check_rules.specs.Steps.{compared_by, stays_by}
-use Rattle.nf_check_rules.specs.Trials.{of_halt}
+use Rattle.nf_check_rules.proofs.Common.{err_from_is_err_and, passes_Q, Check, checked_sum, checked_composed, C7, Node, compared_by, stays_by, of_halt}
 use Rattle.nf_check_rules.proofs.Trying.{part_goes, part_stops, ends_as, tries_as}
 use Rattle.nf_check_rules.proofs.Known.{never_negative}
 use Rattle.nf_check_rules.proofs.balances.check_stays.Goals as goal

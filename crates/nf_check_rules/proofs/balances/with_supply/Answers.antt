@@ -1,12 +1,5 @@
-use Rattle.nf_curve.specs.Points.{Grown}
-use Rattle.nf_curve_def.specs.Sums.{checked_sum}
-use Rattle.nf_model.specs.Curve.{Point}
-use Rattle.nf_frac_def.specs.Checked.{Checked, Gives, at_part}
-use Rattle.nf_frac_def.specs.declared.Part.TheVariants.{Check}
-use Rattle.nf_frac_def.specs.Passing.{passes_Q}
-use Rattle.nf_rational.specs.Rational.{ℚ}
-use Rattle.std.specs.Prelude.{◌==◌, if◌then◌else◌, Ok}
-use Rattle.std.proofs.Common.{◌≡◌, ℕ, List, Bool, true, sym, ap, subst, ◌∙◌}
+use Rattle.std.proofs.Common.{◌==◌, if◌then◌else◌, Ok, ◌≡◌, ℕ, List, Bool, true, sym, ap, subst, ◌∙◌}
+use Rattle.nf_check_rules.proofs.Common.{Grown, checked_sum, Point, Checked, Gives, at_part, Check, passes_Q, ℚ}
 use Rattle.nf_check_rules.proofs.balances.with_supply.Goals as goal
 
 pub returns-then-eq : goal.returns-then-eq

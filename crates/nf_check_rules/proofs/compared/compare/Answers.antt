@@ -1,14 +1,7 @@
+use Rattle.std.proofs.Common.{option_map, sym}
+use Rattle.nf_check_rules.proofs.Common.{compared_by, Ended, in_part, difference_of, Check, passes_Q, err_from_is_err_and}
 use Rattle.nf_check_rules.proofs.Trying.{ends, part_passes, part_goes, tries_as}
-use Rattle.nf_check_rules.specs.Steps.{compared_by}
-use Rattle.nf_check_rules.specs.declared.ended.Ended.{Ended}
-use Rattle.nf_check_def.specs.Trial.{in_part}
-use Rattle.nf_curve.specs.Differences.{difference_of}
 use Rattle.nf_curve_def.specs.Differences.{checked_difference}
-use Rattle.nf_frac_def.specs.declared.Part.TheVariants.{Check}
-use Rattle.nf_frac_def.specs.Passing.{passes_Q}
-use Rattle.std.specs.Prelude.{option_map}
-use Rattle.std.proofs.lemmas.Result.{err_from_is_err_and}
-use Rattle.std.proofs.Common.{sym}
 use Rattle.nf_check_rules.proofs.compared.compare.Goals as goal
 
 pub returns-in_err-difference : goal.returns-in_err-difference

@@ -1,8 +1,5 @@
 use Rattle.std.proofs.Common.{◌<◌, ◌≤◌, length, arith}
-use Rattle.std.proofs.lemmas.Result.{err_from_is_err_and}
-use Rattle.nf_frac_def.specs.Passing.{passes_Q}
-use Rattle.nf_check_def.specs.CheckList.{inflow_rule}
-use Rattle.nf_curve.specs.Flows.{seen_flow}
+use Rattle.nf_check_rules.proofs.Common.{err_from_is_err_and, passes_Q, inflow_rule, seen_flow}
 use Rattle.nf_check_rules.proofs.Looping.{below_first, below_ends, below_goes, below_last}
 use Rattle.nf_check_rules.proofs.inflows.check_inflows.Goals as goal
 

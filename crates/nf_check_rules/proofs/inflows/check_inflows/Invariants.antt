@@ -1,7 +1,5 @@
 use Rattle.std.proofs.Common.{length}
-use Rattle.nf_frac_def.specs.Passing.{passes_Q}
-use Rattle.nf_check_def.specs.CheckList.{inflow_rule}
-use Rattle.nf_curve.specs.Flows.{seen_flow}
+use Rattle.nf_check_rules.proofs.Common.{passes_Q, inflow_rule, seen_flow}
 use Rattle.nf_check_rules.proofs.Looping.{LeftBelow}
 use Rattle.nf_check_rules.proofs.inflows.check_inflows.Given as goal
 

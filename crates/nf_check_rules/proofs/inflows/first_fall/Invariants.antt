@@ -1,5 +1,5 @@
 use Rattle.std.proofs.Common.{◌≡◌, ◌-◌, drop}
-use Rattle.nf_check_rules.specs.Points.{first_fall}
+use Rattle.nf_check_rules.proofs.Common.{first_fall}
 use Rattle.nf_check_rules.proofs.inflows.first_fall.Given as goal
 
 abbrev pub invariant-loop-i : goal.invariant-loop-i

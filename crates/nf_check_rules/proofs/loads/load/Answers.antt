@@ -1,22 +1,10 @@
-use Rattle.nf_load.specs.Loadings.{loaded_of}
+use Rattle.std.proofs.Common.{sym, ap, subst, ◌∙◌, ◌≡◌, ◌<◌, ℕ, List, map}
+use Rattle.nf_check_rules.proofs.Common.{loaded_of, points_of_each, Load, greatest_value, Trace, seen_flow, seen_trace, points_at, points_of, Point}
+use Rattle.nf_check_rules.proofs.Common.{NeverFalls, value, err_from_is_err_and, ℚ, 0ℚ, ◌≤ℚ◌, max_ℚ, Link, max-left}
 use Rattle.nf_check_rules.proofs.Trying.{part_ends, part_ok}
 use Rattle.nf_check_rules.proofs.Keeping.{same_some}
-use Rattle.nf_check_rules.specs.Kept.{points_of_each}
-use Rattle.nf_frac_def.specs.declared.Part.TheVariants.{Load}
-use Rattle.nf_check_def.specs.Curves.{greatest_value}
-use Rattle.nf_curve.specs.declared.flow.Trace.{Trace}
-use Rattle.nf_curve.specs.Flows.{seen_flow, seen_trace}
-use Rattle.nf_model.specs.Equilibrium.{points_at, points_of}
-use Rattle.nf_model.specs.Curve.{Point, NeverFalls, value}
 use mathlib.Core.Path.{ap₂}
-use Rattle.std.proofs.lemmas.Result.{err_from_is_err_and}
-use Rattle.std.proofs.Common.{sym, ap, subst, ◌∙◌, ◌≡◌, ◌<◌, ℕ, List, map}
-use Rattle.nf_rational.specs.Rational.{ℚ}
-use Rattle.nf_rational.specs.Operations.{0ℚ}
-use Rattle.nf_rational.specs.Order.{◌≤ℚ◌, max_ℚ}
-use Rattle.nf_model.specs.Network.{Link}
 use Rattle.nf_model_laws.proofs.Earliest.{IsPositive-link}
-use Rattle.nf_check_laws.proofs.Points.{max-left}
 use Rattle.nf_check_rules.proofs.loads.load.Goals as goal
 
 pub load_link-requires-clause-capacity : goal.load_link-requires-clause-capacity

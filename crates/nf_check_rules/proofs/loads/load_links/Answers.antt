@@ -1,12 +1,5 @@
 use Rattle.std.proofs.Common.{◌<◌, ◌≤◌, List, length, ap, ◌∙◌, arith}
-use Rattle.std.proofs.lemmas.List.{map-append}
-use Rattle.std.proofs.lemmas.Result.{err_from_is_err_and}
-use Rattle.nf_frac_def.specs.Passing.{passes_Q}
-use Rattle.nf_check_def.specs.CheckList.{loading}
-use Rattle.nf_curve.specs.Flows.{seen_flow}
-use Rattle.nf_load.specs.Loadings.{loaded_of}
-use Rattle.nf_load.specs.declared.loading.Loaded.{Loaded}
-use Rattle.nf_check_rules.specs.Kept.{points_of_each, loadings_of}
+use Rattle.nf_check_rules.proofs.Common.{map-append, err_from_is_err_and, passes_Q, loading, seen_flow, loaded_of, Loaded, points_of_each, loadings_of}
 use Rattle.nf_check_rules.proofs.Known.{loaded_in_number}
 use Rattle.nf_check_rules.proofs.Looping.{keep_first, keep_ends, keep_goes, keep_last, link_there}
 use Rattle.nf_check_rules.proofs.loads.load_links.Goals as goal

@@ -1,7 +1,4 @@
-use Rattle.nf_frac_def.specs.Passing.{passes_Q}
-use Rattle.nf_check_def.specs.CheckList.{loading}
-use Rattle.nf_curve.specs.Flows.{seen_flow}
-use Rattle.nf_check_rules.specs.Kept.{points_of_each, loadings_of}
+use Rattle.nf_check_rules.proofs.Common.{passes_Q, loading, seen_flow, points_of_each, loadings_of}
 use Rattle.nf_check_rules.proofs.Looping.{FrontLinks}
 use Rattle.nf_check_rules.proofs.loads.load_links.Given as goal
 

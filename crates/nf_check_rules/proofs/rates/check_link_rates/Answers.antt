@@ -1,6 +1,5 @@
-use Rattle.nf_curve.specs.declared.flow.Trace.{Trace}
-use Rattle.nf_curve.specs.Flows.{seen_trace}
 use Rattle.std.proofs.Common.{List, map, slice_get, sym, ap, ◌∙◌}
+use Rattle.nf_check_rules.proofs.Common.{Trace, seen_trace}
 use Rattle.nf_check_rules.proofs.rates.check_link_rates.Goals as goal
 
 pub check_trace-requires : goal.check_trace-requires

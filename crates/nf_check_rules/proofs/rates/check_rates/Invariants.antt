@@ -1,7 +1,5 @@
 use Rattle.std.proofs.Common.{length}
-use Rattle.nf_frac_def.specs.Passing.{passes_Q}
-use Rattle.nf_check_def.specs.CheckList.{link_rates}
-use Rattle.nf_curve.specs.Flows.{seen_flow}
+use Rattle.nf_check_rules.proofs.Common.{passes_Q, link_rates, seen_flow}
 use Rattle.nf_check_rules.proofs.Looping.{LeftBelow}
 use Rattle.nf_check_rules.proofs.rates.check_rates.Given as goal
 

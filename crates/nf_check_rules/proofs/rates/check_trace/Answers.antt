@@ -1,10 +1,6 @@
 use Rattle.std.proofs.Common.{◌≡◌, ◌≤◌, List, length, Some, slice_get, refl, sym, ap, ◌∙◌, arith}
-use Rattle.std.proofs.lemmas.Option.{slice_get_read}
-use Rattle.std.proofs.lemmas.Result.{err_from_is_err_and}
-use Rattle.nf_rational.specs.Rational.{ℚ}
-use Rattle.nf_frac_def.specs.Passing.{passes_Q}
+use Rattle.nf_check_rules.proofs.Common.{slice_get_read, err_from_is_err_and, ℚ, passes_Q, times_apart}
 use Rattle.nf_check_def.specs.declared.Subject.TheVariants.{Link as OfLink}
-use Rattle.nf_curve.proofs.Placing.{times_apart}
 use Rattle.nf_check_rules.proofs.PointByPoint.{slope_ends, other_ends, rate_fits, rates_end}
 use Rattle.nf_check_rules.proofs.rates.check_trace.Goals as goal
 

@@ -1,7 +1,6 @@
 use Rattle.std.proofs.Common.{◌≡◌, drop}
-use Rattle.nf_frac_def.specs.Passing.{passes_Q}
+use Rattle.nf_check_rules.proofs.Common.{passes_Q, rates_list}
 use Rattle.nf_check_def.specs.declared.Subject.TheVariants.{Link as OfLink}
-use Rattle.nf_check_def.specs.PointRules.{rates_list}
 use Rattle.nf_check_rules.proofs.rates.check_trace.Given as goal
 
 abbrev pub invariant-loop-i : goal.invariant-loop-i

@@ -1,18 +1,8 @@
+use Rattle.std.proofs.Common.{option_map, ◌≡◌, List, map, refl, sym, ap, ◌∙◌}
+use Rattle.nf_check_rules.proofs.Common.{route, difference_of, err_from_is_err_and, passes_Q, Link, points_at, points_of, seen_trace, Trace, Loaded}
+use Rattle.nf_check_rules.proofs.Common.{loaded_at, flow_in, labels_in, loaded_in, in_view}
 use Rattle.nf_check_rules.proofs.Trying.{tries_as}
-use Rattle.nf_check_def.specs.CheckList.{route}
-use Rattle.nf_curve.specs.Differences.{difference_of}
-use Rattle.std.specs.Prelude.{option_map}
-use Rattle.std.proofs.Common.{◌≡◌, List, map, refl, sym, ap, ◌∙◌}
-use Rattle.std.proofs.lemmas.Result.{err_from_is_err_and}
-use Rattle.nf_frac_def.specs.Passing.{passes_Q}
-use Rattle.nf_model.specs.Network.{Link}
-use Rattle.nf_model.specs.Equilibrium.{points_at, points_of}
-use Rattle.nf_curve.specs.Flows.{seen_trace}
-use Rattle.nf_curve.specs.declared.flow.Trace.{Trace}
 use Rattle.nf_load_def.specs.Loading as lists
-use Rattle.nf_load.specs.declared.loading.Loaded.{Loaded}
-use Rattle.nf_check_def.specs.Curves.{loaded_at}
-use Rattle.nf_check_rules.specs.Views.{flow_in, labels_in, loaded_in, in_view}
 use Rattle.nf_check_rules.proofs.Keeping.{kept_as, same_some, route_ends, route_goes}
 use Rattle.nf_check_rules.proofs.Known.{never_negative, below_as, one_there}
 use Rattle.nf_check_rules.proofs.routes.check_route.Goals as goal

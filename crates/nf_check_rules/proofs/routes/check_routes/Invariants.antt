@@ -1,6 +1,4 @@
-use Rattle.nf_check_def.specs.CheckList.{route}
-use Rattle.nf_check_rules.specs.Exits.{AreStored}
-use Rattle.nf_check_rules.specs.Views.{in_view}
+use Rattle.nf_check_rules.proofs.Common.{route, AreStored, in_view}
 use Rattle.nf_check_rules.proofs.Looping.{LeftLinks}
 use Rattle.nf_check_rules.proofs.routes.check_routes.Given as goal
 

@@ -1,10 +1,5 @@
-use Rattle.std.proofs.lemmas.Result.{err_from_is_err_and}
 use Rattle.std.proofs.Common.{sym, ap, ◌∙◌}
-use Rattle.nf_frac_def.specs.Passing.{passes_Q}
-use Rattle.nf_frac_def.specs.declared.Part.TheVariants.{Check}
-use Rattle.nf_frac_def.specs.Checked.{at_part}
-use Rattle.nf_curve.proofs.Exits.{after_ok, after_err, stops_on}
-use Rattle.nf_check_rules.specs.Sent.{points_in, sent_on_link, detours_of}
+use Rattle.nf_check_rules.proofs.Common.{err_from_is_err_and, passes_Q, Check, at_part, after_ok, after_err, stops_on, points_in, sent_on_link, detours_of}
 use Rattle.nf_check_rules.proofs.Stretching.{detour-is}
 use Rattle.nf_check_rules.proofs.routes.detour.Goals as goal
 

@@ -1,11 +1,5 @@
-use Rattle.nf_curve.specs.Differences.{difference_of}
-use Rattle.std.proofs.lemmas.Result.{err_from_is_err_and}
 use Rattle.std.proofs.Common.{sym, ◌∙◌}
-use Rattle.nf_frac_def.specs.Passing.{passes_Q}
-use Rattle.nf_frac_def.specs.declared.Part.TheVariants.{Check}
-use Rattle.nf_curve_def.specs.Sums.{sides_at}
-use Rattle.nf_check_def.specs.Routes.{checked_middle}
-use Rattle.nf_curve.proofs.Exits.{after_ok, after_err}
+use Rattle.nf_check_rules.proofs.Common.{difference_of, err_from_is_err_and, passes_Q, Check, sides_at, checked_middle, after_ok, after_err}
 use Rattle.nf_check_rules.proofs.Stretching.{middle_from}
 use Rattle.nf_check_rules.proofs.stretches.at_middle.Goals as goal
 

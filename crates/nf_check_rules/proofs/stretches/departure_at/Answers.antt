@@ -1,8 +1,5 @@
 use Rattle.std.proofs.Common.{sym}
-use Rattle.nf_frac_def.specs.declared.Part.TheVariants.{Check}
-use Rattle.nf_frac_def.specs.Passing.{passes_Q}
-use Rattle.nf_curve_def.specs.Values.{checked_value}
-use Rattle.nf_curve.proofs.Exits.{was_ok}
+use Rattle.nf_check_rules.proofs.Common.{Check, passes_Q, checked_value, was_ok}
 use Rattle.nf_check_rules.proofs.Stretching.{no_sides, places-within}
 use Rattle.nf_check_rules.proofs.stretches.departure_at.Goals as goal
 

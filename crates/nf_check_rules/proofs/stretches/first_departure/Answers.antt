@@ -1,6 +1,5 @@
 use Rattle.std.proofs.Common.{sym, arith}
-use Rattle.nf_frac_def.specs.Passing.{passes_Q}
-use Rattle.nf_rational_laws.proofs.Order.{≤ℚ_of_same}
+use Rattle.nf_check_rules.proofs.Common.{passes_Q, ≤ℚ_of_same}
 use Rattle.nf_curve.proofs.Points.{points_there}
 use Rattle.nf_check_rules.proofs.Stretching.{no_sides, first_amount}
 use Rattle.nf_check_rules.proofs.stretches.first_departure.Goals as goal

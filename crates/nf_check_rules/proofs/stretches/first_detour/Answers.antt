@@ -1,16 +1,6 @@
-use Rattle.std.proofs.Common.{sym, ap, ◌∙◌}
-use Rattle.std.specs.Prelude.{Option, Some, Ok, option_map}
-use Rattle.std.proofs.lemmas.Result.{err_from_is_err_and}
-use Rattle.nf_rational.specs.Rational.{ℚ}
-use Rattle.nf_rational_laws.proofs.Order.{≤ℚ_of_lt}
-use Rattle.nf_rational_laws.proofs.Chains.{≤ℚ_trans}
-use Rattle.nf_frac_def.specs.Passing.{passes_Q}
-use Rattle.nf_frac_def.specs.declared.Part.TheVariants.{Check}
-use Rattle.nf_frac_def.specs.Checked.{at_part}
-use Rattle.nf_check_def.specs.Routes.{all_stretches, stretches_from}
-use Rattle.nf_curve.specs.Differences.{difference_of}
-use Rattle.nf_curve.specs.declared.curve.Difference.{Difference}
-use Rattle.nf_check_rules.specs.Sent.{stretches_of, three_after}
+use Rattle.std.proofs.Common.{sym, ap, ◌∙◌, Option, Some, Ok, option_map}
+use Rattle.nf_check_rules.proofs.Common.{err_from_is_err_and, ℚ, ≤ℚ_of_lt, ≤ℚ_trans, passes_Q, Check, at_part, all_stretches, stretches_from, difference_of}
+use Rattle.nf_check_rules.proofs.Common.{Difference, stretches_of, three_after}
 use Rattle.nf_check_rules.proofs.Merging.{three-begin, some_next, none_next, fewer_after}
 use Rattle.nf_check_rules.proofs.Stretching.{stretch_stops, stretch_found, stretch_goes, no_stretch, next_passes}
 use Rattle.nf_check_rules.proofs.stretches.first_detour.Goals as goal

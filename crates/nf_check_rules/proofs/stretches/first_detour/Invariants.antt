@@ -1,8 +1,5 @@
 use Rattle.std.proofs.Common.{◌≡◌, length}
-use Rattle.nf_frac_def.specs.Passing.{passes_Q}
-use Rattle.nf_check_def.specs.Routes.{stretches_from}
-use Rattle.nf_check_rules.specs.Departures.{IsSentDeparture}
-use Rattle.nf_check_rules.specs.Sent.{KeepSlopes, stretches_of, three_after}
+use Rattle.nf_check_rules.proofs.Common.{passes_Q, stretches_from, IsSentDeparture, KeepSlopes, stretches_of, three_after}
 use Rattle.nf_check_rules.proofs.stretches.first_detour.Given as goal
 
 abbrev pub invariant-loop-time : goal.invariant-loop-time

@@ -1,13 +1,6 @@
-use Rattle.nf_check_rules.proofs.Stretching.{with_sides, on_any, stretch_rises, stretch_level}
-use Rattle.std.proofs.lemmas.Result.{err_from_is_err_and}
 use Rattle.std.proofs.Common.{Bool, sym, ap, ◌∙◌, refl}
-use Rattle.nf_frac_def.specs.Passing.{passes_Q}
-use Rattle.nf_frac_def.specs.Checked.{at_part}
-use Rattle.nf_frac_def.specs.declared.Part.TheVariants.{Check}
-use Rattle.nf_curve_def.specs.Sums.{sides_at}
-use Rattle.nf_curve.specs.Differences.{difference_of}
-use Rattle.nf_curve.proofs.Exits.{after_err, after_ok}
-use Rattle.nf_check_def.specs.Routes.{at_middle, at_end}
+use Rattle.nf_check_rules.proofs.Common.{err_from_is_err_and, passes_Q, at_part, Check, sides_at, difference_of, after_err, after_ok, at_middle, at_end}
+use Rattle.nf_check_rules.proofs.Stretching.{with_sides, on_any, stretch_rises, stretch_level}
 use Rattle.nf_check_rules.proofs.stretches.on_stretch.Goals as goal
 
 pub returns-in_err-sides-clause-list : goal.returns-in_err-sides-clause-list

@@ -1,13 +1,7 @@
 use Rattle.std.proofs.Common.{◌≡◌, List, refl, map, sym, ap, ◌∙◌}
-use Rattle.nf_model.specs.Network.{Link}
-use Rattle.nf_model.specs.Equilibrium.{points_at, points_of}
-use Rattle.nf_curve.specs.Flows.{seen_trace}
-use Rattle.nf_curve.specs.declared.flow.Trace.{Trace}
+use Rattle.nf_check_rules.proofs.Common.{Link, points_at, points_of, seen_trace, Trace, Loaded, loaded_of, loaded_at, last_value, flow_in, labels_in}
+use Rattle.nf_check_rules.proofs.Common.{loaded_in}
 use Rattle.nf_load_def.specs.Loading as lists
-use Rattle.nf_load.specs.declared.loading.Loaded.{Loaded}
-use Rattle.nf_load.specs.Loadings.{loaded_of}
-use Rattle.nf_check_def.specs.Curves.{loaded_at, last_value}
-use Rattle.nf_check_rules.specs.Views.{flow_in, labels_in, loaded_in}
 use Rattle.nf_check_rules.proofs.Keeping.{same_some}
 use Rattle.nf_check_rules.proofs.Known.{below_as, one_there}
 use Rattle.nf_check_rules.proofs.told.check_outflow.Goals as goal

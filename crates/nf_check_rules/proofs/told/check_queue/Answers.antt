@@ -1,13 +1,6 @@
 use Rattle.std.proofs.Common.{◌≡◌, List, refl, sym, ap, ◌∙◌}
-use Rattle.nf_model.specs.Network.{Link}
-use Rattle.nf_model.specs.Equilibrium.{points_at}
-use Rattle.nf_curve.specs.Points.{Grown}
+use Rattle.nf_check_rules.proofs.Common.{Link, points_at, Grown, Loaded, loaded_of, loaded_at, last_value, points_of_each, flow_in, labels_in, loaded_in}
 use Rattle.nf_load_def.specs.Loading as lists
-use Rattle.nf_load.specs.declared.loading.Loaded.{Loaded}
-use Rattle.nf_load.specs.Loadings.{loaded_of}
-use Rattle.nf_check_def.specs.Curves.{loaded_at, last_value}
-use Rattle.nf_check_rules.specs.Kept.{points_of_each}
-use Rattle.nf_check_rules.specs.Views.{flow_in, labels_in, loaded_in}
 use Rattle.nf_check_rules.proofs.Keeping.{same_some}
 use Rattle.nf_check_rules.proofs.Known.{below_as, one_there}
 use Rattle.nf_check_rules.proofs.told.check_queue.Goals as goal

@@ -1,7 +1,5 @@
 use Rattle.std.proofs.Common.{◌<◌, ◌≤◌, length, arith}
-use Rattle.std.proofs.lemmas.Result.{err_from_is_err_and}
-use Rattle.nf_check_def.specs.CheckList.{queue_rule}
-use Rattle.nf_check_rules.specs.Views.{in_view}
+use Rattle.nf_check_rules.proofs.Common.{err_from_is_err_and, queue_rule, in_view}
 use Rattle.nf_check_rules.proofs.Looping.{links_first, links_end, links_go, links_done, link_there}
 use Rattle.nf_check_rules.proofs.told.check_queues.Goals as goal
 

@@ -1,5 +1,4 @@
-use Rattle.nf_check_def.specs.CheckList.{queue_rule}
-use Rattle.nf_check_rules.specs.Views.{in_view}
+use Rattle.nf_check_rules.proofs.Common.{queue_rule, in_view}
 use Rattle.nf_check_rules.proofs.Looping.{LeftLinks}
 use Rattle.nf_check_rules.proofs.told.check_queues.Given as goal
 

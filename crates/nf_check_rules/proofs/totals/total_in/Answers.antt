@@ -1,10 +1,6 @@
 use Rattle.std.proofs.Common.{◌<◌, ◌≤◌, [], ◌∷◌, length, ap, ◌∙◌, arith}
-use Rattle.std.proofs.lemmas.Result.{err_from_is_err_and}
-use Rattle.nf_frac_def.specs.Passing.{passes_Q}
-use Rattle.nf_rational.specs.Rational.{ℚ}
-use Rattle.nf_rational.specs.Operations.{0ℚ}
-use Rattle.nf_check_def.specs.Curves.{no_amount, with_outflow, total_in}
-use Rattle.nf_check_rules.specs.Kept.{loadings_of}
+use Rattle.nf_check_rules.proofs.Common.{err_from_is_err_and, passes_Q, ℚ, 0ℚ, no_amount, with_outflow, loadings_of}
+use Rattle.nf_check_def.specs.Curves.{total_in}
 use Rattle.nf_check_rules.proofs.Looping.{link_there}
 use Rattle.nf_check_rules.proofs.Folding.{fold_first, fold_stops, fold_goes, fold_last}
 use Rattle.nf_check_rules.proofs.totals.total_in.Goals as goal

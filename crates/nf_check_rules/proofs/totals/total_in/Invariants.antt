@@ -1,6 +1,4 @@
-use Rattle.nf_frac_def.specs.Passing.{passes_Q}
-use Rattle.nf_check_def.specs.Curves.{no_amount, with_outflow}
-use Rattle.nf_check_rules.specs.Kept.{loadings_of}
+use Rattle.nf_check_rules.proofs.Common.{passes_Q, no_amount, with_outflow, loadings_of}
 use Rattle.nf_check_rules.proofs.Folding.{Folds}
 use Rattle.nf_check_rules.proofs.totals.total_in.Given as goal
 

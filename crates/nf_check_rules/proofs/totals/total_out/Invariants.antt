@@ -1,7 +1,4 @@
-use Rattle.nf_frac_def.specs.Passing.{passes_Q}
-use Rattle.nf_model.specs.Equilibrium.{points_of}
-use Rattle.nf_check_def.specs.Curves.{no_amount, with_inflow}
-use Rattle.nf_curve.specs.Flows.{seen_flow}
+use Rattle.nf_check_rules.proofs.Common.{passes_Q, points_of, no_amount, with_inflow, seen_flow}
 use Rattle.nf_check_rules.proofs.Folding.{Folds}
 use Rattle.nf_check_rules.proofs.totals.total_out.Given as goal
 

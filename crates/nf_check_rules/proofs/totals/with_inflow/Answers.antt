@@ -1,19 +1,9 @@
+use Rattle.std.proofs.Common.{◌==◌, Ok, ◌≡◌, ℕ, List, not, map, sym, ap, subst, ◌∙◌}
+use Rattle.nf_check_rules.proofs.Common.{Grown, checked_sum, Link, Point, Checked, Gives, at_part, Check, passes_Q, ℚ, Trace, seen_flow, seen_trace}
+use Rattle.nf_check_rules.proofs.Common.{points_at, points_of}
 use Rattle.nf_check_rules.proofs.Known.{one_there}
 use Rattle.nf_check_rules.proofs.Attaining.{at_node, at_other}
 use Rattle.nf_check_rules.proofs.Keeping.{same_some}
-use Rattle.nf_curve.specs.Points.{Grown}
-use Rattle.nf_curve_def.specs.Sums.{checked_sum}
-use Rattle.nf_model.specs.Network.{Link}
-use Rattle.nf_model.specs.Curve.{Point}
-use Rattle.nf_frac_def.specs.Checked.{Checked, Gives, at_part}
-use Rattle.nf_frac_def.specs.declared.Part.TheVariants.{Check}
-use Rattle.nf_frac_def.specs.Passing.{passes_Q}
-use Rattle.nf_rational.specs.Rational.{ℚ}
-use Rattle.std.specs.Prelude.{◌==◌, Ok}
-use Rattle.nf_curve.specs.declared.flow.Trace.{Trace}
-use Rattle.nf_curve.specs.Flows.{seen_flow, seen_trace}
-use Rattle.nf_model.specs.Equilibrium.{points_at, points_of}
-use Rattle.std.proofs.Common.{◌≡◌, ℕ, List, not, map, sym, ap, subst, ◌∙◌}
 use Rattle.nf_check_rules.proofs.totals.with_inflow.Goals as goal
 
 pub trace_at-requires : goal.trace_at-requires

@@ -1,19 +1,8 @@
 use Rattle.nf_load_def.specs.Loading as lists
+use Rattle.std.proofs.Common.{◌==◌, Ok, ◌≡◌, ℕ, List, ◌<◌, not, sym, ap, subst, ◌∙◌}
+use Rattle.nf_check_rules.proofs.Common.{Grown, checked_sum, Link, Point, Checked, Gives, at_part, Check, passes_Q, ℚ, loadings_of, loaded_at, loaded_of}
 use Rattle.nf_check_rules.proofs.Attaining.{at_node, at_other}
 use Rattle.nf_check_rules.proofs.Keeping.{same_some}
-use Rattle.nf_curve.specs.Points.{Grown}
-use Rattle.nf_curve_def.specs.Sums.{checked_sum}
-use Rattle.nf_model.specs.Network.{Link}
-use Rattle.nf_model.specs.Curve.{Point}
-use Rattle.nf_frac_def.specs.Checked.{Checked, Gives, at_part}
-use Rattle.nf_frac_def.specs.declared.Part.TheVariants.{Check}
-use Rattle.nf_frac_def.specs.Passing.{passes_Q}
-use Rattle.nf_rational.specs.Rational.{ℚ}
-use Rattle.std.specs.Prelude.{◌==◌, Ok}
-use Rattle.nf_check_rules.specs.Kept.{loadings_of}
-use Rattle.nf_check_def.specs.Curves.{loaded_at}
-use Rattle.nf_load.specs.Loadings.{loaded_of}
-use Rattle.std.proofs.Common.{◌≡◌, ℕ, List, ◌<◌, not, sym, ap, subst, ◌∙◌}
 use Rattle.nf_check_rules.proofs.totals.with_outflow.Goals as goal
 
 pub loaded_at-requires : goal.loaded_at-requires

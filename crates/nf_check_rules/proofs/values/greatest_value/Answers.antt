@@ -1,9 +1,5 @@
-use Rattle.std.proofs.Common.{◌-◌, sym, subst, ◌∙◌, arith}
-use Rattle.nf_rational.specs.Rational.{ℚ}
-use Rattle.nf_rational.specs.Operations.{0ℚ}
-use Rattle.nf_rational.specs.Order.{◌≤ℚ◌}
-use Rattle.std.proofs.Common.{drop}
-use Rattle.nf_check_laws.proofs.Points.{greatest_nn}
+use Rattle.std.proofs.Common.{◌-◌, sym, subst, ◌∙◌, arith, drop}
+use Rattle.nf_check_rules.proofs.Common.{ℚ, 0ℚ, ◌≤ℚ◌, greatest_nn}
 use Rattle.nf_check_rules.proofs.PointByPoint.{greater_before}
 use Rattle.nf_check_rules.proofs.values.greatest_value.Goals as goal
 

@@ -1,5 +1,5 @@
 use Rattle.std.proofs.Common.{◌≡◌, ◌≤◌, drop, length}
-use Rattle.nf_check_def.specs.Curves.{greatest_value}
+use Rattle.nf_check_rules.proofs.Common.{greatest_value}
 use Rattle.nf_check_rules.proofs.values.greatest_value.Given as goal
 
 abbrev pub invariant-loop-left : goal.invariant-loop-left

@@ -1,10 +1,5 @@
 use Rattle.std.proofs.Common.{ℕ, ◌<◌, List, sym, ap, subst, ◌∙◌}
-use Rattle.std.specs.List.{AllByRecursion}
-use Rattle.nf_rational.specs.Operations.{0ℚ}
-use Rattle.nf_rational.specs.Order.{◌≤ℚ◌}
-use Rattle.nf_model.specs.Curve.{Point}
-use Rattle.nf_model.specs.Equilibrium.{points_at}
-use Rattle.nf_check_rules.specs.Kept.{points_of_each}
+use Rattle.nf_check_rules.proofs.Common.{AllByRecursion, 0ℚ, ◌≤ℚ◌, Point, points_at, points_of_each}
 use Rattle.nf_check_rules.proofs.Known.{all_points, below_as}
 use Rattle.nf_check_rules.proofs.worked.label_at.Goals as goal
 

@@ -1,5 +1,5 @@
 use Rattle.std.proofs.Common.{ap, ◌∙◌}
-use Rattle.nf_check_def.specs.Curves.{last_value}
+use Rattle.nf_check_rules.proofs.Common.{last_value}
 use Rattle.nf_check_rules.proofs.worked.last_label.Goals as goal
 
 pub returns-clause-value : goal.returns-clause-value

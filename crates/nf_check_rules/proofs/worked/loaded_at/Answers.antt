@@ -1,5 +1,5 @@
 use Rattle.std.proofs.Common.{refl}
-use Rattle.std.proofs.lemmas.Option.{slice_get_read}
+use Rattle.nf_check_rules.proofs.Common.{slice_get_read}
 use Rattle.nf_check_rules.proofs.ByNumber.{loaded_there}
 use Rattle.nf_check_rules.proofs.worked.loaded_at.Goals as goal
 

@@ -1,15 +1,8 @@
-use Rattle.std.proofs.Common.{◌≡◌, List, length, sym, ap, subst, refl, ◌∙◌}
-use Rattle.std.specs.Prelude.{Ok}
-use Rattle.std.proofs.Common.{Vec, Global}
-use Rattle.std.proofs.lemmas.Result.{err_from_is_err_and}
-use Rattle.nf_rational.specs.Rational.{ℚ}
-use Rattle.nf_frac_def.specs.Passing.{passes_Q}
-use Rattle.nf_complete_def.specs.Cancelling.{cancel_list, Cancels}
-use Rattle.nf_complete_def.specs.Interior.{IsNextCycle}
-use Rattle.nf_complete_conditions.proofs.Filling.{fulls_count}
-use Rattle.nf_complete_conditions.proofs.Telling.{value_of}
-use Rattle.nf_complete.specs.NextCycles.{AreForestBelow, ClosesNext}
-use Rattle.nf_complete.proofs.CancelsOn.{interior_found, interior_known, closes_at, none_at, known_first, known_on, list_at, halts_of, cancels_first, cancels_more, cancels_end, cancels_stop, fewer_interior}
+use Rattle.std.proofs.Common.{◌≡◌, List, length, sym, ap, subst, refl, ◌∙◌, Ok, Vec, Global}
+use Rattle.nf_complete.proofs.Common.{err_from_is_err_and, ℚ, passes_Q, cancel_list, Cancels, IsNextCycle, fulls_count, value_of, AreForestBelow}
+use Rattle.nf_complete.proofs.Common.{ClosesNext}
+use Rattle.nf_complete.proofs.CancelsOn.{interior_found, interior_known, closes_at, none_at, known_first, known_on, list_at, halts_of, cancels_first}
+use Rattle.nf_complete.proofs.CancelsOn.{cancels_more, cancels_end, cancels_stop, fewer_interior}
 use Rattle.nf_complete.proofs.settling.cancelled.Goals as goal
 
 pub loop-new-init : goal.loop-new-init

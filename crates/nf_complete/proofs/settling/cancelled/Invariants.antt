@@ -1,10 +1,5 @@
 use Rattle.std.proofs.Common.{List}
-use Rattle.nf_rational.specs.Rational.{ℚ}
-use Rattle.nf_frac_def.specs.Passing.{passes_Q}
-use Rattle.nf_complete_conditions.specs.InteriorFlags.{interior_flags}
-use Rattle.nf_complete_conditions.proofs.Interiors.{set_count}
-use Rattle.nf_complete.specs.NextCycles.{AreForestBelow}
-use Rattle.nf_complete.specs.Settling.{IsThinWithFulls}
+use Rattle.nf_complete.proofs.Common.{ℚ, passes_Q, interior_flags, set_count, AreForestBelow, IsThinWithFulls}
 use Rattle.nf_complete.proofs.CancelsOn.{CancelsOn}
 use Rattle.nf_complete.proofs.settling.cancelled.Given as goal
 

@@ -1,13 +1,7 @@
-use Rattle.std.proofs.Common.{◌<◌, List, Bool, length, sym, ap, subst, ◌∙◌}
-use Rattle.std.specs.Prelude.{IfOk, MatchOption}
-use Rattle.nf_model.specs.Entries.{Has}
+use Rattle.std.proofs.Common.{◌<◌, List, Bool, length, sym, ap, subst, ◌∙◌, IfOk, MatchOption}
+use Rattle.nf_complete.proofs.Common.{Has, hops, IsForest, ClosesFirst, flags_by_flows, few_hops}
 use Rattle.nf_model.specs.Walk.{Hop}
-use Rattle.nf_model.specs.Network.{hops}
-use Rattle.nf_model.specs.Pattern.{IsForest}
-use Rattle.nf_complete_cycles.specs.Cycles.{ClosesFirst}
-use Rattle.nf_complete_conditions.proofs.Interiors.{flags_by_flows}
 use Rattle.nf_graph.proofs.NetworkHops.{hops_length, below_nodes}
-use Rattle.nf_net.proofs.Limits.{few_hops}
 use Rattle.nf_complete.proofs.settling.next_cycle.Goals as goal
 
 pub interior-requires-clause-fulls : goal.interior-requires-clause-fulls

@@ -1,12 +1,6 @@
 use Rattle.std.proofs.Common.{◌∙◌, List, length, Vec, Global, ap, subst, arith}
-use Rattle.std.proofs.lemmas.Result.{IfOk-from_err, err_from_is_err_and}
-use Rattle.nf_rational.specs.Rational.{ℚ}
-use Rattle.nf_frac_def.specs.Passing.{passes_Q}
-use Rattle.nf_complete_def.specs.Cancelling.{fulls_list, Settles}
-use Rattle.nf_complete_def.specs.SettledPattern.{IsSettledPattern}
+use Rattle.nf_complete.proofs.Common.{IfOk-from_err, err_from_is_err_and, ℚ, passes_Q, fulls_list, Settles, IsSettledPattern, few_links, fulls_count}
 use Rattle.nf_complete.specs.declared.settled.Settled.{Settled}
-use Rattle.nf_net.proofs.Limits.{few_links}
-use Rattle.nf_complete_conditions.proofs.Filling.{fulls_count}
 use Rattle.nf_complete.proofs.GoodSets.{good_sets}
 use Rattle.nf_complete.proofs.CancelsOn.{halts_of, settles_stop, settles_on, fulls_read, with_fulls, settled_by, settled_listed, settled_solution}
 use Rattle.nf_complete.proofs.settling.settle.Goals as goal

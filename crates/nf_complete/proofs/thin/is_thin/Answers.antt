@@ -1,8 +1,5 @@
-use Rattle.std.proofs.Common.{Bool, ◌&&◌, sym, ap, subst, ◌∙◌}
-use Rattle.std.specs.Prelude.{MatchBool}
-use Rattle.std.proofs.lemmas.Result.{IfOk-from_err, err_from_is_err_and}
-use Rattle.nf_frac_def.specs.Passing.{passes_Q}
-use Rattle.nf_model.specs.ThinFlow.{IsThinFlow}
+use Rattle.std.proofs.Common.{Bool, ◌&&◌, sym, ap, subst, ◌∙◌, MatchBool}
+use Rattle.nf_complete.proofs.Common.{IfOk-from_err, err_from_is_err_and, passes_Q, IsThinFlow}
 use Rattle.nf_complete.proofs.GoodSets.{good_sets}
 use Rattle.nf_complete.proofs.ThinAnswers.{balances_pass, slopes_pass, none_passes, thin_told}
 use Rattle.nf_complete.proofs.thin.is_thin.Goals as goal

@@ -1,5 +1,5 @@
 use Rattle.std.proofs.Common.{◌≡◌, ◌<◌, ap, ◌∙◌, arith}
-use Rattle.nf_model.specs.Network.{Link}
+use Rattle.nf_complete_conditions.proofs.Common.{Link}
 use Rattle.nf_complete_conditions.proofs.filled.full_at.Goals as goal
 
 pub link-here-requires : goal.link-here-requires

@@ -1,9 +1,5 @@
 use Rattle.std.proofs.Common.{Option, sym, ap, ◌∙◌}
-use Rattle.nf_rational.specs.Rational.{ℚ}
-use Rattle.nf_frac_def.specs.Passing.{passes_Q}
-use Rattle.nf_frac_def.specs.declared.Part.TheVariants.{Verdict}
-use Rattle.nf_frac_def.specs.Checked.{at_part}
-use Rattle.nf_complete_def.specs.Cancelling.{full_on}
+use Rattle.nf_complete_conditions.proofs.Common.{ℚ, passes_Q, Verdict, at_part, full_on}
 use Rattle.nf_complete_conditions.proofs.Filling.{full_none}
 use Rattle.nf_complete_conditions.proofs.filled.full_of.Goals as goal
 

@@ -1,10 +1,6 @@
 use Rattle.std.proofs.Common.{arith}
-use Rattle.std.proofs.lemmas.Result.{err_from_is_err_and}
-use Rattle.nf_frac_def.specs.Passing.{passes_Q}
-use Rattle.nf_frac_def.specs.declared.Part.TheVariants.{Verdict}
-use Rattle.nf_rational_laws.proofs.Entries.{entry}
-use Rattle.nf_complete_def.specs.Cancelling.{full_at, fulls_list}
-use Rattle.nf_thin_laws.proofs.Numbered.{one_more, one_passes, all_done}
+use Rattle.nf_complete_conditions.proofs.Common.{err_from_is_err_and, passes_Q, Verdict, entry, full_at, one_more, one_passes, all_done}
+use Rattle.nf_complete_def.specs.Cancelling.{fulls_list}
 use Rattle.nf_complete_conditions.proofs.filled.fulls.Goals as goal
 
 pub returns-in_err-full : goal.returns-in_err-full

@@ -1,6 +1,4 @@
-use Rattle.nf_frac_def.specs.Passing.{passes_Q}
-use Rattle.nf_complete_def.specs.Cancelling.{full_at}
-use Rattle.nf_thin_laws.proofs.Numbered.{SoFar}
+use Rattle.nf_complete_conditions.proofs.Common.{passes_Q, full_at, SoFar}
 use Rattle.nf_complete_conditions.proofs.filled.fulls.Given as goal
 
 -- the flows that fill the links so far precede those of the other links

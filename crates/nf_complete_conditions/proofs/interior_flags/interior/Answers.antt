@@ -1,6 +1,6 @@
 use Rattle.std.proofs.Common.{arith}
+use Rattle.nf_complete_conditions.proofs.Common.{interior_flags}
 use Rattle.nf_pattern.proofs.Each.{take_pushed}
-use Rattle.nf_complete_conditions.specs.InteriorFlags.{interior_flags}
 use Rattle.nf_complete_conditions.proofs.Interiors.{test_at, flags_whole}
 use Rattle.nf_complete_conditions.proofs.interior_flags.interior.Goals as goal
 

@@ -1,6 +1,5 @@
-use Rattle.std.proofs.Common.{◌≡◌}
-use Rattle.std.specs.Prelude.{take}
-use Rattle.nf_complete_conditions.specs.InteriorFlags.{interior_flags}
+use Rattle.std.proofs.Common.{◌≡◌, take}
+use Rattle.nf_complete_conditions.proofs.Common.{interior_flags}
 use Rattle.nf_complete_conditions.proofs.interior_flags.interior.Given as goal
 
 -- the flags of the links so far

@@ -1,8 +1,5 @@
 use Rattle.std.proofs.Common.{ap, ◌∙◌}
-use Rattle.nf_rational.specs.Rational.{ℚ}
-use Rattle.nf_model.specs.Entries.{number_at}
-use Rattle.nf_model.specs.Network.{Link}
-use Rattle.nf_complete_conditions.specs.Testing.{same_test}
+use Rattle.nf_complete_conditions.proofs.Common.{ℚ, number_at, Link, same_test}
 use Rattle.nf_complete_conditions.proofs.LinkAnswers.{level_told}
 use Rattle.nf_complete_conditions.proofs.leading.is_level.Goals as goal
 

@@ -1,5 +1,5 @@
 use Rattle.std.proofs.Common.{ℕ, Bool, Some, eqb, ap, ◌∙◌}
-use Rattle.nf_model.specs.Network.{Link}
+use Rattle.nf_complete_conditions.proofs.Common.{Link}
 use Rattle.nf_complete_conditions.proofs.LinkAnswers.{leads_told}
 use Rattle.nf_complete_conditions.proofs.leading.leads_into.Goals as goal
 

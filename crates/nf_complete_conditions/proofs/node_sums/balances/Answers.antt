@@ -1,13 +1,6 @@
-use Rattle.std.proofs.Common.{arith}
-use Rattle.std.specs.List.{range_with_len}
-use Rattle.std.proofs.lemmas.List.FromFn.{length-range_with_len}
-use Rattle.std.proofs.lemmas.Result.{err_from_is_err_and}
-use Rattle.std.specs.Prelude.{Ok}
-use Rattle.nf_frac_def.specs.Passing.{passes_Q}
-use Rattle.nf_frac_def.specs.Checked.{each}
-use Rattle.nf_complete_def.specs.ThinList.{sums_at}
-use Rattle.nf_rational_laws.proofs.Entries.{slice_get-below}
-use Rattle.nf_complete_conditions.specs.ThinParts.{IsBalanced}
+use Rattle.std.proofs.Common.{arith, Ok}
+use Rattle.nf_complete_conditions.proofs.Common.{range_with_len, length-range_with_len, err_from_is_err_and, passes_Q, each, sums_at, slice_get-below}
+use Rattle.nf_complete_conditions.proofs.Common.{IsBalanced}
 use Rattle.nf_complete_conditions.proofs.Telling.{each_node, node_each, tells_like, told_more, told_stops, told_all}
 use Rattle.nf_complete_conditions.proofs.node_sums.balances.Goals as goal
 

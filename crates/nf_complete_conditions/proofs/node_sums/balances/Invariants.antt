@@ -1,7 +1,4 @@
-use Rattle.std.specs.List.{range_with_len}
-use Rattle.nf_frac_def.specs.Passing.{passes_Q}
-use Rattle.nf_complete_def.specs.ThinList.{sums_at}
-use Rattle.nf_complete_conditions.specs.ThinParts.{IsBalanced}
+use Rattle.nf_complete_conditions.proofs.Common.{range_with_len, passes_Q, sums_at, IsBalanced}
 use Rattle.nf_complete_conditions.proofs.Telling.{ToldBelow}
 use Rattle.nf_complete_conditions.proofs.node_sums.balances.Given as goal
 

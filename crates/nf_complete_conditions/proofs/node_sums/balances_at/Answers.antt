@@ -1,11 +1,5 @@
 use Rattle.std.proofs.Common.{Bool, eqb, if◌then◌else◌, ap, ◌∙◌}
-use Rattle.std.proofs.lemmas.Result.{err_from_is_err_and}
-use Rattle.nf_rational.specs.Rational.{ℚ}
-use Rattle.nf_frac_def.specs.Passing.{passes_Q}
-use Rattle.nf_frac_def.specs.Checked.{at_part}
-use Rattle.nf_frac_def.specs.declared.Part.TheVariants.{Verdict}
-use Rattle.nf_complete_def.specs.ThinList.{with_rate}
-use Rattle.nf_complete_conditions.specs.Testing.{same_test}
+use Rattle.nf_complete_conditions.proofs.Common.{err_from_is_err_and, ℚ, passes_Q, at_part, Verdict, with_rate, same_test}
 use Rattle.nf_complete_conditions.proofs.Balancing.{stay_passes, balance_told}
 use Rattle.nf_complete_conditions.proofs.node_sums.balances_at.Goals as goal
 

@@ -1,9 +1,5 @@
-use Rattle.std.proofs.Common.{arith}
-use Rattle.std.specs.Prelude.{Ok, Err}
-use Rattle.std.proofs.lemmas.Result.{err_from_is_err_and}
-use Rattle.nf_rational.specs.Operations.{0ℚ}
-use Rattle.nf_frac_def.specs.Passing.{passes_Q}
-use Rattle.nf_complete_conditions.specs.NodeSums.{more_at}
+use Rattle.std.proofs.Common.{arith, Ok, Err}
+use Rattle.nf_complete_conditions.proofs.Common.{err_from_is_err_and, 0ℚ, passes_Q, more_at}
 use Rattle.nf_complete_conditions.proofs.Balancing.{more_told}
 use Rattle.nf_complete_conditions.proofs.LinkByLink.{adds_on, adding_stops, adding_ends}
 use Rattle.nf_complete_conditions.proofs.node_sums.flow_at.Goals as goal

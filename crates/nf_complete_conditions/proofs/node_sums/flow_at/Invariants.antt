@@ -1,7 +1,4 @@
-use Rattle.nf_rational.specs.Rational.{ℚ}
-use Rattle.nf_rational.specs.Operations.{0ℚ}
-use Rattle.nf_frac_def.specs.Passing.{passes_Q}
-use Rattle.nf_complete_conditions.specs.NodeSums.{more_at}
+use Rattle.nf_complete_conditions.proofs.Common.{ℚ, 0ℚ, passes_Q, more_at}
 use Rattle.nf_complete_conditions.proofs.LinkByLink.{SoFar}
 use Rattle.nf_complete_conditions.proofs.node_sums.flow_at.Given as goal
 

@@ -1,8 +1,5 @@
 use Rattle.std.proofs.Common.{ℕ, eqb, sym, ap, ◌∙◌}
-use Rattle.nf_model.specs.Network.{Link}
-use Rattle.nf_model_laws.proofs.Networks.{IsLink-unique}
-use Rattle.nf_complete_conditions.specs.declared.node_sums.End.{End}
-use Rattle.nf_complete_conditions.specs.NodeSums.{node_by}
+use Rattle.nf_complete_conditions.proofs.Common.{Link, IsLink-unique, End, node_by}
 use Rattle.nf_complete_conditions.proofs.node_sums.is_at.Goals as goal
 
 pub returns-in-Head : goal.returns-in-Head

@@ -1,7 +1,5 @@
 use Rattle.std.proofs.Common.{ap, ◌∙◌}
-use Rattle.nf_rational.specs.Rational.{ℚ}
-use Rattle.nf_model.specs.Entries.{number_at}
-use Rattle.nf_complete_conditions.specs.Testing.{same_test}
+use Rattle.nf_complete_conditions.proofs.Common.{ℚ, number_at, same_test}
 use Rattle.nf_complete_conditions.proofs.Deciding.{not_set_by}
 use Rattle.nf_complete_conditions.proofs.LinkAnswers.{carries_told}
 use Rattle.nf_complete_conditions.proofs.proper.carries_if_active.Goals as goal

@@ -1,9 +1,5 @@
 use Rattle.std.proofs.Common.{◌<◌, ◌≤◌, ℕ, length, List, below_more, arith, ⊎_elim}
-use Rattle.std.proofs.lemmas.Bool.{cases_lt}
-use Rattle.nf_rational.specs.Rational.{ℚ}
-use Rattle.nf_thin_laws.proofs.Flags.{number_at-beyond}
-use Rattle.nf_model.specs.ThinFlow.{Sets}
-use Rattle.nf_complete_conditions.specs.ThinParts.{CarriesIfActive, CarriesOnActive}
+use Rattle.nf_complete_conditions.proofs.Common.{cases_lt, ℚ, number_at-beyond, Sets, CarriesIfActive, CarriesOnActive}
 use Rattle.nf_complete_conditions.proofs.proper.carries_on_active.Goals as goal
 
 pub returns-then-not-carries_if_active : goal.returns-then-not-carries_if_active

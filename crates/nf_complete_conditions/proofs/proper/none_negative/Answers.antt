@@ -1,13 +1,5 @@
 use Rattle.std.proofs.Common.{◌<◌, ◌≤◌, ℕ, length, List, below_more, arith, ⊎_elim, sym, subst}
-use Rattle.std.proofs.lemmas.Bool.{cases_lt}
-use Rattle.nf_rational.specs.Rational.{ℚ}
-use Rattle.nf_rational.specs.Operations.{0ℚ}
-use Rattle.nf_rational.specs.Order.{◌≤ℚ◌}
-use Rattle.nf_rational_laws.proofs.Order.{not_both_ℚ}
-use Rattle.nf_rational_laws.proofs.Chains.{≤ℚ_refl}
-use Rattle.nf_rational_laws.proofs.Tests.{negative_of, not_negative_of}
-use Rattle.nf_model.specs.Entries.{number_at}
-use Rattle.nf_thin_laws.proofs.Flags.{number_at-beyond}
+use Rattle.nf_complete_conditions.proofs.Common.{cases_lt, ℚ, 0ℚ, ◌≤ℚ◌, not_both_ℚ, ≤ℚ_refl, negative_of, not_negative_of, number_at, number_at-beyond}
 use Rattle.nf_complete_conditions.proofs.proper.none_negative.Goals as goal
 
 pub returns-then-is_negative_at : goal.returns-then-is_negative_at

@@ -1,7 +1,5 @@
 use Rattle.std.proofs.Common.{ℕ, ◌<◌}
-use Rattle.nf_rational.specs.Operations.{0ℚ}
-use Rattle.nf_rational.specs.Order.{◌≤ℚ◌}
-use Rattle.nf_model.specs.Entries.{number_at}
+use Rattle.nf_complete_conditions.proofs.Common.{0ℚ, ◌≤ℚ◌, number_at}
 use Rattle.nf_complete_conditions.proofs.proper.none_negative.Given as goal
 
 abbrev pub invariant-loop-i : goal.invariant-loop-i

@@ -1,8 +1,5 @@
 use Rattle.std.proofs.Common.{ap, ◌∙◌}
-use Rattle.nf_rational.specs.Rational.{ℚ}
-use Rattle.nf_rational.specs.Operations.{1ℚ}
-use Rattle.nf_model.specs.Entries.{number_at}
-use Rattle.nf_complete_conditions.specs.Testing.{same_test}
+use Rattle.nf_complete_conditions.proofs.Common.{ℚ, 1ℚ, number_at, same_test}
 use Rattle.nf_complete_conditions.proofs.Deciding.{says_by, Decides-same}
 use Rattle.nf_complete_conditions.proofs.proper.starts.Goals as goal
 

@@ -1,14 +1,6 @@
-use Rattle.std.proofs.Common.{ℕ, arith}
-use Rattle.std.specs.List.{enumerate_from}
-use Rattle.std.proofs.lemmas.List.FromFn.{length-enumerate_from}
-use Rattle.std.proofs.lemmas.Result.{err_from_is_err_and}
-use Rattle.std.specs.Prelude.{Ok}
-use Rattle.nf_frac_def.specs.Passing.{passes_Q}
-use Rattle.nf_frac_def.specs.Checked.{each}
-use Rattle.nf_model.specs.Network.{Link}
-use Rattle.nf_rational_laws.proofs.Entries.{entry}
-use Rattle.nf_complete_def.specs.Cancelling.{full_at, fulls_list}
-use Rattle.nf_complete_conditions.specs.ThinParts.{KeepsAt}
+use Rattle.std.proofs.Common.{ℕ, arith, Ok}
+use Rattle.nf_complete_conditions.proofs.Common.{enumerate_from, length-enumerate_from, err_from_is_err_and, passes_Q, each, Link, entry, full_at, KeepsAt}
+use Rattle.nf_complete_def.specs.Cancelling.{fulls_list}
 use Rattle.nf_complete_conditions.proofs.Telling.{link_at, each_link, link_each, tells_like, told_more, told_stops, told_all}
 use Rattle.nf_complete_conditions.proofs.slopes.keep_slopes.Goals as goal
 

@@ -1,7 +1,4 @@
-use Rattle.std.specs.List.{enumerate_from}
-use Rattle.nf_frac_def.specs.Passing.{passes_Q}
-use Rattle.nf_complete_def.specs.Cancelling.{full_at}
-use Rattle.nf_complete_conditions.specs.ThinParts.{KeepsAt}
+use Rattle.nf_complete_conditions.proofs.Common.{enumerate_from, passes_Q, full_at, KeepsAt}
 use Rattle.nf_complete_conditions.proofs.Telling.{ToldBelow}
 use Rattle.nf_complete_conditions.proofs.slopes.keep_slopes.Given as goal
 

@@ -1,10 +1,5 @@
 use Rattle.std.proofs.Common.{◌||◌, ◌<◌, not, ap, ◌∙◌, arith}
-use Rattle.nf_rational.specs.Rational.{ℚ}
-use Rattle.nf_frac_def.specs.Passing.{passes_Q}
-use Rattle.nf_model.specs.Entries.{number_at}
-use Rattle.nf_model.specs.Network.{Link}
-use Rattle.nf_model_laws.proofs.Networks.{IsLink-unique}
-use Rattle.nf_complete_conditions.specs.ThinParts.{keeps_test}
+use Rattle.nf_complete_conditions.proofs.Common.{ℚ, passes_Q, number_at, Link, IsLink-unique, keeps_test}
 use Rattle.nf_complete_conditions.proofs.Filling.{keeps_told}
 use Rattle.nf_complete_conditions.proofs.slopes.keeps_at.Goals as goal
 

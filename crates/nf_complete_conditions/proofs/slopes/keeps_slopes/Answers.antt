@@ -1,6 +1,5 @@
 use Rattle.std.proofs.Common.{Option, sym, ap, ◌∙◌}
-use Rattle.nf_rational.specs.Rational.{ℚ}
-use Rattle.nf_complete_conditions.specs.ThinParts.{keeps_test}
+use Rattle.nf_complete_conditions.proofs.Common.{ℚ, keeps_test}
 use Rattle.nf_complete_conditions.proofs.slopes.keeps_slopes.Goals as goal
 
 pub returns-in-None : goal.returns-in-None

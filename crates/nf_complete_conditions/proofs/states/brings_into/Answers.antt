@@ -1,5 +1,4 @@
-use Rattle.nf_complete_conditions.specs.ThinParts.{LeadsInto, Brings}
-use Rattle.nf_complete_conditions.specs.States.{BringsInto}
+use Rattle.nf_complete_conditions.proofs.Common.{LeadsInto, Brings, BringsInto}
 use Rattle.nf_complete_conditions.proofs.Deciding.{says_like}
 use Rattle.nf_complete_conditions.proofs.states.brings_into.Goals as goal
 

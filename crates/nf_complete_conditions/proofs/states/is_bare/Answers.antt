@@ -1,6 +1,5 @@
 use Rattle.std.proofs.Common.{ℕ, below_more, arith}
-use Rattle.std.proofs.lemmas.Bool.Decides.{nat_tests}
-use Rattle.nf_complete_conditions.specs.States.{BringsInto}
+use Rattle.nf_complete_conditions.proofs.Common.{nat_tests, BringsInto}
 use Rattle.nf_complete_conditions.proofs.Stating.{bare_made, not_bare}
 use Rattle.nf_complete_conditions.proofs.states.is_bare.Goals as goal
 

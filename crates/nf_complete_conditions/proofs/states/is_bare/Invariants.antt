@@ -1,5 +1,5 @@
 use Rattle.std.proofs.Common.{ℕ, ◌<◌}
-use Rattle.nf_complete_conditions.specs.States.{BringsInto}
+use Rattle.nf_complete_conditions.proofs.Common.{BringsInto}
 use Rattle.nf_complete_conditions.proofs.states.is_bare.Given as goal
 
 -- none of the links so far enters the node and is resetting or carries flow

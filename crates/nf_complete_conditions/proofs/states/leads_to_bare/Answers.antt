@@ -1,6 +1,5 @@
 use Rattle.std.proofs.Common.{ap, ◌∙◌}
-use Rattle.nf_model.specs.Network.{Link}
-use Rattle.nf_model_laws.proofs.Networks.{IsLink-unique}
+use Rattle.nf_complete_conditions.proofs.Common.{Link, IsLink-unique}
 use Rattle.nf_complete_conditions.proofs.Stating.{leads_level, leads_bare, leads_told}
 use Rattle.nf_complete_conditions.proofs.states.leads_to_bare.Goals as goal
 

@@ -1,5 +1,5 @@
 use Rattle.std.proofs.Common.{ℕ, below_more, arith}
-use Rattle.nf_complete_conditions.specs.States.{LevelInto}
+use Rattle.nf_complete_conditions.proofs.Common.{LevelInto}
 use Rattle.nf_complete_conditions.proofs.states.none_level_before.Goals as goal
 
 pub returns-then-is_level_into : goal.returns-then-is_level_into

@@ -1,5 +1,5 @@
 use Rattle.std.proofs.Common.{ℕ, ◌<◌}
-use Rattle.nf_complete_conditions.specs.States.{LevelInto}
+use Rattle.nf_complete_conditions.proofs.Common.{LevelInto}
 use Rattle.nf_complete_conditions.proofs.states.none_level_before.Given as goal
 
 -- none of the links so far has equal slopes

@@ -1,9 +1,5 @@
 use Rattle.std.proofs.Common.{◌≡◌, Option, sym, ap, ◌∙◌, arith}
-use Rattle.nf_rational.specs.Rational.{ℚ}
-use Rattle.nf_rational.specs.Operations.{0ℚ}
-use Rattle.nf_frac_def.specs.Passing.{passes_Q}
-use Rattle.nf_model.specs.Entries.{number_at}
-use Rattle.nf_complete_conditions.specs.States.{full_test}
+use Rattle.nf_complete_conditions.proofs.Common.{ℚ, 0ℚ, passes_Q, number_at, full_test}
 use Rattle.nf_complete_conditions.proofs.Deciding.{Decides-same, not_same}
 use Rattle.nf_complete_conditions.proofs.Filling.{fulls_count}
 use Rattle.nf_complete_conditions.proofs.Stating.{read_full, empty_led, empty_zero, full_state, between_state}

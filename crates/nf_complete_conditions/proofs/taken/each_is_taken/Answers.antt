@@ -1,6 +1,5 @@
 use Rattle.std.proofs.Common.{◌≢◌, ℕ, below_more, arith}
-use Rattle.std.proofs.lemmas.Bool.Decides.{nat_tests}
-use Rattle.nf_complete_conditions.specs.ThinParts.{Takes}
+use Rattle.nf_complete_conditions.proofs.Common.{nat_tests, Takes}
 use Rattle.nf_complete_conditions.proofs.taken.each_is_taken.Goals.{then-ne+else-not-is_taken, else-ne}
 use Rattle.nf_complete_conditions.proofs.taken.each_is_taken.Goals as goal
 

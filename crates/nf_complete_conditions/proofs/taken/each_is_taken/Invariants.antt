@@ -1,5 +1,5 @@
 use Rattle.std.proofs.Common.{◌≢◌, ℕ, ◌<◌}
-use Rattle.nf_complete_conditions.specs.ThinParts.{Takes}
+use Rattle.nf_complete_conditions.proofs.Common.{Takes}
 use Rattle.nf_complete_conditions.proofs.taken.each_is_taken.Given as goal
 
 -- the nodes so far take their slopes from links

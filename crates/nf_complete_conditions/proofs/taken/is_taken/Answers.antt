@@ -1,6 +1,5 @@
 use Rattle.std.proofs.Common.{ℕ, ◌<◌, length, below_more, arith}
-use Rattle.std.proofs.lemmas.Option.{slice_get_within}
-use Rattle.nf_complete_conditions.specs.ThinParts.{Takes}
+use Rattle.nf_complete_conditions.proofs.Common.{slice_get_within, Takes}
 use Rattle.nf_complete_conditions.proofs.taken.is_taken.Goals as goal
 
 pub takes-requires-clause-sets : goal.takes-requires-clause-sets

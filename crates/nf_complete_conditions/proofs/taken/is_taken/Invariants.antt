@@ -1,5 +1,5 @@
 use Rattle.std.proofs.Common.{ℕ, ◌<◌}
-use Rattle.nf_complete_conditions.specs.ThinParts.{Takes}
+use Rattle.nf_complete_conditions.proofs.Common.{Takes}
 use Rattle.nf_complete_conditions.proofs.taken.is_taken.Given as goal
 
 -- the node takes its slope from none of the links so far

@@ -1,5 +1,5 @@
 use Rattle.std.proofs.Common.{inl, sym, ◌∙◌, arith}
-use Rattle.nf_complete_conditions.specs.ThinParts.{LeadsInto, IsLevelAt, Brings}
+use Rattle.nf_complete_conditions.proofs.Common.{LeadsInto, IsLevelAt, Brings}
 use Rattle.nf_complete_conditions.proofs.Deciding.{third_decides}
 use Rattle.nf_complete_conditions.proofs.taken.takes.Goals as goal
 

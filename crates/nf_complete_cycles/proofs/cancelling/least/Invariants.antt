@@ -1,5 +1,5 @@
 use Rattle.std.proofs.Common.{◌≡◌, ◌-◌, length, drop}
-use Rattle.nf_complete_def.specs.Cancelling.{least_room}
+use Rattle.nf_complete_cycles.proofs.Common.{least_room}
 use Rattle.nf_complete_cycles.proofs.cancelling.least.Given as goal
 
 -- the least of the last rooms

@@ -1,10 +1,5 @@
 use Rattle.std.proofs.Common.{◌<◌, length, refl, arith}
-use Rattle.std.proofs.lemmas.Option.{slice_get_read}
-use Rattle.std.proofs.lemmas.Result.{err_from_is_err_and}
-use Rattle.nf_frac_def.specs.Passing.{passes_Q}
-use Rattle.nf_frac_def.specs.declared.Part.TheVariants.{Verdict}
-use Rattle.nf_complete_def.specs.Cancelling.{room_at}
-use Rattle.nf_thin_laws.proofs.Numbered.{one_more, one_passes, all_done}
+use Rattle.nf_complete_cycles.proofs.Common.{slice_get_read, err_from_is_err_and, passes_Q, Verdict, room_at, one_more, one_passes, all_done}
 use Rattle.nf_complete_cycles.proofs.cancelling.rooms.Goals as goal
 
 pub returns-in_err-next : goal.returns-in_err-next

@@ -1,5 +1,5 @@
 use Rattle.std.proofs.Common.{◌≡◌, drop}
-use Rattle.nf_complete_def.specs.Interior.{turn_of}
+use Rattle.nf_complete_cycles.proofs.Common.{turn_of}
 use Rattle.nf_complete_cycles.proofs.cancelling.turn.Given as goal
 
 abbrev pub invariant-loop-step : goal.invariant-loop-step

@@ -1,13 +1,8 @@
-use Rattle.std.proofs.Common.{◌<◌, length, ap, subst, ◌∙◌, arith, ℕ, ◌+◌, List, Bool, sym, refl}
-use Rattle.std.proofs.lemmas.Result.{IfOk-from_err}
-use Rattle.std.specs.Prelude.{MatchOption}
-use Rattle.nf_model.specs.Walk.{Hop, IsHop}
-use Rattle.nf_graph.proofs.Flags.{Has_from_read, not_Has_from_read}
-use Rattle.nf_graph.proofs.Walks.{IsHop-read}
-use Rattle.nf_complete_cycles.specs.Trees.{IsWay, AreApart}
-use Rattle.nf_complete_cycles.specs.Cycles.{IsClosedTrail}
+use Rattle.std.proofs.Common.{◌<◌, length, ap, subst, ◌∙◌, arith, ℕ, ◌+◌, List, Bool, sym, refl, MatchOption}
+use Rattle.nf_complete_cycles.proofs.Common.{IfOk-from_err, Hop, IsHop, Has_from_read, not_Has_from_read, IsHop-read, IsWay, AreApart, IsClosedTrail}
 use Rattle.nf_complete_cycles.proofs.Cycling.{AreBefore, before_first, before_same, before_more, before_known, forest_before, closed-way, forest-end}
-use Rattle.nf_complete_cycles.proofs.cycle.first_cycle.Goals.{then-chosen-e+then-e-known, else-chosen-e+then-chosen-e-2+in_ok-steps+in-None, else-chosen-e+else-chosen-e-2}
+use Rattle.nf_complete_cycles.proofs.cycle.first_cycle.Goals.{then-chosen-e+then-e-known, else-chosen-e+then-chosen-e-2+in_ok-steps+in-None}
+use Rattle.nf_complete_cycles.proofs.cycle.first_cycle.Goals.{else-chosen-e+else-chosen-e-2}
 use Rattle.nf_complete_cycles.proofs.cycle.first_cycle.Goals as goal
 
 pub returns-in_err-before : goal.returns-in_err-before

@@ -1,6 +1,5 @@
-use Rattle.std.proofs.Common.{◌≡◌, drop}
-use Rattle.std.specs.Prelude.{None}
-use Rattle.nf_complete_cycles.specs.Cycles.{lowest_from}
+use Rattle.std.proofs.Common.{◌≡◌, drop, None}
+use Rattle.nf_complete_cycles.proofs.Common.{lowest_from}
 use Rattle.nf_complete_cycles.proofs.cycle.lowest.Given as goal
 
 abbrev pub invariant-loop-step : goal.invariant-loop-step

@@ -1,7 +1,5 @@
 use Rattle.std.proofs.Common.{ℕ, List, Bool, ap, sym, ◌∙◌}
-use Rattle.std.proofs.Math.ListN.{drop_of_length-le}
-use Rattle.std.proofs.lemmas.Result.{IfOk-from_err}
-use Rattle.nf_complete_cycles.specs.Cycles.{round_onto}
+use Rattle.nf_complete_cycles.proofs.Common.{drop_of_length-le, IfOk-from_err, round_onto}
 use Rattle.nf_complete_cycles.proofs.Rounding.{round_more}
 use Rattle.nf_complete_cycles.proofs.cycle.rounded.Goals as goal
 

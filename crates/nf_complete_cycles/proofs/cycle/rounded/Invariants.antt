@@ -1,5 +1,5 @@
 use Rattle.std.proofs.Common.{◌≡◌, [], drop}
-use Rattle.nf_complete_cycles.specs.Cycles.{round_onto}
+use Rattle.nf_complete_cycles.proofs.Common.{round_onto}
 use Rattle.nf_complete_cycles.proofs.cycle.rounded.Given as goal
 
 abbrev pub invariant-loop-step : goal.invariant-loop-step

@@ -1,6 +1,5 @@
 use Rattle.std.proofs.Common.{ℕ, List, [], Bool, None, sym, ap, subst, ◌∙◌}
-use Rattle.std.proofs.lemmas.Bool.{not-true}
-use Rattle.nf_complete_cycles.specs.Cycles.{IsFirstCycle, round_onto, lowest_from}
+use Rattle.nf_complete_cycles.proofs.Common.{not-true, IsFirstCycle, round_onto, lowest_from}
 use Rattle.nf_complete_cycles.proofs.Cycling.{lowest-none, kept-forward, turned-forward, if-ok, not_false}
 use Rattle.nf_complete_cycles.proofs.cycle.with_lowest_forward.Goals as goal
 use Rattle.nf_complete_cycles.proofs.cycle.with_lowest_forward.Goals.{in-Some+else-not-least, in_default}

@@ -1,7 +1,5 @@
 use Rattle.std.proofs.Common.{◌≡◌, ℕ, ap, sym, subst, ◌∙◌, arith}
-use Rattle.nf_model.specs.Entries.{Has}
-use Rattle.nf_model.specs.Walk.{Hop}
-use Rattle.nf_graph.proofs.Flags.{Has_from_read, not_Has_from_read}
+use Rattle.nf_complete_cycles.proofs.Common.{Has, Hop, Has_from_read, not_Has_from_read}
 use Rattle.nf_complete_cycles.proofs.way.crossing.Goals as goal
 
 pub bounds-flags-index : goal.bounds-flags-index

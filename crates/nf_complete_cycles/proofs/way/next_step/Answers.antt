@@ -1,8 +1,5 @@
 use Rattle.std.proofs.Common.{ℕ, Bool, below_more, subst, arith}
-use Rattle.nf_model.specs.Walk.{Hop}
-use Rattle.nf_graph.proofs.Flags.{Has_from_read, not_Has_from_read}
-use Rattle.nf_graph.proofs.Walks.{IsHop-read, IsHop-unique}
-use Rattle.nf_complete_cycles.specs.Trees.{StepsOut, Crosses}
+use Rattle.nf_complete_cycles.proofs.Common.{Hop, Has_from_read, not_Has_from_read, IsHop-read, IsHop-unique, StepsOut, Crosses}
 use Rattle.nf_complete_cycles.proofs.Growing.{none_out}
 use Rattle.nf_complete_cycles.proofs.way.next_step.Goals as goal
 use Rattle.nf_complete_cycles.proofs.way.next_step.Goals.{then-chosen-e+in_default, else-chosen-e}

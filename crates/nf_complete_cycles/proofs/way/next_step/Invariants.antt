@@ -1,5 +1,5 @@
 use Rattle.std.proofs.Common.{ℕ, ◌<◌, Bool}
-use Rattle.nf_complete_cycles.specs.Trees.{StepsOut}
+use Rattle.nf_complete_cycles.proofs.Common.{StepsOut}
 use Rattle.nf_complete_cycles.proofs.way.next_step.Given as goal
 
 -- none of the links so far leads out

@@ -1,5 +1,5 @@
 use Rattle.std.proofs.Common.{ℕ, ◌<◌, Bool, length, refl}
-use Rattle.std.proofs.lemmas.Option.{slice_get_read}
+use Rattle.nf_complete_cycles.proofs.Common.{slice_get_read}
 use Rattle.nf_complete_cycles.proofs.Growing.{one_below}
 use Rattle.nf_complete_cycles.proofs.way.trace.Goals as goal
 

@@ -1,5 +1,5 @@
 use Rattle.std.proofs.Common.{◌≡◌, ◌++◌, drop}
-use Rattle.nf_complete_cycles.specs.Trees.{way_back}
+use Rattle.nf_complete_cycles.proofs.Common.{way_back}
 use Rattle.nf_complete_cycles.proofs.way.trace.Given as goal
 
 -- the path so far, and the remaining path

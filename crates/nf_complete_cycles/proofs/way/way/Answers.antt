@@ -1,13 +1,7 @@
 use Rattle.std.proofs.Common.{List, Bool, ℕ, ◌≡◌, ◌<◌, ◌∙◌, length, set, true, false, sym, ap, subst, replicate, arith}
-use Rattle.std.proofs.lemmas.Option.{slice_get_within}
-use Rattle.std.proofs.Math.ListN.{length-replicate}
-use Rattle.std.proofs.lemmas.Result.{IfOk-from_err}
-use Rattle.std.specs.List.{AllByRecursion}
-use Rattle.nf_model.specs.Entries.{Has}
-use Rattle.nf_graph.specs.Graph.{AreBelow}
-use Rattle.nf_graph.proofs.Flags.{Has-replicate, free, not_Has_from_place, Has_from_place}
+use Rattle.nf_complete_cycles.proofs.Common.{slice_get_within, length-replicate, IfOk-from_err, AllByRecursion, Has, AreBelow, Has-replicate, free}
+use Rattle.nf_complete_cycles.proofs.Common.{not_Has_from_place, Has_from_place, StepsOut, step_end, NoneStepsOut, way_back, IsWay}
 use Rattle.nf_graph.proofs.Reaching.{fewer_free}
-use Rattle.nf_complete_cycles.specs.Trees.{StepsOut, step_end, NoneStepsOut, way_back, IsWay}
 use Rattle.nf_complete_cycles.proofs.Growing.{IsGrown, grown_first, out_below, grown_more, out_free, way_found, apart_found, tree_below}
 use Rattle.nf_complete_cycles.proofs.way.way.Goals as goal
 

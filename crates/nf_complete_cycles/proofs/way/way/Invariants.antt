@@ -1,4 +1,4 @@
-use Rattle.nf_graph.proofs.Flags.{free}
+use Rattle.nf_complete_cycles.proofs.Common.{free}
 use Rattle.nf_complete_cycles.proofs.Growing.{IsGrown}
 use Rattle.nf_complete_cycles.proofs.way.way.Given as goal
 

@@ -1,6 +1,5 @@
-use Rattle.std.proofs.Common.{Bool, set, Some, Ok, Err, sym, ap, ◌∙◌}
-use Rattle.std.specs.Prelude.{if◌then◌else◌}
-use Rattle.nf_complete_def.specs.declared.FlowsRule.TheVariants.{S10}
+use Rattle.std.proofs.Common.{Bool, set, Some, Ok, Err, sym, ap, ◌∙◌, if◌then◌else◌}
+use Rattle.nf_complete_read.proofs.Common.{S10}
 use Rattle.nf_complete_read.proofs.Giving.{given_read}
 use Rattle.nf_complete_read.proofs.draft.put.Goals as goal
 

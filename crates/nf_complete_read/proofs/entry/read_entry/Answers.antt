@@ -1,7 +1,5 @@
 use Rattle.std.proofs.Common.{sym, subst}
-use Rattle.std.proofs.lemmas.Result.{IfOk-weaker}
-use Rattle.nf_complete_def.specs.FlowsFile.{FlowsEntry}
-use Rattle.nf_complete_read.specs.Entries.{seen_entry, IsOf}
+use Rattle.nf_complete_read.proofs.Common.{IfOk-weaker, FlowsEntry, seen_entry, IsOf}
 use Rattle.nf_complete_read.proofs.entry.read_entry.Goals as goal
 
 pub returns-then-is_word-3-clause-within : goal.returns-then-is_word-3-clause-within

@@ -1,11 +1,5 @@
 use Rattle.std.proofs.Common.{List, ℕ, sym, ap, subst, ◌∙◌, arith}
-use Rattle.std.specs.Result.{result_ok}
-use Rattle.std.proofs.lemmas.Result.{err_from_is_err_and}
-use Rattle.nf_frac_words.specs.Numbers.{number_of}
-use Rattle.nf_net_def.specs.Names.{has_name}
-use Rattle.nf_net_def.specs.Numbers.{greatest}
-use Rattle.nf_side.specs.NameAt.{IsNameAt}
-use Rattle.nf_complete_def.specs.FlowsFile.{FlowOf, number_entry}
+use Rattle.nf_complete_read.proofs.Common.{result_ok, err_from_is_err_and, number_of, has_name, greatest, IsNameAt, FlowOf, number_entry}
 use Rattle.nf_complete_read.proofs.FlowWords.{count_wrong, not_named, named}
 use Rattle.nf_complete_read.proofs.entry.read_flow.Goals as goal
 

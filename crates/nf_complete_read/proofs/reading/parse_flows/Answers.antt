@@ -1,7 +1,5 @@
 use Rattle.std.proofs.Common.{◌≡◌, length, Ok, Err, ◌∙◌}
-use Rattle.std.proofs.lemmas.Result.{err_from_is_err_and, IfOk-weaker}
-use Rattle.nf_side.proofs.Frame.{broken_more, same_read}
-use Rattle.nf_complete_def.specs.FlowsFile.{if_ended, flows_in}
+use Rattle.nf_complete_read.proofs.Common.{err_from_is_err_and, IfOk-weaker, broken_more, same_read, if_ended, flows_in}
 use Rattle.nf_complete_read.specs.Files.{given_of}
 use Rattle.nf_complete_read.proofs.FlowsRead.{flows_read}
 use Rattle.nf_complete_read.proofs.reading.parse_flows.Goals as goal

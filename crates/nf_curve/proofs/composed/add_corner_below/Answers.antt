@@ -1,10 +1,5 @@
-use Rattle.std.proofs.Common.{sym, ap, ◌∙◌}
-use Rattle.std.specs.Prelude.{Ok}
-use Rattle.std.proofs.lemmas.Result.{err_from_is_err_and}
-use Rattle.nf_rational.specs.Rational.{ℚ}
-use Rattle.nf_rational.specs.Order.{lt_ℚ}
-use Rattle.nf_frac_def.specs.Passing.{passes_Q}
-use Rattle.nf_curve_def.specs.Composed.{corner_at}
+use Rattle.std.proofs.Common.{sym, ap, ◌∙◌, Ok}
+use Rattle.nf_curve.proofs.Common.{err_from_is_err_and, ℚ, lt_ℚ, passes_Q, corner_at}
 use Rattle.nf_curve.proofs.Between.{corner_fails, corner_added, corner_passes}
 use Rattle.nf_curve.proofs.composed.add_corner_below.Goals as goal
 

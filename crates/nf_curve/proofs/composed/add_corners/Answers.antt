@@ -1,10 +1,8 @@
-use Rattle.std.proofs.Common.{◌≤◌, length, sym, ap, ◌∙◌, rules, arith, append-nil}
-use Rattle.std.specs.Prelude.{Ok}
-use Rattle.nf_rational_laws.proofs.Order.{≤ℚ_of_lt}
+use Rattle.std.proofs.Common.{◌≤◌, length, sym, ap, ◌∙◌, rules, arith, append-nil, Ok}
+use Rattle.nf_curve.proofs.Common.{≤ℚ_of_lt, less_of_test}
 use Rattle.nf_curve.proofs.Placing.{place-rises, place_within, curve-rises}
 use Rattle.nf_curve.proofs.Between.{along-up, along-down, along-level}
 use Rattle.nf_curve.proofs.composed.add_corners.Goals as goal
-use Rattle.nf_rational_laws.proofs.Tests.{less_of_test}
 
 pub add_corners_up-requires-clause-up : goal.add_corners_up-requires-clause-up
 add_corners_up-requires-clause-up c = less_of_test c.args.p.now.1 c.args.q.now.1 (sym c.is_below.ensures ∙ c.if-is_below.true)

@@ -1,15 +1,6 @@
-use Rattle.std.proofs.Common.{◌≡◌, ℕ, ◌<◌, ◌-◌, List, ◌∷◌, [], length, take, reverse, refl, sym, ap, subst, ◌∙◌, arith, append-nil}
-use Rattle.std.specs.Prelude.{Ok}
-use Rattle.std.specs.List.{filter}
-use Rattle.std.proofs.lemmas.Option.{slice_get_read}
-use Rattle.std.proofs.lemmas.Result.{err_from_is_err_and}
-use Rattle.nf_rational.specs.Rational.{ℚ}
-use Rattle.nf_rational.specs.Order.{◌<ℚ◌, lt_ℚ}
-use Rattle.nf_rational_laws.proofs.Order.{<ℚ_irrefl}
-use Rattle.nf_frac_def.specs.Passing.{passes_Q}
-use Rattle.nf_frac_def.specs.Checked.{Checked, at_part, each}
-use Rattle.nf_curve_def.specs.Composed.{corner_at}
-use Rattle.nf_curve.specs.Steps.{behind}
+use Rattle.std.proofs.Common.{◌≡◌, ℕ, ◌<◌, ◌-◌, List, ◌∷◌, [], length, take, reverse, refl, sym, ap, subst, ◌∙◌, arith, append-nil, Ok}
+use Rattle.nf_curve.proofs.Common.{filter, slice_get_read, err_from_is_err_and, ℚ, ◌<ℚ◌, lt_ℚ, <ℚ_irrefl, passes_Q, Checked, at_part, each, corner_at}
+use Rattle.nf_curve.proofs.Common.{behind}
 use Rattle.nf_curve.proofs.Between.{corner_goes, corner_stops, take-last}
 use Rattle.nf_curve.proofs.Exits.{stops_on}
 use Rattle.nf_curve.proofs.composed.add_corners_down.Goals as goal

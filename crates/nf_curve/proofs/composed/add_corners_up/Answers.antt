@@ -1,17 +1,6 @@
-use Rattle.std.proofs.Common.{ℕ, suc, List, ◌∷◌, [], drop, refl, sym, ap, subst, ◌∙◌, add-one, append-nil}
-use Rattle.std.specs.Prelude.{Ok}
-use Rattle.std.specs.List.{filter}
-use Rattle.std.proofs.lemmas.Option.{slice_get_read}
-use Rattle.std.proofs.lemmas.List.{at_drop_all}
-use Rattle.std.proofs.lemmas.Result.{err_from_is_err_and}
-use Rattle.nf_rational.specs.Rational.{ℚ}
-use Rattle.nf_rational.specs.Order.{◌<ℚ◌, lt_ℚ}
-use Rattle.nf_rational_laws.proofs.Order.{<ℚ_irrefl}
-use Rattle.nf_rational_laws.proofs.Entries.{drop_entry}
-use Rattle.nf_frac_def.specs.Passing.{passes_Q}
-use Rattle.nf_frac_def.specs.Checked.{Checked, at_part, each}
-use Rattle.nf_curve_def.specs.Composed.{corner_at}
-use Rattle.nf_curve.specs.Steps.{behind}
+use Rattle.std.proofs.Common.{ℕ, suc, List, ◌∷◌, [], drop, refl, sym, ap, subst, ◌∙◌, add-one, append-nil, Ok}
+use Rattle.nf_curve.proofs.Common.{filter, slice_get_read, at_drop_all, err_from_is_err_and, ℚ, ◌<ℚ◌, lt_ℚ, <ℚ_irrefl, drop_entry, passes_Q, Checked}
+use Rattle.nf_curve.proofs.Common.{at_part, each, corner_at, behind}
 use Rattle.nf_curve.proofs.Between.{corner_goes, corner_stops}
 use Rattle.nf_curve.proofs.Exits.{stops_on}
 use Rattle.nf_curve.proofs.composed.add_corners_up.Goals as goal

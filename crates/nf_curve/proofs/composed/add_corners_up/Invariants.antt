@@ -1,10 +1,5 @@
 use Rattle.std.proofs.Common.{◌≡◌, drop}
-use Rattle.std.specs.List.{filter}
-use Rattle.nf_rational.specs.Order.{lt_ℚ}
-use Rattle.nf_frac_def.specs.Passing.{passes_Q}
-use Rattle.nf_frac_def.specs.Checked.{each}
-use Rattle.nf_curve_def.specs.Composed.{corner_at}
-use Rattle.nf_curve.specs.Steps.{behind}
+use Rattle.nf_curve.proofs.Common.{filter, lt_ℚ, passes_Q, each, corner_at, behind}
 use Rattle.nf_curve.proofs.composed.add_corners_up.Given as goal
 
 abbrev pub invariant-loop-corner : goal.invariant-loop-corner

@@ -1,11 +1,5 @@
 use Rattle.std.proofs.Common.{List, sym, ◌∙◌, arith}
-use Rattle.std.proofs.lemmas.Result.{err_from_is_err_and}
-use Rattle.nf_rational.specs.Rational.{ℚ}
-use Rattle.nf_rational.specs.Order.{lt_ℚ}
-use Rattle.nf_frac_def.specs.Passing.{passes_Q}
-use Rattle.nf_frac_def.specs.Checked.{Checked, each}
-use Rattle.nf_curve_def.specs.Values.{checked_value}
-use Rattle.nf_curve_def.specs.Composed.{corner_at, points_along, composed_piece}
+use Rattle.nf_curve.proofs.Common.{err_from_is_err_and, ℚ, lt_ℚ, passes_Q, Checked, each, checked_value, corner_at, points_along, composed_piece}
 use Rattle.nf_curve.proofs.Composing.{piece_begun}
 use Rattle.nf_curve.proofs.Exits.{after_err}
 use Rattle.nf_curve.proofs.Placing.{place_within}

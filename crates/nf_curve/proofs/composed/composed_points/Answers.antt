@@ -1,13 +1,5 @@
-use Rattle.std.proofs.Common.{◌≡◌, ℕ, ◌<◌, ◌+◌, ◌-◌, length, drop, Some, refl, sym, ap, ◌∙◌, arith}
-use Rattle.std.specs.Prelude.{slice_get, Ok}
-use Rattle.std.proofs.lemmas.Option.{slice_get_read, same_Some}
-use Rattle.std.proofs.lemmas.Result.{err_from_is_err_and}
-use Rattle.nf_rational.specs.Rational.{ℚ}
-use Rattle.nf_frac_def.specs.Passing.{passes_Q}
-use Rattle.nf_frac_def.specs.Checked.{at_part}
-use Rattle.nf_curve_def.specs.Composed.{composed_piece, composed_all}
-use Rattle.nf_curve.specs.Places.{count_until}
-use Rattle.nf_curve.specs.Steps.{behind}
+use Rattle.std.proofs.Common.{◌≡◌, ℕ, ◌<◌, ◌+◌, ◌-◌, length, drop, Some, refl, sym, ap, ◌∙◌, arith, slice_get, Ok}
+use Rattle.nf_curve.proofs.Common.{slice_get_read, same_Some, err_from_is_err_and, ℚ, passes_Q, at_part, composed_piece, composed_all, count_until, behind}
 use Rattle.nf_curve.proofs.Points.{points_there}
 use Rattle.nf_curve.proofs.Placing.{rise-pairs, curve-rises, last_there}
 use Rattle.nf_curve.proofs.Composing.{pieces_go, pieces_stop, last_stops, last_goes}

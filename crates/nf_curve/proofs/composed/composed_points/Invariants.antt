@@ -1,11 +1,5 @@
-use Rattle.std.proofs.Common.{◌≡◌, ◌-◌, Some, drop}
-use Rattle.std.specs.Prelude.{slice_get}
-use Rattle.nf_rational.specs.Rational.{ℚ}
-use Rattle.nf_frac_def.specs.Passing.{passes_Q}
-use Rattle.nf_curve_def.specs.Composed.{composed_all}
-use Rattle.nf_curve.specs.Places.{count_until}
-use Rattle.nf_curve.specs.Steps.{behind}
-use Rattle.nf_curve.specs.Slopes.{KeepsSlope}
+use Rattle.std.proofs.Common.{◌≡◌, ◌-◌, Some, drop, slice_get}
+use Rattle.nf_curve.proofs.Common.{ℚ, passes_Q, composed_all, count_until, behind, KeepsSlope}
 use Rattle.nf_curve.proofs.composed.composed_points.Given as goal
 
 -- the points so far, and those of the pieces from this one on

@@ -1,15 +1,6 @@
-use Rattle.std.proofs.Common.{List, refl, sym, ap, subst, ◌∙◌}
-use Rattle.std.specs.Prelude.{slice_get}
-use Rattle.std.proofs.lemmas.Result.{err_from_is_err_and}
-use Rattle.nf_rational.specs.Rational.{ℚ}
-use Rattle.nf_rational.specs.Operations.{0ℚ}
-use Rattle.nf_rational.specs.Order.{◌≤ℚ◌}
-use Rattle.nf_frac_def.specs.Passing.{passes_Q}
-use Rattle.nf_frac_def.specs.Checked.{at_part}
-use Rattle.nf_model.specs.Curve.{IsCurve}
-use Rattle.nf_curve_def.specs.Values.{checked_cut}
-use Rattle.nf_curve_def.specs.Composed.{checked_composed}
-use Rattle.nf_curve_laws.proofs.Values.{checked_cut-values, checked_cut-each}
+use Rattle.std.proofs.Common.{List, refl, sym, ap, subst, ◌∙◌, slice_get}
+use Rattle.nf_curve.proofs.Common.{err_from_is_err_and, ℚ, 0ℚ, ◌≤ℚ◌, passes_Q, at_part, IsCurve, checked_cut, checked_composed, checked_cut-values}
+use Rattle.nf_curve.proofs.Common.{checked_cut-each}
 use Rattle.nf_curve.proofs.Exits.{was_ok, stops_on}
 use Rattle.nf_curve.proofs.Composing.{cut_stops, cut_goes}
 use Rattle.nf_curve.proofs.composed.composed_until.Goals as goal

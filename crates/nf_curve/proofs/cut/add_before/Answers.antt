@@ -1,11 +1,5 @@
-use Rattle.std.proofs.Common.{ℕ, suc, List, [], ◌∷◌, ◌++◌, drop, Bool, refl, sym, ap, ◌∙◌, add-one, append-nil, append_assoc}
-use Rattle.std.specs.Prelude.{if◌then◌else◌}
-use Rattle.std.proofs.lemmas.Option.{slice_get_read}
-use Rattle.std.proofs.lemmas.List.{at_drop_all}
-use Rattle.std.proofs.lemmas.Result.{err_from_is_err_and}
-use Rattle.nf_rational.specs.Rational.{ℚ}
-use Rattle.nf_curve_def.specs.Values.{points_before}
-use Rattle.nf_rational_laws.proofs.Entries.{drop_entry}
+use Rattle.std.proofs.Common.{ℕ, suc, List, [], ◌∷◌, ◌++◌, drop, Bool, refl, sym, ap, ◌∙◌, add-one, append-nil, append_assoc, if◌then◌else◌}
+use Rattle.nf_curve.proofs.Common.{slice_get_read, at_drop_all, err_from_is_err_and, ℚ, points_before, drop_entry}
 use Rattle.nf_curve.proofs.cut.add_before.Goals as goal
 
 pub returns-then-not-is_below : goal.returns-then-not-is_below

@@ -1,5 +1,5 @@
 use Rattle.std.proofs.Common.{◌≡◌, ◌++◌, drop}
-use Rattle.nf_curve_def.specs.Values.{points_before}
+use Rattle.nf_curve.proofs.Common.{points_before}
 use Rattle.nf_curve.proofs.cut.add_before.Given as goal
 
 abbrev pub invariant-loop-point : goal.invariant-loop-point

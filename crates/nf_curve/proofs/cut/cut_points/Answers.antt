@@ -1,9 +1,6 @@
-use Rattle.std.proofs.Common.{List, [], ◌∷◌, ◌++◌, sym, ap, ◌∙◌}
-use Rattle.std.specs.Prelude.{Ok}
-use Rattle.std.proofs.lemmas.Result.{err_from_is_err_and}
-use Rattle.nf_rational.specs.Rational.{ℚ}
-use Rattle.nf_frac_def.specs.Passing.{passes_Q}
-use Rattle.nf_curve_def.specs.Values.{points_before, checked_value, checked_cut}
+use Rattle.std.proofs.Common.{List, [], ◌∷◌, ◌++◌, sym, ap, ◌∙◌, Ok}
+use Rattle.nf_curve.proofs.Common.{err_from_is_err_and, ℚ, passes_Q, points_before, checked_value}
+use Rattle.nf_curve_def.specs.Values.{checked_cut}
 use Rattle.nf_curve.proofs.Exits.{after_err, after_ok}
 use Rattle.nf_curve.proofs.cut.cut_points.Goals as goal
 

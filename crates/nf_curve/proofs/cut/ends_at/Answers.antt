@@ -1,14 +1,5 @@
-use Rattle.std.proofs.Common.{◌≡◌, ◌-◌, ◌<◌, length, suc, get_or, refl, sym, ap, subst, ◌∙◌, arith}
-use Rattle.std.specs.Prelude.{Ok}
-use Rattle.std.proofs.lemmas.Option.{slice_get_read}
-use Rattle.nf_rational.specs.Rational.{ℚ}
-use Rattle.nf_rational.specs.Operations.{0ℚ}
-use Rattle.nf_rational.specs.Order.{◌≤ℚ◌}
-use Rattle.nf_frac_def.specs.Passing.{passes_Q}
-use Rattle.nf_curve_def.specs.Values.{checked_cut}
-use Rattle.nf_rational.specs.Signs.{is_same}
-use Rattle.nf_curve_laws.proofs.Operations.{same_of}
-use Rattle.nf_curve.specs.Points.{last_time}
+use Rattle.std.proofs.Common.{◌≡◌, ◌-◌, ◌<◌, length, suc, get_or, refl, sym, ap, subst, ◌∙◌, arith, Ok}
+use Rattle.nf_curve.proofs.Common.{slice_get_read, ℚ, 0ℚ, ◌≤ℚ◌, passes_Q, checked_cut, is_same, same_of, last_time}
 use Rattle.nf_curve.proofs.Points.{points_there, last_time-last}
 use Rattle.nf_curve.proofs.Placing.{last_there}
 use Rattle.nf_curve.proofs.Whole.{whole_cut}

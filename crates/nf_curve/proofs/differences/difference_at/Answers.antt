@@ -1,11 +1,5 @@
-use Rattle.std.proofs.Common.{Bool, true, false, refl, sym, ap, ◌∙◌}
-use Rattle.std.specs.Prelude.{Some, None, Ok, if◌then◌else◌}
-use Rattle.std.proofs.lemmas.Result.{err_from_is_err_and}
-use Rattle.nf_frac_def.specs.Passing.{passes_Q}
-use Rattle.nf_frac_def.specs.Checked.{at_part, ◌>>=◌}
-use Rattle.nf_curve_def.specs.Sums.{sides_at}
-use Rattle.nf_curve_def.specs.Differences.{differ_at}
-use Rattle.nf_curve.specs.Sides.{sides_of}
+use Rattle.std.proofs.Common.{Bool, true, false, refl, sym, ap, ◌∙◌, Some, None, Ok, if◌then◌else◌}
+use Rattle.nf_curve.proofs.Common.{err_from_is_err_and, passes_Q, at_part, ◌>>=◌, sides_at, differ_at, sides_of}
 use Rattle.nf_curve.proofs.Exits.{after_err, after_ok}
 use Rattle.nf_curve.proofs.Differing.{step_found}
 use Rattle.nf_curve.proofs.differences.difference_at.Goals as goal

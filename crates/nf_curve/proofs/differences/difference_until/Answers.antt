@@ -1,15 +1,7 @@
-use Rattle.std.proofs.Common.{◌≡◌, ◌<◌, length, Some, true, false, sym, ap, subst, ◌∙◌, arith}
-use Rattle.std.specs.Prelude.{Ok, Option, option_map}
-use Rattle.std.proofs.lemmas.Result.{err_from_is_err_and}
-use Rattle.nf_rational.specs.Order.{◌<ℚ◌}
-use Rattle.nf_rational_laws.proofs.Order.{≤ℚ_of_lt}
-use Rattle.nf_frac_def.specs.Passing.{passes_Q}
-use Rattle.nf_curve_def.specs.Differences.{times_before, difference_from, checked_difference}
-use Rattle.nf_curve.specs.Sides.{sides_of}
+use Rattle.std.proofs.Common.{◌≡◌, ◌<◌, length, Some, true, false, sym, ap, subst, ◌∙◌, arith, Ok, Option, option_map}
+use Rattle.nf_curve.proofs.Common.{err_from_is_err_and, ◌<ℚ◌, ≤ℚ_of_lt, passes_Q, times_before, difference_from, sides_of, times_after, times_left, Moment}
+use Rattle.nf_curve_def.specs.Differences.{checked_difference}
 use Rattle.nf_curve.specs.declared.lines.Sides.{Sides}
-use Rattle.nf_curve.specs.Places.{times_after}
-use Rattle.nf_curve.specs.Moments.{times_left}
-use Rattle.nf_curve.specs.declared.walk.Moment.{Moment}
 use Rattle.nf_curve.proofs.Placing.{place-rises, curve-rises}
 use Rattle.nf_curve.proofs.Differing.{Kept, kept-before, step_stops, step_ends, step_goes, last_stops, last_found}
 use Rattle.nf_curve.proofs.differences.difference_until.Goals as goal

@@ -1,11 +1,5 @@
-use Rattle.std.proofs.Common.{◌≡◌, ◌≤◌, length}
-use Rattle.std.specs.Prelude.{IfSome}
-use Rattle.nf_rational.specs.Order.{◌<ℚ◌}
-use Rattle.nf_frac_def.specs.Passing.{passes_Q}
-use Rattle.nf_curve_def.specs.Differences.{times_before, difference_from, checked_difference}
-use Rattle.nf_curve.specs.Places.{count_until}
-use Rattle.nf_curve.specs.Moments.{IsThere, times_left}
-use Rattle.nf_curve.specs.Slopes.{KeepBoth}
+use Rattle.std.proofs.Common.{◌≡◌, ◌≤◌, length, IfSome}
+use Rattle.nf_curve.proofs.Common.{◌<ℚ◌, passes_Q, times_before, difference_from, checked_difference, count_until, IsThere, times_left, KeepBoth}
 use Rattle.nf_curve.proofs.differences.difference_until.Given as goal
 
 -- no difference so far: what the times to come give is what all of them give

@@ -1,7 +1,5 @@
 use Rattle.std.proofs.Common.{◌<◌, ◌-◌, length, get_or, sym, ap, ◌∙◌, arith}
-use Rattle.std.proofs.lemmas.Option.{slice_get-get_or}
-use Rattle.nf_frac_def.specs.Passing.{passes_Q}
-use Rattle.nf_frac_def.specs.Checked.{at_part}
+use Rattle.nf_curve.proofs.Common.{slice_get-get_or, passes_Q, at_part}
 use Rattle.nf_curve.proofs.Turned.{turn-early, turn-apart, turn-there}
 use Rattle.nf_curve.proofs.differences.does_turn.Goals as goal
 use Rattle.nf_curve.proofs.differences.does_turn.Goals.{then-place-lt2-via-then-place-lt2, then-place-lt2-via-else-place-lt2+then-not-is_same}

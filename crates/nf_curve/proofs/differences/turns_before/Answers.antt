@@ -1,8 +1,5 @@
-use Rattle.std.proofs.Common.{◌<◌, ◌-◌, length, Some, refl, sym, ap, ◌∙◌, arith}
-use Rattle.std.specs.Prelude.{None}
-use Rattle.std.proofs.lemmas.Option.{slice_get_read, slice_get_past}
-use Rattle.nf_frac_def.specs.Passing.{passes_Q}
-use Rattle.nf_frac_def.specs.Checked.{at_part}
+use Rattle.std.proofs.Common.{◌<◌, ◌-◌, length, Some, refl, sym, ap, ◌∙◌, arith, None}
+use Rattle.nf_curve.proofs.Common.{slice_get_read, slice_get_past, passes_Q, at_part}
 use Rattle.nf_curve.proofs.Placing.{rise-pairs}
 use Rattle.nf_curve.proofs.Turned.{turn-by}
 use Rattle.nf_curve.proofs.differences.turns_before.Goals as goal

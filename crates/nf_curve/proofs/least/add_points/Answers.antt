@@ -1,8 +1,5 @@
 use Rattle.std.proofs.Common.{sym}
-use Rattle.std.proofs.lemmas.Result.{err_from_is_err_and}
-use Rattle.nf_frac_def.specs.Passing.{passes_Q}
-use Rattle.nf_curve_def.specs.Least.{is_crossed, crossing}
-use Rattle.nf_curve.specs.Sides.{sides_of}
+use Rattle.nf_curve.proofs.Common.{err_from_is_err_and, passes_Q, is_crossed, crossing, sides_of}
 use Rattle.nf_curve.proofs.Exits.{after_err}
 use Rattle.nf_curve.proofs.least.add_points.Goals as goal
 

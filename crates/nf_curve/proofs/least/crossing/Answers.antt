@@ -1,10 +1,5 @@
 use Rattle.std.proofs.Common.{Bool, sym, ap, ◌∙◌}
-use Rattle.std.proofs.lemmas.Result.{err_from_is_err_and}
-use Rattle.nf_frac_def.specs.Passing.{passes_Q}
-use Rattle.nf_frac_def.specs.Checked.{at_part}
-use Rattle.nf_curve_def.specs.Lines.{checked_cross, checked_line}
-use Rattle.nf_curve_def.specs.Least.{crossing}
-use Rattle.nf_curve.specs.Sides.{sides_of}
+use Rattle.nf_curve.proofs.Common.{err_from_is_err_and, passes_Q, at_part, checked_cross, checked_line, crossing, sides_of}
 use Rattle.nf_curve.proofs.Exits.{after_err, after_ok}
 use Rattle.nf_curve.proofs.least.crossing.Goals as goal
 

@@ -1,16 +1,7 @@
-use Rattle.std.proofs.Common.{◌≡◌, List, [], ◌∷◌, ◌++◌, sym, ap, subst, ◌∙◌}
-use Rattle.std.specs.Prelude.{IfSome}
-use Rattle.std.proofs.lemmas.Result.{err_from_is_err_and}
-use Rattle.nf_rational.specs.Rational.{ℚ}
-use Rattle.nf_rational.specs.Order.{◌<ℚ◌}
-use Rattle.nf_frac_def.specs.Passing.{passes_Q}
-use Rattle.nf_frac_def.specs.Checked.{at_part}
-use Rattle.nf_frac_def.proofs.Each.{with_front}
-use Rattle.nf_curve_def.specs.Times.{both_times}
-use Rattle.nf_curve_def.specs.Least.{least_point, least_after, least_from, checked_least}
-use Rattle.nf_curve.specs.Sides.{sides_of}
-use Rattle.nf_curve.specs.Places.{times_after}
-use Rattle.nf_curve.specs.Steps.{lesser_step}
+use Rattle.std.proofs.Common.{◌≡◌, List, [], ◌∷◌, ◌++◌, sym, ap, subst, ◌∙◌, IfSome}
+use Rattle.nf_curve.proofs.Common.{err_from_is_err_and, ℚ, ◌<ℚ◌, passes_Q, at_part, with_front, both_times, least_point, least_after, least_from, sides_of}
+use Rattle.nf_curve.proofs.Common.{times_after, lesser_step}
+use Rattle.nf_curve_def.specs.Least.{checked_least}
 use Rattle.nf_curve.proofs.Walking.{fewer_left}
 use Rattle.nf_curve.proofs.Exits.{front_ends, stops_on}
 use Rattle.nf_curve.proofs.Lesser.{first_stops, first_goes, sides_stop, step_stops, step_goes}

@@ -1,13 +1,5 @@
-use Rattle.std.proofs.Common.{◌≡◌, length}
-use Rattle.std.specs.Prelude.{IfSome}
-use Rattle.nf_rational.specs.Order.{◌<ℚ◌}
-use Rattle.nf_frac_def.specs.Passing.{passes_Q}
-use Rattle.nf_frac_def.proofs.Each.{with_front}
-use Rattle.nf_curve_def.specs.Times.{both_times}
-use Rattle.nf_curve_def.specs.Least.{least_after, least_from}
-use Rattle.nf_curve.specs.Sides.{sides_of}
-use Rattle.nf_curve.specs.Moments.{IsThere, times_left}
-use Rattle.nf_curve.specs.Slopes.{KeepBoth}
+use Rattle.std.proofs.Common.{◌≡◌, length, IfSome}
+use Rattle.nf_curve.proofs.Common.{◌<ℚ◌, passes_Q, with_front, both_times, least_after, least_from, sides_of, IsThere, times_left, KeepBoth}
 use Rattle.nf_curve.proofs.least.least_points.Given as goal
 
 -- the points so far, and those at the times to come

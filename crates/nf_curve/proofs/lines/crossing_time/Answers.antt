@@ -1,6 +1,5 @@
 use Rattle.std.proofs.Common.{arith}
-use Rattle.nf_frac_def.specs.Passing.{passes_Q}
-use Rattle.nf_curve.specs.Sides.{sides_of}
+use Rattle.nf_curve.proofs.Common.{passes_Q, sides_of}
 use Rattle.nf_curve.proofs.Pieces.{change_apart}
 use Rattle.nf_curve.proofs.lines.crossing_time.Goals as goal
 

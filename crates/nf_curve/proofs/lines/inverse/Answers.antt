@@ -1,6 +1,5 @@
 use Rattle.std.proofs.Common.{sym, arith}
-use Rattle.nf_frac_def.specs.Passing.{passes_Q}
-use Rattle.nf_curve_def.specs.Lines.{checked_slope}
+use Rattle.nf_curve.proofs.Common.{passes_Q, checked_slope}
 use Rattle.nf_curve.proofs.Exits.{was_ok}
 use Rattle.nf_curve.proofs.Pieces.{slope_apart}
 use Rattle.nf_curve.proofs.lines.inverse.Goals as goal

@@ -1,5 +1,5 @@
 use Rattle.std.proofs.Common.{sym, ◌∙◌, arith}
-use Rattle.nf_frac_def.specs.Passing.{passes_Q}
+use Rattle.nf_curve.proofs.Common.{passes_Q}
 use Rattle.nf_curve.proofs.Pieces.{run_apart}
 use Rattle.nf_curve.proofs.lines.slope.Goals as goal
 

@@ -1,5 +1,5 @@
 use Rattle.std.proofs.Common.{◌<◌, ◌-◌, length, sym, ◌∙◌, arith}
-use Rattle.std.proofs.lemmas.Option.{slice_get-get_or}
+use Rattle.nf_curve.proofs.Common.{slice_get-get_or}
 use Rattle.nf_curve.proofs.Placing.{not-yet}
 use Rattle.nf_curve.proofs.places.place_down.Goals as goal
 

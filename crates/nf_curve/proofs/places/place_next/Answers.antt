@@ -1,5 +1,5 @@
 use Rattle.std.proofs.Common.{◌<◌, length, get_or, sym, ◌∙◌, arith}
-use Rattle.std.proofs.lemmas.Option.{slice_get-get_or}
+use Rattle.nf_curve.proofs.Common.{slice_get-get_or}
 use Rattle.nf_curve.proofs.Placing.{curve-rises, place-ended, place-there, place-apart}
 use Rattle.nf_curve.proofs.places.place_next.Goals as goal
 

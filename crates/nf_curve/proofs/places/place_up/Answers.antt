@@ -1,5 +1,5 @@
 use Rattle.std.proofs.Common.{sym, ◌∙◌, arith}
-use Rattle.std.proofs.lemmas.Option.{slice_get-get_or}
+use Rattle.nf_curve.proofs.Common.{slice_get-get_or}
 use Rattle.nf_curve.proofs.Placing.{place_within, not-yet, too-far}
 use Rattle.nf_curve.proofs.places.place_up.Goals as goal
 

@@ -1,5 +1,5 @@
 use Rattle.std.proofs.Common.{◌≤◌, ◌-◌, length}
-use Rattle.nf_curve.specs.Places.{count_until}
+use Rattle.nf_curve.proofs.Common.{count_until}
 use Rattle.nf_curve.proofs.places.place_up.Given as goal
 
 abbrev pub invariant-loop-place : goal.invariant-loop-place

@@ -1,10 +1,5 @@
-use Rattle.std.proofs.Common.{◌≡◌, ◌<◌, ◌+◌, ◌-◌, List, [], ◌∷◌, ◌++◌, length, refl, sym, ap, ◌∙◌, arith}
-use Rattle.std.specs.Prelude.{slice_get, if◌then◌else◌}
-use Rattle.std.proofs.lemmas.Option.{slice_get_read, same_Some}
-use Rattle.std.proofs.lemmas.Result.{err_from_is_err_and}
-use Rattle.nf_rational.specs.Rational.{ℚ}
-use Rattle.nf_frac_def.specs.Passing.{passes_Q}
-use Rattle.nf_rational.specs.Signs.{is_same}
+use Rattle.std.proofs.Common.{◌≡◌, ◌<◌, ◌+◌, ◌-◌, List, [], ◌∷◌, ◌++◌, length, refl, sym, ap, ◌∙◌, arith, slice_get, if◌then◌else◌}
+use Rattle.nf_curve.proofs.Common.{slice_get_read, same_Some, err_from_is_err_and, ℚ, passes_Q, is_same}
 use Rattle.nf_curve.proofs.Points.{points_there}
 use Rattle.nf_curve.proofs.Placing.{rise-pairs, curve-rises, before_last, next_there, last_there}
 use Rattle.nf_curve.proofs.Shortening.{begin_stops, begin_goes, step_stops, step_goes, short_ends, short_alone}

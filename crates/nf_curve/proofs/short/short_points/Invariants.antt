@@ -1,7 +1,5 @@
 use Rattle.std.proofs.Common.{◌≡◌, drop}
-use Rattle.nf_frac_def.specs.Passing.{passes_Q}
-use Rattle.nf_frac_def.proofs.Each.{with_front}
-use Rattle.nf_curve_def.specs.Short.{checked_short}
+use Rattle.nf_curve.proofs.Common.{passes_Q, with_front, checked_short}
 use Rattle.nf_curve.proofs.Shortening.{short_from}
 use Rattle.nf_curve.proofs.short.short_points.Given as goal
 

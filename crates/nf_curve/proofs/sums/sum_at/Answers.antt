@@ -1,12 +1,5 @@
-use Rattle.std.proofs.Common.{sym, ap, ◌∙◌}
-use Rattle.std.specs.Prelude.{Result, Ok, Err}
-use Rattle.nf_rational.specs.Rational.{ℚ}
-use Rattle.nf_frac_def.specs.declared.Op.TheVariants.{Sum}
-use Rattle.nf_frac_def.specs.declared.Passed.{Passed}
-use Rattle.nf_frac_def.specs.Passing.{passes_Q}
-use Rattle.nf_frac_def.specs.Checked.{at_part, checked, ◌>>=◌}
-use Rattle.nf_curve_def.specs.Sums.{sides_at}
-use Rattle.nf_curve.specs.Sides.{sides_of}
+use Rattle.std.proofs.Common.{sym, ap, ◌∙◌, Result, Ok, Err}
+use Rattle.nf_curve.proofs.Common.{ℚ, Sum, Passed, passes_Q, at_part, checked, ◌>>=◌, sides_at, sides_of}
 use Rattle.nf_curve.proofs.Exits.{after_ok}
 use Rattle.nf_curve.proofs.sums.sum_at.Goals as goal
 

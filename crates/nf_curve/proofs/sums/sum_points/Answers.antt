@@ -1,12 +1,6 @@
 use Rattle.std.proofs.Common.{◌≡◌, List, ◌∷◌, sym, ap, ◌∙◌}
-use Rattle.std.proofs.lemmas.Result.{err_from_is_err_and}
-use Rattle.nf_rational.specs.Rational.{ℚ}
-use Rattle.nf_frac_def.specs.Passing.{passes_Q}
-use Rattle.nf_frac_def.specs.Checked.{Checked, each}
-use Rattle.nf_frac_def.proofs.Each.{with_front}
-use Rattle.nf_curve_def.specs.Times.{both_times}
-use Rattle.nf_curve_def.specs.Sums.{sum_at, checked_sum}
-use Rattle.nf_curve.specs.Places.{times_after}
+use Rattle.nf_curve.proofs.Common.{err_from_is_err_and, ℚ, passes_Q, Checked, each, with_front, both_times, sum_at, times_after}
+use Rattle.nf_curve_def.specs.Sums.{checked_sum}
 use Rattle.nf_curve.proofs.Walking.{fewer_left}
 use Rattle.nf_curve.proofs.Exits.{front_none, each_goes, each_stops, each_ends}
 use Rattle.nf_curve.proofs.sums.sum_points.Goals as goal

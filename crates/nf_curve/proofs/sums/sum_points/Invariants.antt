@@ -1,11 +1,5 @@
 use Rattle.std.proofs.Common.{◌≡◌, length}
-use Rattle.nf_frac_def.specs.Passing.{passes_Q}
-use Rattle.nf_frac_def.specs.Checked.{each}
-use Rattle.nf_frac_def.proofs.Each.{with_front}
-use Rattle.nf_curve_def.specs.Times.{both_times}
-use Rattle.nf_curve_def.specs.Sums.{sum_at}
-use Rattle.nf_curve.specs.Moments.{IsThere, times_left}
-use Rattle.nf_curve.specs.Slopes.{KeepBoth}
+use Rattle.nf_curve.proofs.Common.{passes_Q, each, with_front, both_times, sum_at, IsThere, times_left, KeepBoth}
 use Rattle.nf_curve.proofs.sums.sum_points.Given as goal
 
 -- the points so far, and those at the times to come

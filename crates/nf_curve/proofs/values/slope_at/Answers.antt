@@ -1,9 +1,5 @@
-use Rattle.std.proofs.Common.{◌<◌, ◌-◌, length, refl, sym, arith}
-use Rattle.std.specs.Prelude.{Ok, Err}
-use Rattle.std.proofs.lemmas.Option.{slice_get_read}
-use Rattle.std.proofs.lemmas.Result.{err_from_is_err_and}
-use Rattle.nf_frac_def.specs.Passing.{passes_Q}
-use Rattle.nf_curve_def.specs.Lines.{checked_slope}
+use Rattle.std.proofs.Common.{◌<◌, ◌-◌, length, refl, sym, arith, Ok, Err}
+use Rattle.nf_curve.proofs.Common.{slice_get_read, err_from_is_err_and, passes_Q, checked_slope}
 use Rattle.nf_curve.proofs.Exits.{was_ok}
 use Rattle.nf_curve.proofs.Placing.{rise-pairs}
 use Rattle.nf_curve.proofs.Sloping.{keeps-found, keeps-kept, slope-read}

@@ -1,9 +1,6 @@
-use Rattle.std.proofs.Common.{◌<◌, ◌-◌, length, get_or, refl, sym, ◌∙◌, rules, arith}
-use Rattle.std.specs.Prelude.{Ok, Err}
-use Rattle.std.proofs.lemmas.Result.{err_from_is_err_and}
-use Rattle.std.proofs.lemmas.Option.{slice_get_read, slice_get_past, slice_get-get_or}
+use Rattle.std.proofs.Common.{◌<◌, ◌-◌, length, get_or, refl, sym, ◌∙◌, rules, arith, Ok, Err}
+use Rattle.nf_curve.proofs.Common.{err_from_is_err_and, slice_get_read, slice_get_past, slice_get-get_or, passes_Q}
 use Rattle.nf_frac.proofs.Comparisons.{same_by_order}
-use Rattle.nf_frac_def.specs.Passing.{passes_Q}
 use Rattle.nf_curve.proofs.Placing.{place_within, place_some, around-place, curve-rises, value-last, value-same, value-line}
 use Rattle.nf_curve.proofs.Sloping.{line-stops, line-goes}
 use Rattle.nf_curve.proofs.values.value_with.Goals as goal

@@ -1,9 +1,8 @@
 use Rattle.std.proofs.Common.{sym, ◌∙◌, arith}
-use Rattle.nf_rational_laws.proofs.Order.{≤ℚ_of_lt}
+use Rattle.nf_curve.proofs.Common.{≤ℚ_of_lt, ≤ℚ_trans}
 use Rattle.nf_curve.proofs.Placing.{place-rises}
 use Rattle.nf_curve.proofs.Walking.{walk-ends, walk-goes, time-first, earlier-left, earlier-right}
 use Rattle.nf_curve.proofs.walk.next_moment.Goals as goal
-use Rattle.nf_rational_laws.proofs.Chains.{≤ℚ_trans}
 
 pub returns-in_default-clause-times : goal.returns-in_default-clause-times
 returns-in_default-clause-times c =

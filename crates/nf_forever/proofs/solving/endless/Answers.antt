@@ -1,11 +1,5 @@
-use Rattle.std.proofs.Common.{◌≡◌, ℕ, ap, ◌∙◌}
-use Rattle.std.specs.Prelude.{Some, None}
-use Rattle.nf_model.specs.Equilibrium.{Flow}
-use Rattle.nf_model.specs.Pattern.{Pattern}
-use Rattle.nf_thin_def.specs.PhaseRun.{Standing, flow_of}
-use Rattle.nf_phase.specs.Stepping.{tail_by}
-use Rattle.nf_phase_def.specs.ToEnd.{Tail}
-use Rattle.nf_forever_def.specs.ForeverRun.{Forever, NeverEnds, forever_of}
+use Rattle.std.proofs.Common.{◌≡◌, ℕ, ap, ◌∙◌, Some, None}
+use Rattle.nf_forever.proofs.Common.{Flow, Pattern, Standing, flow_of, tail_by, Tail, Forever, NeverEnds, forever_of}
 use Rattle.nf_forever.proofs.solving.endless.Goals as goal
 
 -- The result of a run that never ends has its flow, its phases, its last pattern and its tail.

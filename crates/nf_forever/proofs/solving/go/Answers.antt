@@ -1,5 +1,5 @@
 use Rattle.std.proofs.Common.{◌+◌, suc, add-one, ap, ◌∙◌, arith}
-use Rattle.nf_frac_def.specs.Passing.{passes_Q}
+use Rattle.nf_forever.proofs.Common.{passes_Q}
 use Rattle.nf_forever.proofs.Going.{gone_nowhere, gone_further, ends_at_phases, ends_never, ends_by_fault}
 use Rattle.nf_forever.proofs.solving.go.Goals as goal
 

@@ -1,4 +1,4 @@
-use Rattle.nf_frac_def.specs.Passing.{passes_Q}
+use Rattle.nf_forever.proofs.Common.{passes_Q}
 use Rattle.nf_forever.proofs.Going.{GoneOn}
 use Rattle.nf_forever.proofs.solving.go.Given as goal
 

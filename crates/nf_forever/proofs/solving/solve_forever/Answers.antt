@@ -1,5 +1,4 @@
-use Rattle.nf_frac_def.specs.Passing.{passes_Q}
-use Rattle.nf_forever.specs.Ends.{end_in}
+use Rattle.nf_forever.proofs.Common.{passes_Q, end_in}
 use Rattle.nf_forever.proofs.Told.{run_answered, form_answered, equilibrium_answered, tail_answered, grows_answered, stop_answered}
 use Rattle.nf_forever.proofs.solving.solve_forever.Goals as goal
 

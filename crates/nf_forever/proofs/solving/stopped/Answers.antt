@@ -1,11 +1,5 @@
-use Rattle.std.proofs.Common.{◌≡◌, ℕ, ap, ◌∙◌}
-use Rattle.std.specs.Prelude.{Some, None}
-use Rattle.nf_rational.specs.Rational.{ℚ}
-use Rattle.nf_model.specs.Equilibrium.{Flow}
-use Rattle.nf_model.specs.Pattern.{Pattern}
-use Rattle.nf_net_def.specs.declared.Cause.{Cause}
-use Rattle.nf_thin_def.specs.PhaseRun.{Standing, flow_of}
-use Rattle.nf_forever_def.specs.ForeverRun.{Forever, Stops, forever_of}
+use Rattle.std.proofs.Common.{◌≡◌, ℕ, ap, ◌∙◌, Some, None}
+use Rattle.nf_forever.proofs.Common.{ℚ, Flow, Pattern, Cause, Standing, flow_of, Forever, Stops, forever_of}
 use Rattle.nf_forever.proofs.solving.stopped.Goals as goal
 
 -- The result of a stopped run has its flow, its phases, its last pattern and the stop.

@@ -1,13 +1,6 @@
-use Rattle.std.proofs.Common.{◌≡◌, ℕ, List, [], ◌∷◌, ap, ◌∙◌}
+use Rattle.std.proofs.Common.{◌≡◌, ℕ, List, [], ◌∷◌, ap, ◌∙◌, codes}
+use Rattle.nf_forever.proofs.Common.{ℚ, printed, number_at, name_at, same_gathered, flow_line, tail_in}
 use mathlib.Core.Path.{ap₂}
-use Rattle.std.specs.Prelude.{codes}
-use Rattle.nf_rational.specs.Rational.{ℚ}
-use Rattle.nf_frac_words.specs.Printed.{printed}
-use Rattle.nf_model.specs.Entries.{number_at}
-use Rattle.nf_net_def.specs.Names.{name_at}
-use Rattle.nf_report_pages.proofs.Gathering.{same_gathered}
-use Rattle.nf_forever_def.specs.ForeverText.{flow_line}
-use Rattle.nf_forever.specs.Seen.{tail_in}
 use Rattle.nf_forever.proofs.tail_lines.put_flow.Goals as goal
 
 pub returns : goal.returns

@@ -1,12 +1,6 @@
-use Rattle.std.proofs.Common.{◌≡◌, ◌+◌, ◌<◌, ℕ, List, take, drop, suc, length, arith}
-use Rattle.std.specs.Prelude.{flat_map}
-use Rattle.std.specs.List.{range_with_len}
-use Rattle.nf_net_def.specs.Report.{for_each}
-use Rattle.nf_report_pages.specs.Written.{Line}
-use Rattle.nf_report_pages.proofs.Parts.{each_next, each_left, each_all}
-use Rattle.nf_report_pages.proofs.Gathering.{gathered_nil, gathered_next, gathered_then_failed, same_gathered}
-use Rattle.nf_forever_def.specs.ForeverText.{flow_line}
-use Rattle.nf_forever.specs.Seen.{tail_in}
+use Rattle.std.proofs.Common.{◌≡◌, ◌+◌, ◌<◌, ℕ, List, take, drop, suc, length, arith, flat_map}
+use Rattle.nf_forever.proofs.Common.{range_with_len, for_each, Line, each_next, each_left, each_all, gathered_nil, gathered_next, gathered_then_failed}
+use Rattle.nf_forever.proofs.Common.{same_gathered, flow_line, tail_in}
 use Rattle.nf_forever.proofs.tail_lines.put_flows.Goals as goal
 
 pub loop-link-init : goal.loop-link-init

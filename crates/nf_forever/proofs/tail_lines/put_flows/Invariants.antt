@@ -1,11 +1,5 @@
-use Rattle.std.proofs.Common.{take, length}
-use Rattle.std.specs.Prelude.{Ok, flat_map}
-use Rattle.std.specs.List.{range_with_len}
-use Rattle.nf_edge.specs.declared.SinkFault.{SinkFault}
-use Rattle.nf_edge.specs.Writing.{state_of}
-use Rattle.nf_report_pages.specs.Pages.{GatheredLines}
-use Rattle.nf_forever_def.specs.ForeverText.{flow_line}
-use Rattle.nf_forever.specs.Seen.{tail_in}
+use Rattle.std.proofs.Common.{take, length, Ok, flat_map}
+use Rattle.nf_forever.proofs.Common.{range_with_len, SinkFault, state_of, GatheredLines, flow_line, tail_in}
 use Rattle.nf_forever.proofs.tail_lines.put_flows.Given as goal
 
 abbrev pub invariant-loop-link : goal.invariant-loop-link

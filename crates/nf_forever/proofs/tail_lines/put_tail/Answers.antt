@@ -1,8 +1,5 @@
 use Rattle.std.proofs.Common.{◌++◌, length, refl}
-use Rattle.nf_net_def.specs.Report.{for_each}
-use Rattle.nf_report_pages.proofs.Gathering.{gathered_next, gathered_failed}
-use Rattle.nf_forever_def.specs.ForeverText.{slope_line, flow_line}
-use Rattle.nf_forever.specs.Seen.{tail_in}
+use Rattle.nf_forever.proofs.Common.{for_each, gathered_next, gathered_failed, slope_line, flow_line, tail_in}
 use Rattle.nf_forever.proofs.tail_lines.put_tail.Goals as goal
 
 pub returns-in_err-put_slopes : goal.returns-in_err-put_slopes

@@ -1,10 +1,5 @@
-use Rattle.std.proofs.Common.{List, [], ◌∷◌, ◌++◌, length, refl}
-use Rattle.std.specs.Prelude.{codes}
-use Rattle.nf_net_def.specs.Report.{for_each, state_lines}
-use Rattle.nf_report_pages.specs.Written.{Line}
-use Rattle.nf_report_pages.proofs.Gathering.{gathered_next, gathered_failed, gathered_then_failed, right_first}
-use Rattle.nf_forever_def.specs.ForeverText.{tail_lines}
-use Rattle.nf_forever.specs.Seen.{forever_in}
+use Rattle.std.proofs.Common.{List, [], ◌∷◌, ◌++◌, length, refl, codes}
+use Rattle.nf_forever.proofs.Common.{for_each, state_lines, Line, gathered_next, gathered_failed, gathered_then_failed, right_first, tail_lines, forever_in}
 use Rattle.nf_forever.proofs.text.put_end.Goals as goal
 
 pub put_states-requires : goal.put_states-requires

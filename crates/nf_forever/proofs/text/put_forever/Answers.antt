@@ -1,13 +1,7 @@
-use Rattle.std.proofs.Common.{◌≡◌, List, [], ◌∷◌, ◌++◌, length, refl, ap, ◌∙◌}
-use Rattle.std.specs.Prelude.{codes}
-use Rattle.std.specs.Option.{option_copied}
+use Rattle.std.proofs.Common.{◌≡◌, List, [], ◌∷◌, ◌++◌, length, refl, ap, ◌∙◌, codes}
+use Rattle.nf_forever.proofs.Common.{option_copied, Line, flow_lines, gathered_next, gathered_failed, gathered_then_failed, same_gathered, right_first}
+use Rattle.nf_forever.proofs.Common.{Forever, tail_lines, forever_lines, for_each, state_lines, forever_in}
 use Rattle.nf_net_def.specs.Named.{Named}
-use Rattle.nf_report_pages.specs.Written.{Line, flow_lines}
-use Rattle.nf_report_pages.proofs.Gathering.{gathered_next, gathered_failed, gathered_then_failed, same_gathered, right_first}
-use Rattle.nf_forever_def.specs.ForeverRun.{Forever}
-use Rattle.nf_forever_def.specs.ForeverText.{tail_lines, forever_lines}
-use Rattle.nf_net_def.specs.Report.{for_each, state_lines}
-use Rattle.nf_forever.specs.Seen.{forever_in}
 use Rattle.nf_forever.specs.Parts.{head_lines, end_lines}
 use Rattle.nf_forever.proofs.Joined.{one_by_one}
 use Rattle.nf_forever.proofs.text.put_forever.Goals as goal

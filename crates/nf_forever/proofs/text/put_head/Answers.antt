@@ -1,10 +1,6 @@
-use Rattle.std.proofs.Common.{List, [], ◌∷◌, ◌++◌, refl}
-use Rattle.std.specs.Prelude.{codes}
-use Rattle.std.specs.Option.{option_copied}
-use Rattle.nf_frac_words.specs.Printed.{printed}
+use Rattle.std.proofs.Common.{List, [], ◌∷◌, ◌++◌, refl, codes}
+use Rattle.nf_forever.proofs.Common.{option_copied, printed, Line, gathered_next, gathered_failed, gathered_then_failed}
 use Rattle.nf_net_def.specs.Causes.{cause_words}
-use Rattle.nf_report_pages.specs.Written.{Line}
-use Rattle.nf_report_pages.proofs.Gathering.{gathered_next, gathered_failed, gathered_then_failed}
 use Rattle.nf_forever.proofs.text.put_head.Goals as goal
 
 pub returns-in_err-put_line : goal.returns-in_err-put_line

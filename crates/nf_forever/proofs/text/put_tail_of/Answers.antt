@@ -1,9 +1,6 @@
-use Rattle.std.proofs.Common.{◌≡◌, [], length, sym, ap, subst}
-use Rattle.std.specs.Prelude.{Option, Some, IfSome, option_map}
-use Rattle.nf_report_pages.proofs.Gathering.{gathered_nil, same_gathered}
-use Rattle.nf_forever_def.specs.ForeverText.{tail_lines}
+use Rattle.std.proofs.Common.{◌≡◌, [], length, sym, ap, subst, Option, Some, IfSome, option_map}
+use Rattle.nf_forever.proofs.Common.{gathered_nil, same_gathered, tail_lines, tail_in, forever_in}
 use Rattle.nf_forever.specs.declared.forever.Tail.{Tail}
-use Rattle.nf_forever.specs.Seen.{tail_in, forever_in}
 use Rattle.nf_forever.proofs.text.put_tail_of.Goals as goal
 
 pub returns-in-None : goal.returns-in-None

@@ -1,4 +1,4 @@
-use Rattle.nf_report_pages.proofs.Gathering.{gathered_written, gathered_refused}
+use Rattle.nf_forever.proofs.Common.{gathered_written, gathered_refused}
 use Rattle.nf_forever.proofs.text.write_forever.Goals as goal
 
 pub returns-in_err-put_forever : goal.returns-in_err-put_forever

@@ -1,5 +1,5 @@
 use Rattle.std.proofs.Common.{rules}
-use Rattle.std.proofs.Math.Nat.{le_trans}
+use Rattle.nf_frac.proofs.Common.{le_trans}
 use Rattle.std.proofs.lemmas.Int.{ints}
 use Rattle.nf_frac.proofs.Bits.{sum_bits_fit}
 use Rattle.nf_frac.proofs.whole.added.Goals as goal

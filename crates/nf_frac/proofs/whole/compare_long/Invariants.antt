@@ -1,5 +1,5 @@
 use Rattle.std.proofs.Common.{◌≡◌, ◌+◌, ◌*◌, ◌<◌}
-use Rattle.std.specs.Ordering.{nat_cmp}
+use Rattle.nf_frac.proofs.Common.{nat_cmp}
 use Rattle.nf_frac.proofs.whole.compare_long.Given as goal
 
 abbrev pub invariant-loop-whole : goal.invariant-loop-whole

@@ -1,6 +1,5 @@
 use Rattle.std.proofs.Common.{ℕ, sym, subst}
-use Rattle.std.specs.Int.{IsGcd}
-use Rattle.nf_rational.specs.Gcd.{IsGcd-gcd}
+use Rattle.nf_frac.proofs.Common.{IsGcd, IsGcd-gcd}
 use Rattle.nf_frac.proofs.Halving.{whole_gcd, shifted_back}
 use Rattle.nf_frac.proofs.whole.gcd_halving.Goals as goal
 

@@ -1,6 +1,5 @@
 use Rattle.std.proofs.Common.{◌∙◌, arith}
-use Rattle.std.proofs.lemmas.Nat.Gcd.{IsGcd-from_zero, IsGcd-from_mod, same_from_IsGcd}
-use Rattle.nf_rational.specs.Gcd.{IsGcd-gcd}
+use Rattle.nf_frac.proofs.Common.{IsGcd-from_zero, IsGcd-from_mod, same_from_IsGcd, IsGcd-gcd}
 use Rattle.nf_frac.proofs.whole.gcd_long.Goals as goal
 
 pub loop-y-preserved : goal.loop-y-preserved

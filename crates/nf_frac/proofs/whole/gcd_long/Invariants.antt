@@ -1,5 +1,5 @@
 use Rattle.std.proofs.Common.{ℕ}
-use Rattle.std.specs.Int.{IsGcd}
+use Rattle.nf_frac.proofs.Common.{IsGcd}
 use Rattle.nf_frac.proofs.whole.gcd_long.Given as goal
 
 abbrev pub invariant-loop-y : goal.invariant-loop-y

@@ -1,7 +1,6 @@
 use Rattle.std.proofs.Common.{ℕ, ◌-◌, ◌%◌, ◌≤◌, ◌∙◌, ap, arith}
+use Rattle.nf_frac.proofs.Common.{trailing_zeros, IsGcd-swap, IsGcd-from_sub}
 use mir.Syntax.{w64}
-use Rattle.std.specs.Int.{trailing_zeros}
-use Rattle.std.proofs.lemmas.Nat.Gcd.{IsGcd-swap, IsGcd-from_sub}
 use Rattle.nf_frac.proofs.Halving.{step, odd_min, same_number, one_found}
 use Rattle.nf_frac.proofs.whole.gcd_odd.Goals as goal
 

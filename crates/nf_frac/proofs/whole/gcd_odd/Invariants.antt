@@ -1,5 +1,5 @@
 use Rattle.std.proofs.Common.{◌≡◌, ℕ, ◌+◌, ◌%◌}
-use Rattle.std.specs.Int.{IsGcd}
+use Rattle.nf_frac.proofs.Common.{IsGcd}
 use Rattle.nf_frac.proofs.whole.gcd_odd.Given as goal
 
 abbrev pub invariant-loop-x : goal.invariant-loop-x

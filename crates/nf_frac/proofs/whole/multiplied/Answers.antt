@@ -1,4 +1,4 @@
-use Rattle.std.proofs.Math.Nat.{le_trans}
+use Rattle.nf_frac.proofs.Common.{le_trans}
 use Rattle.nf_frac.proofs.Bits.{short_product, short_times, size_of, size_along, size_beyond, product_bits_fit}
 use Rattle.nf_frac.proofs.whole.multiplied.Goals as goal
 

@@ -1,6 +1,5 @@
 use Rattle.std.proofs.Common.{ℕ, ◌∙◌, ap}
-use Rattle.nf_net_def.specs.NetText.{canonical}
-use Rattle.nf_gen.specs.Ladder.{ladder}
+use Rattle.nf_gen.proofs.Common.{canonical, ladder}
 use Rattle.nf_gen.proofs.Read.{can_be_read, net_is, none_broken}
 use Rattle.nf_gen.proofs.generating.generated.Goals as goal
 

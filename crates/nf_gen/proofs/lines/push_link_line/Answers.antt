@@ -1,4 +1,4 @@
-use Rattle.nf_frac_words.specs.Digits.{digits_of}
+use Rattle.nf_gen.proofs.Common.{digits_of}
 use Rattle.nf_gen.proofs.Pushed.{link_line_pushed}
 use Rattle.nf_gen.proofs.lines.push_link_line.Goals as goal
 

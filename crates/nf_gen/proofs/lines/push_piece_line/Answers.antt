@@ -1,5 +1,5 @@
 use Rattle.std.proofs.Common.{[], ◌∷◌, codes}
-use Rattle.nf_frac_words.specs.Digits.{digits_of}
+use Rattle.nf_gen.proofs.Common.{digits_of}
 use Rattle.nf_text.proofs.Pushed.{same_line}
 use Rattle.nf_gen.proofs.lines.push_piece_line.Goals as goal
 

@@ -1,5 +1,5 @@
 use Rattle.std.proofs.Common.{[], ◌∷◌, codes, refl, ◌∙◌}
-use Rattle.nf_gen.specs.Ladder.{upper, lower, link_from}
+use Rattle.nf_gen.proofs.Common.{upper, lower, link_from}
 use Rattle.nf_gen.proofs.Written.{writes_more, renamed}
 use Rattle.nf_gen.proofs.rails.push_last.Goals as goal
 

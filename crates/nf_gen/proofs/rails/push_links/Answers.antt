@@ -1,5 +1,5 @@
 use Rattle.std.proofs.Common.{◌++◌}
-use Rattle.nf_gen.specs.Ladder.{links_in, links_along, links_down, links_out}
+use Rattle.nf_gen.proofs.Common.{links_in, links_along, links_down, links_out}
 use Rattle.nf_gen.proofs.Written.{writes_more}
 use Rattle.nf_gen.proofs.rails.push_links.Goals as goal
 

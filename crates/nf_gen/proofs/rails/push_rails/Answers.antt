@@ -1,7 +1,5 @@
 use Rattle.std.proofs.Common.{◌≡◌, ℕ, ◌-◌, flat_map, subst, arith}
-use Rattle.std.specs.List.{range_with_len}
-use Rattle.nf_gen.specs.Ladder.{rails_on}
-use Rattle.nf_gen.specs.Writing.{WritesLinks}
+use Rattle.nf_gen.proofs.Common.{range_with_len, rails_on, WritesLinks}
 use Rattle.nf_gen.proofs.Written.{along_more}
 use Rattle.nf_gen.proofs.rails.push_rails.Goals as goal
 

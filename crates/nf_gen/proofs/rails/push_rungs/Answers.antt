@@ -1,7 +1,5 @@
 use Rattle.std.proofs.Common.{◌≡◌, ℕ, ◌+◌, ◌-◌, ◌≤◌, map, subst, arith}
-use Rattle.std.specs.List.{range_with_len}
-use Rattle.nf_gen.specs.Ladder.{rung_at}
-use Rattle.nf_gen.specs.Writing.{WritesLinks}
+use Rattle.nf_gen.proofs.Common.{range_with_len, rung_at, WritesLinks}
 use Rattle.nf_gen.proofs.Written.{down_more}
 use Rattle.nf_gen.proofs.rails.push_rungs.Goals as goal
 

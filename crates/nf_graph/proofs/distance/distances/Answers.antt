@@ -1,9 +1,5 @@
 use Rattle.std.proofs.Common.{rules, ◌≡◌, ◌<◌, List, Option, Some, None, set, replicate, sym, subst, ap, refl, ◌∙◌}
-use Rattle.std.proofs.lemmas.List.{with_items_is}
-use Rattle.std.proofs.lemmas.Result.{err_from_is_err_and}
-use Rattle.nf_rational.specs.Rational.{ℚ}
-use Rattle.nf_graph.specs.Distances.{StopsAt, PassesAt}
-use Rattle.nf_graph.specs.Steps.{IsNearest}
+use Rattle.nf_graph.proofs.Common.{with_items_is, err_from_is_err_and, ℚ, StopsAt, PassesAt, IsNearest}
 use Rattle.nf_graph.proofs.Entries.{unsettled}
 use Rattle.nf_graph.proofs.Offering.{ForPassed-weaker}
 use Rattle.nf_graph.proofs.Settling.{AreSettled, offering_along, settled_first, settled_next, unsettled_next, settled_last, none_passes, passes_at}

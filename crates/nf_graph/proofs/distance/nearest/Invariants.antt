@@ -1,4 +1,4 @@
-use Rattle.nf_graph.specs.Steps.{IsNearestBefore}
+use Rattle.nf_graph.proofs.Common.{IsNearestBefore}
 use Rattle.nf_graph.proofs.distance.nearest.Given as goal
 
 -- the least offer made to the open nodes so far

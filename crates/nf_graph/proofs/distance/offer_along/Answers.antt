@@ -1,6 +1,5 @@
 use Rattle.std.proofs.Common.{◌∙◌}
-use Rattle.std.proofs.lemmas.Result.{err_from_is_err_and}
-use Rattle.nf_model.specs.Walk.{Hop, IsHop}
+use Rattle.nf_graph.proofs.Common.{err_from_is_err_and, Hop, IsHop}
 use Rattle.nf_graph.proofs.Walks.{same_from_test, apart_from_test}
 use Rattle.nf_graph.proofs.Offering.{IsHop-read_at, passes_from, offered_along, offered_past}
 use Rattle.nf_graph.proofs.distance.offer_along.Goals as goal

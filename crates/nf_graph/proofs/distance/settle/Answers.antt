@@ -1,11 +1,5 @@
 use Rattle.std.proofs.Common.{◌≡◌, ◌<◌, ℕ, List, Option, Some, length, set, sym, subst}
-use Rattle.std.proofs.Math.ListN.{length-set}
-use Rattle.std.proofs.lemmas.Option.{slice_get_within}
-use Rattle.std.proofs.lemmas.Result.{err_from_is_err_and}
-use Rattle.nf_rational.specs.Rational.{ℚ}
-use Rattle.nf_model.specs.Walk.{Hop, IsHop}
-use Rattle.nf_rational_laws.proofs.Entries.{set_same}
-use Rattle.nf_graph.specs.Distances.{HasSum, AreOffers, IsUnsettled, LinksBefore}
+use Rattle.nf_graph.proofs.Common.{length-set, slice_get_within, err_from_is_err_and, ℚ, Hop, IsHop, set_same, HasSum, AreOffers, IsUnsettled, LinksBefore}
 use Rattle.nf_graph.proofs.Walks.{hop_at}
 use Rattle.nf_graph.proofs.Offering.{offers_settled, offers_next, offers_all, stops_at}
 use Rattle.nf_graph.proofs.distance.settle.Goals as goal

@@ -1,4 +1,4 @@
-use Rattle.nf_graph.specs.Distances.{AreOffers, LinksBefore}
+use Rattle.nf_graph.proofs.Common.{AreOffers, LinksBefore}
 use Rattle.nf_graph.proofs.distance.settle.Given as goal
 
 -- the links of the node so far have made their offers, and so have those of the nodes that were settled before

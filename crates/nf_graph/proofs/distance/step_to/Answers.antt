@@ -1,6 +1,5 @@
 use Rattle.std.proofs.Common.{◌≡◌, ◌<◌, ℕ, false, Some, slice_get, sym, subst}
-use Rattle.std.specs.Option.{is_some}
-use Rattle.nf_graph.specs.Distances.{HasSum, IsUnsettled}
+use Rattle.nf_graph.proofs.Common.{is_some, HasSum, IsUnsettled}
 use Rattle.nf_graph.proofs.Entries.{open_by_test, entry_by_place}
 use Rattle.nf_graph.proofs.Offering.{step_found}
 use Rattle.nf_graph.proofs.distance.step_to.Goals as goal

@@ -1,8 +1,5 @@
 use Rattle.std.proofs.Common.{◌≡◌, ap, subst, refl}
-use Rattle.nf_model.specs.Walk.{Hop, IsHop}
-use Rattle.nf_rational.specs.Rational.{ℚ}
-use Rattle.nf_rational.specs.Operations.{◌+ℚ◌}
-use Rattle.nf_graph.specs.Distances.{SumPasses}
+use Rattle.nf_graph.proofs.Common.{Hop, IsHop, ℚ, ◌+ℚ◌, SumPasses}
 use Rattle.nf_graph.proofs.Offering.{checked-ok, checked-err, IsHop-read_at}
 use Rattle.nf_graph.proofs.Walks.{IsHop-unique}
 use Rattle.nf_graph.proofs.distance.sum_along.Goals as goal

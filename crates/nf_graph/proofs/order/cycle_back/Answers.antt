@@ -1,8 +1,5 @@
 use Rattle.std.proofs.Common.{◌≡◌, ℕ, ◌<◌, List, length, set, replicate, true, false, Some, slice_get, sym, subst, ap, ◌∙◌, arith}
-use Rattle.std.proofs.lemmas.Option.{slice_get_within}
-use Rattle.std.proofs.lemmas.List.{length-replicate}
-use Rattle.nf_model.specs.Walk.{Hop, IsHop}
-use Rattle.nf_graph.specs.Order.{Turns, IsChosenCycle}
+use Rattle.nf_graph.proofs.Common.{slice_get_within, length-replicate, Hop, IsHop, Turns, IsChosenCycle}
 use Rattle.nf_graph.proofs.Flags.{free, Has_from_place, not_Has_from_place}
 use Rattle.nf_graph.proofs.Reaching.{fewer_free}
 use Rattle.nf_graph.proofs.Walks.{IsHop-read}

@@ -1,6 +1,5 @@
 use Rattle.std.proofs.Common.{◌≡◌, sym, subst}
-use Rattle.nf_model.specs.Entries.{Has}
-use Rattle.nf_model.specs.Walk.{Hop}
+use Rattle.nf_graph.proofs.Common.{Has, Hop}
 use Rattle.nf_graph.proofs.Flags.{Has_from_read, not_Has_from_read}
 use Rattle.nf_graph.proofs.Walks.{IsHop-read, IsHop-unique}
 use Rattle.nf_graph.proofs.Searching.{none_more, none_within}

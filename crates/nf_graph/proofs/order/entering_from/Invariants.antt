@@ -1,4 +1,4 @@
-use Rattle.nf_graph.specs.Order.{NoneEnters}
+use Rattle.nf_graph.proofs.Common.{NoneEnters}
 use Rattle.nf_graph.proofs.order.entering_from.Given as goal
 
 -- none of the links so far enters the node

@@ -1,5 +1,5 @@
 use Rattle.std.proofs.Common.{sym, subst}
-use Rattle.nf_graph.specs.Order.{NoneEnters}
+use Rattle.nf_graph.proofs.Common.{NoneEnters}
 use Rattle.nf_graph.proofs.Flags.{set_by_read, unset_by_read}
 use Rattle.nf_graph.proofs.Searching.{none_enters}
 use Rattle.nf_graph.proofs.order.is_ready.Goals as goal

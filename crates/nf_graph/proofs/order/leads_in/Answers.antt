@@ -1,5 +1,5 @@
 use Rattle.std.proofs.Common.{◌≡◌, ℕ, ◌<◌, length, sym, ap, subst, ◌∙◌}
-use Rattle.nf_model.specs.Walk.{Hop}
+use Rattle.nf_graph.proofs.Common.{Hop}
 use Rattle.nf_graph.proofs.Flags.{free_by_read, otherwise}
 use Rattle.nf_graph.proofs.Walks.{same_from_test, apart_from_test}
 use Rattle.nf_graph.proofs.order.leads_in.Goals as goal

@@ -1,7 +1,5 @@
 use Rattle.std.proofs.Common.{ℕ, ◌<◌, get_or, below_more, sym, subst}
-use Rattle.std.proofs.lemmas.Option.{slice_get-get_or}
-use Rattle.nf_model.specs.Entries.{Has}
-use Rattle.nf_graph.specs.Order.{EntersFromUnplaced}
+use Rattle.nf_graph.proofs.Common.{slice_get-get_or, Has, EntersFromUnplaced}
 use Rattle.nf_graph.proofs.Searching.{searched_set}
 use Rattle.nf_graph.proofs.order.next_ready.Goals as goal
 

@@ -1,6 +1,5 @@
 use Rattle.std.proofs.Common.{ℕ, ◌<◌}
-use Rattle.nf_model.specs.Entries.{Has}
-use Rattle.nf_graph.specs.Order.{EntersFromUnplaced, AreSearched}
+use Rattle.nf_graph.proofs.Common.{Has, EntersFromUnplaced, AreSearched}
 use Rattle.nf_graph.proofs.order.next_ready.Given as goal
 
 -- each of the nodes so far that is not placed is entered, and the numbers searched are right

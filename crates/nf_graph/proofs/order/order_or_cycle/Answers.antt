@@ -1,8 +1,5 @@
 use Rattle.std.proofs.Common.{◌≡◌, ℕ, ◌<◌, List, Bool, length, set, replicate, true, false, ap, sym, subst, ◌∙◌}
-use Rattle.std.proofs.lemmas.List.{length-replicate, with_items_is}
-use Rattle.nf_model.specs.Entries.{Has}
-use Rattle.nf_graph.specs.Graph.{AreBelow}
-use Rattle.nf_graph.specs.Order.{IsReady, IsStuck, AreSearched}
+use Rattle.nf_graph.proofs.Common.{length-replicate, with_items_is, Has, AreBelow, IsReady, IsStuck, AreSearched}
 use Rattle.nf_graph.proofs.Flags.{free}
 use Rattle.nf_graph.proofs.Reaching.{fewer_free}
 use Rattle.nf_graph.proofs.Searching.{searched_first, searched_placed}

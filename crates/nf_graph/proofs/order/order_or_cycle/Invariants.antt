@@ -1,4 +1,4 @@
-use Rattle.nf_graph.specs.Order.{AreSearched}
+use Rattle.nf_graph.proofs.Common.{AreSearched}
 use Rattle.nf_graph.proofs.Flags.{free}
 use Rattle.nf_graph.proofs.Orders.{ArePlaced}
 use Rattle.nf_graph.proofs.order.order_or_cycle.Given as goal

@@ -1,8 +1,5 @@
-use Rattle.nf_graph.specs.Found.{IsFound}
-use Rattle.nf_graph.specs.declared.order.OrderOrCycle.{OrderOrCycle}
-use Rattle.nf_graph.specs.Order.{IsOrder, IsChosenCycle}
 use Rattle.std.proofs.Common.{refl, subst}
-use Rattle.std.proofs.lemmas.Bool.{true≢false}
+use Rattle.nf_graph.proofs.Common.{IsFound, OrderOrCycle, IsOrder, IsChosenCycle, true≢false}
 use Rattle.nf_graph.proofs.Orders.{IsOrder-no_cycle}
 use Rattle.nf_graph.proofs.order.topological.Goals as goal
 

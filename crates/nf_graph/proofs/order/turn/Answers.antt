@@ -1,7 +1,6 @@
 use Rattle.std.proofs.Common.{◌≡◌, ℕ, ◌<◌, length, Some, slice_get, refl, below_more, add-one, sym, subst, ap, ◌∙◌, arith}
-use Rattle.std.proofs.lemmas.Option.{slice_get_within, slice_get_read}
+use Rattle.nf_graph.proofs.Common.{slice_get_within, slice_get_read, Hop, IsHop}
 use borrow.Author.Rules.{scaled_Fits}
-use Rattle.nf_model.specs.Walk.{Hop, IsHop}
 use Rattle.nf_graph.proofs.Walks.{IsHop-read, IsHop-unique, same_from_test, apart_from_test}
 use Rattle.nf_graph.proofs.order.turn.Goals as goal
 

@@ -1,5 +1,5 @@
 use Rattle.std.proofs.Common.{◌≡◌, ℕ, ◌<◌, Some, slice_get}
-use Rattle.nf_model.specs.Walk.{Hop, IsHop}
+use Rattle.nf_graph.proofs.Common.{Hop, IsHop}
 use Rattle.nf_graph.proofs.order.turn.Given as goal
 
 -- none of the links so far leads to the node

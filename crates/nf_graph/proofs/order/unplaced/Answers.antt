@@ -1,5 +1,5 @@
 use Rattle.std.proofs.Common.{below_more}
-use Rattle.nf_model.specs.Entries.{Has}
+use Rattle.nf_graph.proofs.Common.{Has}
 use Rattle.nf_graph.proofs.Flags.{Has_from_read, not_Has_from_read}
 use Rattle.nf_graph.proofs.order.unplaced.Goals as goal
 

@@ -1,5 +1,5 @@
 use Rattle.std.proofs.Common.{ℕ, ◌<◌}
-use Rattle.nf_model.specs.Entries.{Has}
+use Rattle.nf_graph.proofs.Common.{Has}
 use Rattle.nf_graph.proofs.order.unplaced.Given as goal
 
 -- each of the nodes so far is placed

@@ -1,9 +1,5 @@
 use Rattle.std.proofs.Common.{◌≡◌, length, ap, refl, subst, ◌∙◌}
-use Rattle.std.proofs.Math.ListN.{length-map}
-use Rattle.std.proofs.lemmas.Bool.{true≢false}
-use Rattle.nf_graph.specs.Found.{IsFound}
-use Rattle.nf_graph.specs.declared.order.OrderOrCycle.{OrderOrCycle}
-use Rattle.nf_graph.specs.Order.{IsOrder, IsZeroCycle}
+use Rattle.nf_graph.proofs.Common.{length-map, true≢false, IsFound, OrderOrCycle, IsOrder, IsZeroCycle}
 use Rattle.nf_graph.proofs.Orders.{IsOrder-no_cycle}
 use Rattle.nf_graph.proofs.ZeroLinks.{zero_flags, zero_of_chosen, chosen_of_zero}
 use Rattle.nf_graph.proofs.order.zero_cycle.Goals as goal

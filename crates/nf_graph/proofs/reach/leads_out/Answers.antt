@@ -1,6 +1,5 @@
 use Rattle.std.proofs.Common.{ap, ◌∙◌}
-use Rattle.nf_model.specs.Entries.{Has}
-use Rattle.nf_model.specs.Walk.{Hop}
+use Rattle.nf_graph.proofs.Common.{Has, Hop}
 use Rattle.nf_graph.proofs.Flags.{free_by_read, set_by_read, unset_by_read, otherwise}
 use Rattle.nf_graph.proofs.reach.leads_out.Goals as goal
 

@@ -1,6 +1,5 @@
 use Rattle.std.proofs.Common.{ap, sym, subst}
-use Rattle.nf_model.specs.Entries.{Has}
-use Rattle.nf_model.specs.Walk.{Hop}
+use Rattle.nf_graph.proofs.Common.{Has, Hop}
 use Rattle.nf_graph.proofs.Walks.{each_more, each_all, IsHop-read}
 use Rattle.nf_graph.proofs.reach.next_reached.Goals as goal
 

@@ -1,6 +1,5 @@
 use Rattle.std.proofs.Common.{ℕ, ◌<◌}
-use Rattle.nf_model.specs.Entries.{Has}
-use Rattle.nf_model.specs.Walk.{Hop, IsHop}
+use Rattle.nf_graph.proofs.Common.{Has, Hop, IsHop}
 use Rattle.nf_graph.proofs.reach.next_reached.Given as goal
 
 -- none of the hops so far leaves the flags

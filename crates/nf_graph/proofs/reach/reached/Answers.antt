@@ -1,7 +1,5 @@
 use Rattle.std.proofs.Common.{◌≡◌, ◌<◌, ℕ, List, Bool, length, set, replicate, true, false, sym, ap, subst, ◌∙◌, rules}
-use Rattle.std.proofs.lemmas.List.{length-replicate}
-use Rattle.nf_model.specs.Entries.{Has}
-use Rattle.nf_graph.specs.Graph.{Leaves, IsClosed}
+use Rattle.nf_graph.proofs.Common.{length-replicate, Has, Leaves, IsClosed}
 use Rattle.nf_graph.proofs.Flags.{free, Has-replicate}
 use Rattle.nf_graph.proofs.Reaching.{Leaves-below, walked_more, fewer_free, reached_all, walked_first}
 use Rattle.nf_graph.proofs.reach.reached.Goals as goal

@@ -1,9 +1,6 @@
 use Rattle.std.proofs.Common.{ℕ, ◌<◌, length, take, sym, subst, ◌∙◌}
-use Rattle.std.proofs.Math.Nat.{lt_of_lt_of_le}
-use Rattle.std.proofs.lemmas.List.{take_more_set}
-use Rattle.std.proofs.lemmas.Result.{err_from_is_err_and, IfOk-from_err}
+use Rattle.nf_linear.proofs.Common.{lt_of_lt_of_le, take_more_set, err_from_is_err_and, IfOk-from_err, IsZeroUnless}
 use Rattle.nf_frac_def.specs.declared.Halt.TheVariants as Halt
-use Rattle.nf_linear.specs.Marks.{IsZeroUnless}
 use Rattle.nf_linear.proofs.Covering.{set_read}
 use Rattle.nf_linear.proofs.Noted.{taken_more}
 use Rattle.nf_linear.proofs.Stages.{pivot_within, pivot_some, column_cleared, column_stops}

@@ -1,10 +1,6 @@
-use Rattle.std.proofs.Common.{◌≡◌, ℕ, ◌+◌, ◌<◌, ◌≤◌, List, length, take, Bool, true, false, refl, ap, sym, subst, ◌∙◌, arith}
-use Rattle.std.specs.Prelude.{if◌then◌else◌, Some, None, Ok}
-use Rattle.std.proofs.lemmas.Bool.{false≢true}
-use Rattle.std.proofs.lemmas.Result.{err_from_is_err_and, IfOk-from_err}
-use Rattle.std.proofs.lemmas.List.{take_all}
+use Rattle.std.proofs.Common.{◌≡◌, ℕ, ◌+◌, ◌<◌, ◌≤◌, List, length, take, Bool, true, false, refl, ap, sym, subst, ◌∙◌, arith, if◌then◌else◌, Some, None, Ok}
+use Rattle.nf_linear.proofs.Common.{false≢true, err_from_is_err_and, IfOk-from_err, take_all, eliminated, HasPivots}
 use Rattle.nf_frac_def.specs.declared.Halt.TheVariants as Halt
-use Rattle.nf_linear.specs.Pivots.{eliminated, HasPivots}
 use Rattle.nf_linear.proofs.Stages.{first_stage, stage_square, stage_none, stage_stops, stage_more, stage_all, stage_pivots}
 use Rattle.nf_linear.proofs.elimination.clear_columns.Goals as goal
 

@@ -1,6 +1,5 @@
 use Rattle.std.proofs.Common.{◌≡◌, length, take}
-use Rattle.nf_linear.specs.Marks.{Covers}
-use Rattle.nf_linear.specs.Pivots.{AreTaken}
+use Rattle.nf_linear.proofs.Common.{Covers, AreTaken}
 use Rattle.nf_linear.proofs.Stages.{Stage}
 use Rattle.nf_linear.proofs.elimination.clear_columns.Given as goal
 

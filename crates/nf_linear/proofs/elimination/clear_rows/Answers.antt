@@ -1,11 +1,6 @@
 use Rattle.std.proofs.Common.{◌≡◌, ℕ, ◌+◌, ◌<◌, List, length, set, get_or, Ok, Err, refl, sym, subst, ◌∙◌, length-set, arith}
-use Rattle.std.specs.List.{AllByRecursion}
-use Rattle.std.proofs.lemmas.Result.{err_from_is_err_and, IfOk-from_err}
-use Rattle.nf_rational.specs.Rational.{ℚ}
+use Rattle.nf_linear.proofs.Common.{AllByRecursion, err_from_is_err_and, IfOk-from_err, ℚ, at_part, seen_passed_at, row_at, meant}
 use Rattle.nf_frac_def.specs.declared.Part.TheVariants as Part
-use Rattle.nf_frac_def.specs.Checked.{at_part, seen_passed_at}
-use Rattle.nf_linear_def.specs.Table.{row_at}
-use Rattle.nf_linear.specs.Rows.{meant}
 use Rattle.nf_linear.proofs.Clearing.{step, cleared_first, cleared_all, cleared_more, cleared_stops, row_before, row_got}
 use Rattle.nf_linear.proofs.Covering.{same_noted}
 use Rattle.nf_linear.proofs.Skips.{cleared_skipped}

@@ -1,6 +1,5 @@
 use Rattle.std.proofs.Common.{◌-◌, ◌≤◌, length}
-use Rattle.nf_linear.specs.Marks.{AreSameUnless}
-use Rattle.nf_linear.specs.Rows.{meant}
+use Rattle.nf_linear.proofs.Common.{AreSameUnless, meant}
 use Rattle.nf_linear.proofs.Clearing.{ClearedSoFar}
 use Rattle.nf_linear.proofs.elimination.clear_rows.Given as goal
 

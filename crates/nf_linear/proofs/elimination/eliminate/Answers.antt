@@ -1,14 +1,7 @@
 use Rattle.std.proofs.Common.{◌≡◌, ℕ, ◌+◌, ◌<◌, List, length, take, drop, get_or, sym, ap, subst, ◌∙◌, arith, length-take-le}
-use Rattle.std.proofs.Math.Nat.{lt_of_lt_of_le}
-use Rattle.std.proofs.lemmas.Result.{err_from_is_err_and, IfOk-from_err}
-use Rattle.nf_rational.specs.Rational.{ℚ}
+use Rattle.nf_linear.proofs.Common.{lt_of_lt_of_le, err_from_is_err_and, IfOk-from_err, ℚ, at_part, part_ok, number_at, row_at, IsZeroUnless, Covers, meant}
+use Rattle.nf_linear.proofs.Common.{some_from}
 use Rattle.nf_frac_def.specs.declared.Part.TheVariants as Part
-use Rattle.nf_frac_def.specs.Checked.{at_part}
-use Rattle.nf_frac_def.proofs.AtPart.{part_ok}
-use Rattle.nf_model.specs.Entries.{number_at}
-use Rattle.nf_linear_def.specs.Table.{row_at}
-use Rattle.nf_linear.specs.Marks.{IsZeroUnless, Covers}
-use Rattle.nf_linear.specs.Rows.{meant, some_from}
 use Rattle.nf_linear.proofs.Clearing.{row_got, later_fit, eliminated, within_row}
 use Rattle.nf_linear.proofs.Covering.{covered_after, set_read}
 use Rattle.nf_linear.proofs.elimination.eliminate.Goals as goal

@@ -1,5 +1,5 @@
 use Rattle.std.proofs.Common.{ℕ, ◌<◌, length, subst, length-set, arith}
-use Rattle.nf_linear.specs.Marks.{IsSubset}
+use Rattle.nf_linear.proofs.Common.{IsSubset}
 use Rattle.nf_linear.proofs.Covering.{sets_grow, row_marked, set_got}
 use Rattle.nf_linear.proofs.elimination.mark_row.Goals as goal
 

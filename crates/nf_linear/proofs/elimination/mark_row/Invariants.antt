@@ -1,7 +1,5 @@
 use Rattle.std.proofs.Common.{◌≡◌, ℕ, ◌-◌, ◌<◌, ◌≤◌, length, get_or}
-use Rattle.nf_rational.specs.Operations.{0ℚ}
-use Rattle.nf_model.specs.Entries.{number_at}
-use Rattle.nf_linear.specs.Marks.{IsFree, IsSubset}
+use Rattle.nf_linear.proofs.Common.{0ℚ, number_at, IsFree, IsSubset}
 use Rattle.nf_linear.proofs.elimination.mark_row.Given as goal
 
 abbrev pub invariant-loop-at : goal.invariant-loop-at

@@ -1,9 +1,5 @@
 use Rattle.std.proofs.Common.{◌≡◌, ℕ, ◌<◌, ◌≤◌, List, length, get_or, ⊎_elim, sym, ap, subst, ◌∙◌, arith}
-use Rattle.std.proofs.lemmas.Bool.{cases_eq, cases_lt}
-use Rattle.nf_rational.specs.Rational.{ℚ}
-use Rattle.nf_model.specs.Entries.{number_at}
-use Rattle.nf_linear_def.specs.Table.{row_at}
-use Rattle.nf_linear.specs.Marks.{IsFree}
+use Rattle.nf_linear.proofs.Common.{cases_eq, cases_lt, ℚ, number_at, row_at, IsFree}
 use Rattle.nf_linear.proofs.Clearing.{row_read}
 use Rattle.nf_linear.proofs.Covering.{past_rows}
 use Rattle.nf_linear.proofs.Bits.{free_within}

@@ -1,8 +1,5 @@
 use Rattle.std.proofs.Common.{◌≡◌, ℕ, ◌<◌, length, get_or}
-use Rattle.nf_rational.specs.Operations.{0ℚ}
-use Rattle.nf_model.specs.Entries.{number_at}
-use Rattle.nf_linear_def.specs.Table.{row_at}
-use Rattle.nf_linear.specs.Marks.{IsFree}
+use Rattle.nf_linear.proofs.Common.{0ℚ, number_at, row_at, IsFree}
 use Rattle.nf_linear.proofs.elimination.mark_rows.Given as goal
 
 abbrev pub invariant-loop-i : goal.invariant-loop-i

@@ -1,6 +1,5 @@
 use Rattle.std.proofs.Common.{◌≡◌, ◌+◌, ◌<◌, false, length, sym, subst, ◌∙◌}
-use Rattle.std.proofs.Math.Nat.{lt_of_lt_of_le}
-use Rattle.nf_linear_def.specs.Table.{Row, row_at}
+use Rattle.nf_linear.proofs.Common.{lt_of_lt_of_le, Row, row_at}
 use Rattle.nf_linear.proofs.Clearing.{row_read}
 use Rattle.nf_linear.proofs.Columns.{candidate_read, pivot_here, pivot_later, pivot_nowhere}
 use Rattle.nf_linear.proofs.Skips.{pivot_skipped}

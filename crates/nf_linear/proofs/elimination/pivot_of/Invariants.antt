@@ -1,6 +1,5 @@
 use Rattle.std.proofs.Common.{◌≡◌, ℕ, ◌-◌, ◌≤◌, List, drop, length}
-use Rattle.nf_linear_def.specs.Table.{pivot_from}
-use Rattle.nf_linear.specs.Pivots.{AreTaken}
+use Rattle.nf_linear.proofs.Common.{pivot_from, AreTaken}
 use Rattle.nf_linear.proofs.elimination.pivot_of.Given as goal
 
 abbrev pub invariant-loop-i : goal.invariant-loop-i

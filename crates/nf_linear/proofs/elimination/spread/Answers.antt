@@ -1,8 +1,5 @@
 use Rattle.std.proofs.Common.{ℕ, ◌+◌, List, drop, refl, sym, ap, ◌∙◌}
-use Rattle.std.proofs.Math.ListN.{drop_of_length-le}
-use Rattle.nf_rational.specs.Rational.{ℚ}
-use Rattle.nf_linear.specs.Marks.{spread}
-use Rattle.nf_linear.specs.Rows.{meant}
+use Rattle.nf_linear.proofs.Common.{drop_of_length-le, ℚ, spread, meant}
 use Rattle.nf_linear.proofs.Taken.{next_other, meant_below, meant_read, meant_past}
 use Rattle.nf_linear.proofs.elimination.spread.Goals as goal
 

@@ -1,6 +1,5 @@
 use Rattle.std.proofs.Common.{◌≡◌, drop}
-use Rattle.nf_linear.specs.Marks.{spread}
-use Rattle.nf_linear.specs.Rows.{meant}
+use Rattle.nf_linear.proofs.Common.{spread, meant}
 use Rattle.nf_linear.proofs.elimination.spread.Given as goal
 
 abbrev pub invariant-loop-entry : goal.invariant-loop-entry

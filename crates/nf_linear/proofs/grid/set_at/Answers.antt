@@ -1,6 +1,6 @@
 use Rattle.std.proofs.Common.{◌<◌, length, set, sym, subst, ap, ◌∙◌}
+use Rattle.nf_linear.proofs.Common.{Row}
 use borrow.Author.Rules.{scaled_Fits}
-use Rattle.nf_linear_def.specs.Table.{Row}
 use Rattle.nf_linear.proofs.Clearing.{row_got}
 use Rattle.nf_linear.proofs.grid.set_at.Goals as goal
 

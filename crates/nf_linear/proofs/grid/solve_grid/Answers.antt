@@ -1,11 +1,6 @@
-use Rattle.std.proofs.Common.{ℕ, ◌+◌, ◌≤◌, List, length, replicate, sym, subst, ap, ◌∙◌, arith, length-take-le}
-use Rattle.std.specs.Prelude.{IfOk}
-use Rattle.nf_rational.specs.Operations.{0ℚ}
+use Rattle.std.proofs.Common.{ℕ, ◌+◌, ◌≤◌, List, length, replicate, sym, subst, ap, ◌∙◌, arith, length-take-le, IfOk}
+use Rattle.nf_linear.proofs.Common.{0ℚ, passes_Q, at_part, Row, table_list, IsTrueWith}
 use Rattle.nf_frac_def.specs.declared.Part.TheVariants as Part
-use Rattle.nf_frac_def.specs.Passing.{passes_Q}
-use Rattle.nf_frac_def.specs.Checked.{at_part}
-use Rattle.nf_linear_def.specs.Table.{Row, table_list}
-use Rattle.nf_linear.specs.Grids.{IsTrueWith}
 use Rattle.nf_linear.proofs.Written.{seen_long, zero_seen, zeros_square, still_long}
 use Rattle.nf_linear.proofs.grid.solve_grid.Goals as goal
 

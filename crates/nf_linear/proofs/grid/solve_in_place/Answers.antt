@@ -1,11 +1,6 @@
-use Rattle.std.proofs.Common.{◌≡◌, ℕ, ◌<◌, ◌≤◌, List, length, map, replicate, false, Ok, Some, refl, sym, subst, ap, ◌∙◌, arith, length-take-le}
-use Rattle.std.specs.Prelude.{IfErr}
-use Rattle.std.proofs.lemmas.List.{length-replicate, get_or-replicate, map-id}
-use Rattle.std.proofs.lemmas.Result.{err_from_is_err_and, IfOk-from_err}
-use Rattle.nf_rational.specs.Rational.{ℚ}
-use Rattle.nf_linear_laws.specs.Solution.{IsOnlySolution}
-use Rattle.nf_linear.specs.declared.solution.Eliminated.{Eliminated}
-use Rattle.nf_linear.specs.Grids.{values_if, IsTrueWith}
+use Rattle.std.proofs.Common.{◌≡◌, ℕ, ◌<◌, ◌≤◌, List, length, map, replicate, false, Ok, Some, refl, sym, subst, ap, ◌∙◌, arith, length-take-le, IfErr}
+use Rattle.nf_linear.proofs.Common.{length-replicate, get_or-replicate, map-id, err_from_is_err_and, IfOk-from_err, ℚ, IsOnlySolution, Eliminated}
+use Rattle.nf_linear.proofs.Common.{values_if, IsTrueWith}
 use Rattle.nf_linear.proofs.grid.solve_in_place.Goals as goal
 
 pub whole_as_front-noted : goal.whole_as_front-noted

@@ -1,8 +1,6 @@
 use Rattle.std.proofs.Common.{ℕ, ◌+◌, ◌<◌, List, [], ◌∷◌, ◌++◌, length, take, replicate, refl, sym, ap, ◌∙◌, add-one, arith, length-set, rules}
-use Rattle.std.proofs.lemmas.List.{take_more_set}
+use Rattle.nf_linear.proofs.Common.{take_more_set, 0ℚ, Row}
 use borrow.Author.Rules.{scaled_Fits}
-use Rattle.nf_rational.specs.Operations.{0ℚ}
-use Rattle.nf_linear_def.specs.Table.{Row}
 use Rattle.nf_linear.proofs.Grids.{all_copies}
 use Rattle.nf_linear.proofs.Taken.{replicate_more}
 use Rattle.nf_linear.proofs.grid.wipe.Goals as goal

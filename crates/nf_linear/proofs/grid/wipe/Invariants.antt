@@ -1,5 +1,5 @@
 use Rattle.std.proofs.Common.{◌≡◌, ◌+◌, length, take, replicate}
-use Rattle.nf_rational.specs.Operations.{0ℚ}
+use Rattle.nf_linear.proofs.Common.{0ℚ}
 use Rattle.nf_linear.proofs.grid.wipe.Given as goal
 
 abbrev pub invariant-loop-i : goal.invariant-loop-i

@@ -1,7 +1,5 @@
-use Rattle.std.proofs.Common.{map, sym, ap, ◌∙◌}
-use Rattle.std.specs.Prelude.{Some, None, Ok}
-use Rattle.nf_rational.specs.Rational.{ℚ}
-use Rattle.nf_linear.specs.Solved.{values_of}
+use Rattle.std.proofs.Common.{map, sym, ap, ◌∙◌, Some, None, Ok}
+use Rattle.nf_linear.proofs.Common.{ℚ, values_of}
 use Rattle.nf_linear.proofs.SmallTables.{solved_small, solved_wide}
 use Rattle.nf_linear.proofs.small_tables.solve_small.Goals as goal
 

@@ -1,9 +1,5 @@
 use Rattle.std.proofs.Common.{◌≡◌, ℕ, suc, ◌+◌, ◌<◌, ◌≤◌, List, [], ◌∷◌, length, map, take, Ok, get_or, subst, sym, ◌∙◌, ap, refl, length-set, arith}
-use Rattle.std.proofs.lemmas.Result.{err_from_is_err_and}
-use Rattle.std.proofs.lemmas.List.{map-append, take_more_set, take_all}
-use Rattle.nf_rational.specs.Rational.{ℚ}
-use Rattle.nf_frac_def.specs.Checked.{seen_passed_at}
-use Rattle.nf_model.specs.Entries.{number_at}
+use Rattle.nf_linear.proofs.Common.{err_from_is_err_and, map-append, take_more_set, take_all, ℚ, seen_passed_at, number_at}
 use Rattle.nf_linear.proofs.Clearing.{row_read}
 use Rattle.nf_linear.proofs.Values.{ValuesSoFar, values_stop, values_more, values_all}
 use Rattle.nf_linear.proofs.solution.find_values.Goals as goal

@@ -1,9 +1,6 @@
-use Rattle.std.proofs.Common.{List, subst, ◌∙◌}
-use Rattle.std.specs.Prelude.{IfOk}
+use Rattle.std.proofs.Common.{List, subst, ◌∙◌, IfOk}
+use Rattle.nf_linear.proofs.Common.{at_part, Gives, Row, table_list, values_of, IsTrueOf}
 use Rattle.nf_frac_def.specs.declared.Part.TheVariants as Part
-use Rattle.nf_frac_def.specs.Checked.{at_part, Gives}
-use Rattle.nf_linear_def.specs.Table.{Row, table_list}
-use Rattle.nf_linear.specs.Solved.{values_of, IsTrueOf}
 use Rattle.nf_linear.proofs.solution.solve.Goals as goal
 
 pub returns : goal.returns

@@ -1,8 +1,6 @@
-use Rattle.std.proofs.Common.{◌≡◌, map, Bool, true, false, ap, sym, ◌∙◌}
-use Rattle.std.specs.Prelude.{if◌then◌else◌, Some, None, Ok}
-use Rattle.std.proofs.lemmas.Result.{err_from_is_err_and}
+use Rattle.std.proofs.Common.{◌≡◌, map, Bool, true, false, ap, sym, ◌∙◌, if◌then◌else◌, Some, None, Ok}
+use Rattle.nf_linear.proofs.Common.{err_from_is_err_and, eliminated}
 use Rattle.nf_frac_def.specs.declared.Halt.TheVariants as Halt
-use Rattle.nf_linear.specs.Pivots.{eliminated}
 use Rattle.nf_linear.proofs.Answered.{columns_stop, not_one_listed, not_one, values_stop, one_listed, one}
 use Rattle.nf_linear.proofs.solution.solve_rows.Goals as goal
 

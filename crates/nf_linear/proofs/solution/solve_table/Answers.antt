@@ -1,10 +1,6 @@
 use Rattle.std.proofs.Common.{◌≡◌, ℕ, ◌<◌, List, [], length, map, replicate, Bool, false, Ok, Some, sym, subst, ap, ◌∙◌, arith}
-use Rattle.std.proofs.lemmas.List.{length-replicate, get_or-replicate, take_at}
-use Rattle.std.proofs.lemmas.Result.{err_from_is_err_and, IfOk-from_err}
-use Rattle.nf_linear_laws.specs.Solution.{IsOnlySolution}
-use Rattle.nf_linear.specs.declared.solution.Eliminated.{Eliminated}
-use Rattle.nf_linear.specs.Pivots.{AreTaken}
-use Rattle.nf_linear.specs.Grids.{values_if, IsTrueWith}
+use Rattle.nf_linear.proofs.Common.{length-replicate, get_or-replicate, take_at, err_from_is_err_and, IfOk-from_err, IsOnlySolution, Eliminated, AreTaken}
+use Rattle.nf_linear.proofs.Common.{values_if, IsTrueWith}
 use Rattle.nf_linear.proofs.solution.solve_table.Goals as goal
 
 pub returns-in_err-columns-clause-list : goal.returns-in_err-columns-clause-list

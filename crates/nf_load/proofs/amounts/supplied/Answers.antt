@@ -1,12 +1,6 @@
 use Rattle.std.proofs.Common.{◌∙◌, List, length, sym, ap, subst}
-use Rattle.nf_rational.specs.Rational.{ℚ}
-use Rattle.nf_frac_def.specs.declared.Part.TheVariants.{Load}
-use Rattle.nf_frac_def.specs.Passing.{passes_Q}
-use Rattle.nf_load_def.specs.Cumulative.{checked_cumulative}
-use Rattle.nf_load_def.specs.Meanings.{IsCumulative}
+use Rattle.nf_load.proofs.Common.{ℚ, Load, passes_Q, checked_cumulative, IsCumulative, was_ok, AreRates}
 use Rattle.nf_load_laws.proofs.Cumulative.{checked_cumulative-is}
-use Rattle.nf_curve.proofs.Exits.{was_ok}
-use Rattle.nf_load.specs.Rates.{AreRates}
 use Rattle.nf_load.proofs.amounts.supplied.Goals as goal
 
 pub of_points-requires : goal.of_points-requires

@@ -1,18 +1,6 @@
-use Rattle.std.proofs.Common.{◌≡◌, ◌+◌, ◌<◌, ◌≤◌, true, false, List, ◌++◌, length, drop, refl, sym, ap, subst, ◌∙◌, arith}
-use Rattle.std.specs.Prelude.{Ok}
-use Rattle.std.proofs.lemmas.List.{take_rest, drop_all}
-use Rattle.std.proofs.lemmas.Result.{err_from_is_err_and}
-use Rattle.std.proofs.lemmas.Option.{slice_get_read}
-use Rattle.nf_rational.specs.Rational.{ℚ}
-use Rattle.nf_rational.specs.Order.{lt_ℚ}
-use Rattle.nf_frac_def.specs.declared.Part.TheVariants.{Load}
-use Rattle.nf_frac_def.specs.Passing.{bound_of, passes_Q, is_wide}
-use Rattle.nf_frac_def.specs.Checked.{at_part}
-use Rattle.nf_frac_def.proofs.Each.{with_front}
-use Rattle.nf_model.specs.Network.{Piece}
-use Rattle.nf_load_def.specs.Cumulative.{piece_end, point_if_after_0, with_piece, cumulative_from, checked_cumulative}
-use Rattle.nf_curve.proofs.Exits.{was_ok}
-use Rattle.nf_load.specs.Rates.{rate_if_after_0}
+use Rattle.std.proofs.Common.{◌≡◌, ◌+◌, ◌<◌, ◌≤◌, true, false, List, ◌++◌, length, drop, refl, sym, ap, subst, ◌∙◌, arith, Ok}
+use Rattle.nf_load.proofs.Common.{take_rest, drop_all, err_from_is_err_and, slice_get_read, ℚ, lt_ℚ, Load, bound_of, passes_Q, is_wide, at_part, with_front}
+use Rattle.nf_load.proofs.Common.{Piece, piece_end, point_if_after_0, with_piece, cumulative_from, checked_cumulative, was_ok, rate_if_after_0}
 use Rattle.nf_load.proofs.Supplying.{within_next, begins_with, ends_before_at, ends_there, goes_on_at, stops_at, one_on}
 use Rattle.nf_load.proofs.RatesInTurn.{are_rates, as_many, first_rates, pushed_rates, RatesSoFar, next_rates, up_to_start, up_to_late, up_to_last}
 use Rattle.nf_load.proofs.amounts.supply_until.Goals as goal

@@ -1,7 +1,5 @@
 use Rattle.std.proofs.Common.{◌≡◌, drop}
-use Rattle.nf_frac_def.specs.Passing.{passes_Q}
-use Rattle.nf_frac_def.proofs.Each.{with_front}
-use Rattle.nf_load_def.specs.Cumulative.{piece_end, cumulative_from, checked_cumulative}
+use Rattle.nf_load.proofs.Common.{passes_Q, with_front, piece_end, cumulative_from, checked_cumulative}
 use Rattle.nf_load.proofs.RatesInTurn.{RatesSoFar}
 use Rattle.nf_load.proofs.amounts.supply_until.Given as goal
 

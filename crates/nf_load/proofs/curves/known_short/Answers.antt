@@ -1,8 +1,5 @@
-use Rattle.nf_frac_def.specs.declared.Part.TheVariants.{Load}
-use Rattle.nf_frac_def.specs.Passing.{passes_Q}
-use Rattle.nf_curve_def.specs.Short.{checked_short}
+use Rattle.nf_load.proofs.Common.{Load, passes_Q, checked_short, was_ok}
 use Rattle.nf_curve_laws.proofs.Short.{checked_short-is}
-use Rattle.nf_curve.proofs.Exits.{was_ok}
 use Rattle.nf_load.proofs.curves.known_short.Goals as goal
 
 pub of_points-requires : goal.of_points-requires

@@ -1,12 +1,5 @@
-use Rattle.std.proofs.Common.{◌≡◌, ◌+◌, ◌++◌, List, [], ◌∷◌, false, refl, sym, ap, ◌∙◌, arith}
-use Rattle.std.specs.Prelude.{None}
-use Rattle.std.proofs.lemmas.Option.{slice_get_read}
-use Rattle.nf_rational.specs.Rational.{ℚ}
-use Rattle.nf_model.specs.Curve.{Point}
-use Rattle.nf_rational.specs.Signs.{is_same}
-use Rattle.nf_load_def.specs.Loading.{Exit, outflow_from}
-use Rattle.nf_curve_laws.proofs.Operations.{apart_of}
-use Rattle.nf_load.specs.Rates.{IsRate}
+use Rattle.std.proofs.Common.{◌≡◌, ◌+◌, ◌++◌, List, [], ◌∷◌, false, refl, sym, ap, ◌∙◌, arith, None}
+use Rattle.nf_load.proofs.Common.{slice_get_read, ℚ, Point, is_same, Exit, outflow_from, apart_of, IsRate}
 use Rattle.nf_load.specs.declared.waits.Exit.TheInside.{Inside}
 use Rattle.nf_load.proofs.Alongs.{linked_along}
 use Rattle.nf_load.proofs.ExitsInTurn.{same_exit, later_exit}

@@ -1,5 +1,5 @@
 use Rattle.std.proofs.Common.{◌≡◌, ◌++◌, drop}
-use Rattle.nf_load_def.specs.Loading.{outflow_from, outflow_points}
+use Rattle.nf_load.proofs.Common.{outflow_from, outflow_points}
 use Rattle.nf_load.proofs.Outflows.{SoFar}
 use Rattle.nf_load.proofs.curves.outflow_points.Given as goal
 

@@ -1,9 +1,5 @@
-use Rattle.std.proofs.Common.{◌≡◌, ℕ, ◌-◌, ap, ◌∙◌}
-use Rattle.std.specs.Prelude.{Ok}
-use Rattle.nf_frac_def.specs.declared.Part.TheVariants.{Load}
-use Rattle.nf_frac_def.specs.Passing.{passes_Q}
-use Rattle.nf_curve_def.specs.Values.{checked_cut}
-use Rattle.nf_curve.proofs.Exits.{was_ok}
+use Rattle.std.proofs.Common.{◌≡◌, ℕ, ◌-◌, ap, ◌∙◌, Ok}
+use Rattle.nf_load.proofs.Common.{Load, passes_Q, checked_cut, was_ok}
 use Rattle.nf_load.proofs.Outflows.{cut_slopes}
 use Rattle.nf_load.proofs.curves.outflow_until.Goals as goal
 

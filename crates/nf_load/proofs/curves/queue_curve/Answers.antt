@@ -1,16 +1,7 @@
 use Rattle.std.proofs.Common.{◌≡◌, List, map, option_map, sym, subst, ◌∙◌}
-use Rattle.std.proofs.lemmas.Simd.{map-map}
-use Rattle.nf_rational.specs.Rational.{ℚ}
-use Rattle.nf_frac_def.specs.declared.Part.TheVariants.{Load}
-use Rattle.nf_frac_def.specs.Passing.{passes_Q}
-use Rattle.nf_frac_def.specs.Checked.{at_part, Gives}
-use Rattle.nf_model.specs.Curve.{Point, IsCurve}
-use Rattle.nf_curve_def.specs.Short.{checked_short}
+use Rattle.nf_load.proofs.Common.{map-map, ℚ, Load, passes_Q, at_part, Gives, Point, IsCurve, checked_short, Exit, queue_point, moments_of, change_of}
+use Rattle.nf_load.proofs.Common.{AreKnownSlopes}
 use Rattle.nf_curve.specs.declared.curve.Curve.{Curve}
-use Rattle.nf_load_def.specs.Loading.{Exit, queue_point}
-use Rattle.nf_load.specs.InSteps.{moments_of}
-use Rattle.nf_load.specs.Paces.{change_of}
-use Rattle.nf_load.specs.Slopes.{AreKnownSlopes}
 use Rattle.nf_load.proofs.curves.queue_curve.Goals as goal
 
 fused : (all : List Exit) → map queue_point (moments_of all) ≡ map (λ (one : Exit). queue_point one.waits) all

@@ -1,14 +1,6 @@
 use Rattle.std.proofs.Common.{suc, List, drop, refl, sym, ap, ◌∙◌, add-one}
-use Rattle.std.proofs.lemmas.List.{drop_all}
-use Rattle.std.proofs.lemmas.Option.{slice_get_read}
-use Rattle.std.proofs.lemmas.Result.{err_from_is_err_and}
-use Rattle.nf_frac_def.specs.declared.Part.TheVariants.{Load}
-use Rattle.nf_frac_def.specs.Passing.{passes_Q}
-use Rattle.nf_frac_def.specs.Checked.{each}
-use Rattle.nf_frac_def.proofs.Each.{with_front}
-use Rattle.nf_load_def.specs.Loading.{Waits, exit_of}
-use Rattle.nf_curve.proofs.Exits.{each_goes, each_stops, each_ends}
-use Rattle.nf_rational_laws.proofs.Entries.{drop_entry}
+use Rattle.nf_load.proofs.Common.{drop_all, slice_get_read, err_from_is_err_and, Load, passes_Q, each, with_front, Waits, exit_of, each_goes, each_stops}
+use Rattle.nf_load.proofs.Common.{each_ends, drop_entry}
 use Rattle.nf_load.proofs.exiting.all_exits.Goals as goal
 
 pub returns-in_err-one : goal.returns-in_err-one

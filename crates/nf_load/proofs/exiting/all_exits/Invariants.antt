@@ -1,8 +1,5 @@
 use Rattle.std.proofs.Common.{◌≡◌, drop}
-use Rattle.nf_frac_def.specs.Passing.{passes_Q}
-use Rattle.nf_frac_def.specs.Checked.{each}
-use Rattle.nf_frac_def.proofs.Each.{with_front}
-use Rattle.nf_load_def.specs.Loading.{exit_of}
+use Rattle.nf_load.proofs.Common.{passes_Q, each, with_front, exit_of}
 use Rattle.nf_load.proofs.exiting.all_exits.Given as goal
 
 -- the exits so far, and those of the moments from here on

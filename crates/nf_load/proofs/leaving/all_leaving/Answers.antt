@@ -1,12 +1,5 @@
-use Rattle.std.proofs.Common.{◌≡◌, suc, ◌+◌, ◌-◌, ◌<◌, List, length, refl, sym, ap, subst, ◌∙◌, arith}
-use Rattle.std.specs.Prelude.{Option, slice_get}
-use Rattle.std.proofs.lemmas.List.{length_push}
-use Rattle.std.proofs.lemmas.Option.{slice_get_read, same_Some}
-use Rattle.nf_load_def.specs.Loading.{Exit}
-use Rattle.nf_load.specs.Leaving.{AreLeaving, IsLeavingIf}
-use Rattle.nf_load.specs.Paces.{IsPaceIf}
-use Rattle.nf_load.specs.declared.waits.Pace.{Pace}
-use Rattle.nf_load.specs.declared.waits.Leaving.{Leaving}
+use Rattle.std.proofs.Common.{◌≡◌, suc, ◌+◌, ◌-◌, ◌<◌, List, length, refl, sym, ap, subst, ◌∙◌, arith, Option, slice_get}
+use Rattle.nf_load.proofs.Common.{length_push, slice_get_read, same_Some, Exit, AreLeaving, IsLeavingIf, IsPaceIf, Pace, Leaving}
 use Rattle.nf_load.proofs.Alongs.{along_none, along_flat, along_push}
 use Rattle.nf_load.proofs.leaving.all_leaving.Goals as goal
 

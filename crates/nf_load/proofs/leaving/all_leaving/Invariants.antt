@@ -1,5 +1,5 @@
 use Rattle.std.proofs.Common.{◌≡◌, ◌+◌, length}
-use Rattle.nf_load.specs.Leaving.{AreLeaving}
+use Rattle.nf_load.proofs.Common.{AreLeaving}
 use Rattle.nf_load.proofs.leaving.all_leaving.Given as goal
 
 -- the slopes so far are those of the first moments

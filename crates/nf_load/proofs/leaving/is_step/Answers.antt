@@ -1,8 +1,5 @@
 use Rattle.std.proofs.Common.{sym, ap, ◌∙◌}
-use Rattle.nf_frac_def.specs.Passing.{passes_Q}
-use Rattle.nf_frac_def.specs.Checked.{checked}
-use Rattle.nf_frac_def.specs.declared.Op.TheVariants.{Difference}
-use Rattle.nf_load_def.specs.Loading.{Exit}
+use Rattle.nf_load.proofs.Common.{passes_Q, checked, Difference, Exit}
 use Rattle.nf_load.proofs.leaving.is_step.Goals as goal
 
 pub returns-in-Ok : goal.returns-in-Ok

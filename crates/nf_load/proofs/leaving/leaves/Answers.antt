@@ -1,12 +1,5 @@
-use Rattle.std.proofs.Common.{refl, sym, subst, ◌∙◌}
-use Rattle.std.specs.Prelude.{Option}
-use Rattle.nf_rational.specs.Rational.{ℚ}
-use Rattle.nf_rational.specs.Operations.{0ℚ}
-use Rattle.nf_rational.specs.Signs.{is_zero}
-use Rattle.nf_curve_laws.proofs.Operations.{same_of, same_test}
-use Rattle.nf_load.specs.Paces.{IsPace, IsPaceIf}
-use Rattle.nf_load.specs.Leaving.{IsLeaving}
-use Rattle.nf_load.specs.declared.waits.Pace.{Pace}
+use Rattle.std.proofs.Common.{refl, sym, subst, ◌∙◌, Option}
+use Rattle.nf_load.proofs.Common.{ℚ, 0ℚ, is_zero, same_of, same_test, IsPace, IsPaceIf, IsLeaving, Pace}
 use Rattle.nf_load.proofs.ExitSteps.{capacity_apart}
 use Rattle.nf_load.proofs.Leaves.{level_leaving, busy_if, changes_if}
 use Rattle.nf_load.proofs.Pacing.{first_true, second_true}

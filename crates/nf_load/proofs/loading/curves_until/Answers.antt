@@ -1,13 +1,6 @@
 use Rattle.std.proofs.Common.{sym}
-use Rattle.std.proofs.lemmas.Result.{err_from_is_err_and}
-use Rattle.nf_frac_def.specs.declared.Part.TheVariants.{Load}
-use Rattle.nf_frac_def.specs.declared.Op.TheVariants.{Sum}
-use Rattle.nf_frac_def.specs.Passing.{passes_Q}
-use Rattle.nf_frac_def.specs.Checked.{checked, at_part}
-use Rattle.nf_curve_def.specs.Values.{checked_cut}
-use Rattle.nf_load_def.specs.Loading.{outflow_points}
-use Rattle.nf_curve.proofs.Exits.{was_ok, stops_on}
-use Rattle.nf_load.specs.InSteps.{moments_of, until_transit}
+use Rattle.nf_load.proofs.Common.{err_from_is_err_and, Load, Sum, passes_Q, checked, at_part, checked_cut, outflow_points, was_ok, stops_on, moments_of}
+use Rattle.nf_load.proofs.Common.{until_transit}
 use Rattle.nf_load.proofs.LoadedCurves.{end_after_0}
 use Rattle.nf_load.proofs.LoadingSteps.{end_stops, whole_stops, whole_goes}
 use Rattle.nf_load.proofs.Leaves.{exits_of}

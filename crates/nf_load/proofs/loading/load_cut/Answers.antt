@@ -1,16 +1,7 @@
 use Rattle.std.proofs.Common.{◌≡◌, List, Option, Ok, sym, ap, subst, ◌∙◌}
-use Rattle.nf_rational.specs.Rational.{ℚ}
-use Rattle.std.proofs.lemmas.Result.{err_from_is_err_and}
-use Rattle.nf_frac_def.specs.declared.Part.TheVariants.{Load}
-use Rattle.nf_frac_def.specs.Passing.{passes_Q}
-use Rattle.nf_frac_def.specs.Checked.{Gives, at_part, each}
+use Rattle.nf_load.proofs.Common.{ℚ, err_from_is_err_and, Load, passes_Q, Gives, at_part, each, Exit, Waits, exit_of, all_waits, stops_on, was_ok}
+use Rattle.nf_load.proofs.Common.{AreLoadCurves, behind_cut, moments_of, until_transit, loaded_of, ArePaces, Loaded}
 use Rattle.nf_load_def.specs.Loading as lists
-use Rattle.nf_load_def.specs.Loading.{Exit, Waits, exit_of, all_waits}
-use Rattle.nf_curve.proofs.Exits.{stops_on, was_ok}
-use Rattle.nf_load.specs.InSteps.{AreLoadCurves, behind_cut, moments_of, until_transit}
-use Rattle.nf_load.specs.Loadings.{loaded_of}
-use Rattle.nf_load.specs.Paces.{ArePaces}
-use Rattle.nf_load.specs.declared.loading.Loaded.{Loaded}
 use Rattle.nf_load.proofs.Leaves.{moments_are}
 use Rattle.nf_load.proofs.LoadingSteps.{waits_stop, exits_stop, exits_go, are_curves}
 use Rattle.nf_load.proofs.loading.load_cut.Goals as goal

@@ -1,10 +1,4 @@
-use Rattle.std.proofs.lemmas.Result.{err_from_is_err_and}
-use Rattle.nf_frac_def.specs.declared.Part.TheVariants.{Load}
-use Rattle.nf_frac_def.specs.Passing.{passes_Q}
-use Rattle.nf_frac_def.specs.Checked.{at_part}
-use Rattle.nf_curve_def.specs.Values.{checked_cut}
-use Rattle.nf_load_def.specs.Loading.{checked_loading}
-use Rattle.nf_curve.proofs.Exits.{was_ok, stops_on}
+use Rattle.nf_load.proofs.Common.{err_from_is_err_and, Load, passes_Q, at_part, checked_cut, checked_loading, was_ok, stops_on}
 use Rattle.nf_load.proofs.LoadedCurves.{loaded_curves, is_loaded}
 use Rattle.nf_load.proofs.LoadingSteps.{cut_stops, cut_goes}
 use Rattle.nf_load.proofs.loading.load_link.Goals as goal

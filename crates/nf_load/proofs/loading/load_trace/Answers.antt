@@ -1,11 +1,5 @@
-use Rattle.std.proofs.Common.{◌≡◌, List, sym, ap, subst}
-use Rattle.std.specs.Prelude.{Ok}
-use Rattle.nf_rational.specs.Rational.{ℚ}
-use Rattle.nf_frac_def.specs.declared.Part.TheVariants.{Load}
-use Rattle.nf_frac_def.specs.Passing.{passes_Q}
-use Rattle.nf_frac_def.specs.Checked.{at_part}
-use Rattle.nf_curve_def.specs.Values.{checked_cut}
-use Rattle.nf_load.specs.Rates.{AreRates}
+use Rattle.std.proofs.Common.{◌≡◌, List, sym, ap, subst, Ok}
+use Rattle.nf_load.proofs.Common.{ℚ, Load, passes_Q, at_part, checked_cut, AreRates}
 use Rattle.nf_load.proofs.LoadedCurves.{loaded_curves, is_loaded}
 use Rattle.nf_load.proofs.LoadingSteps.{cut_goes}
 use Rattle.nf_load.proofs.loading.load_trace.Goals as goal

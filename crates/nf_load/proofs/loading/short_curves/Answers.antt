@@ -1,12 +1,5 @@
-use Rattle.std.specs.Prelude.{map}
-use Rattle.std.proofs.lemmas.Result.{err_from_is_err_and}
-use Rattle.nf_frac_def.specs.declared.Part.TheVariants.{Load}
-use Rattle.nf_frac_def.specs.Passing.{passes_Q}
-use Rattle.nf_frac_def.specs.Checked.{at_part}
-use Rattle.nf_curve_def.specs.Short.{checked_short}
-use Rattle.nf_load_def.specs.Loading.{queue_point, exit_point}
-use Rattle.nf_curve.proofs.Exits.{stops_on}
-use Rattle.nf_load.specs.InSteps.{in_short_form, moments_of}
+use Rattle.std.proofs.Common.{map}
+use Rattle.nf_load.proofs.Common.{err_from_is_err_and, Load, passes_Q, at_part, checked_short, queue_point, exit_point, stops_on, in_short_form, moments_of}
 use Rattle.nf_load.proofs.LoadingSteps.{queue_stops, outflow_stops, exit_stops, comes_to}
 use Rattle.nf_load.proofs.Pacing.{queue_slopes}
 use Rattle.nf_load.proofs.loading.short_curves.Goals as goal

@@ -1,10 +1,6 @@
 use Rattle.std.proofs.Common.{◌≡◌, List, length, Ok, Err, sym, ap, ◌∙◌}
-use Rattle.std.proofs.lemmas.Result.{err_from_is_err_and}
-use Rattle.nf_model.specs.Network.{Piece}
-use Rattle.nf_net.proofs.Limits.{as_many_names}
-use Rattle.nf_side.proofs.Frame.{broken_more}
+use Rattle.nf_load.proofs.Common.{err_from_is_err_and, Piece, as_many_names, broken_more, if_ended, loads_in}
 use Rattle.nf_report_def.specs.declared.LoadRule.{LoadRule}
-use Rattle.nf_report_def.specs.LoadsFile.{if_ended, loads_in}
 use Rattle.nf_report_laws.proofs.Loads.{loads-pieces}
 use Rattle.nf_load.proofs.LoadsRead.{loads_read}
 use Rattle.nf_load.proofs.reading.parse_loads.Goals as goal

@@ -1,14 +1,8 @@
-use Rattle.std.proofs.Common.{◌≡◌, ◌<◌, ◌+◌, ◌-◌, List, [], ◌∷◌, ◌++◌, length, refl, sym, ap, subst, ◌∙◌, arith}
-use Rattle.std.specs.Prelude.{Option, slice_get, if◌then◌else◌}
-use Rattle.std.proofs.lemmas.Option.{slice_get_read, same_Some}
-use Rattle.std.proofs.lemmas.Result.{err_from_is_err_and}
-use Rattle.nf_rational.specs.Rational.{ℚ}
-use Rattle.nf_frac_def.specs.Passing.{passes_Q}
-use Rattle.nf_rational.specs.Signs.{is_same}
+use Rattle.std.proofs.Common.{◌≡◌, ◌<◌, ◌+◌, ◌-◌, List, [], ◌∷◌, ◌++◌, length, refl, sym, ap, subst, ◌∙◌, arith, Option, slice_get, if◌then◌else◌}
+use Rattle.nf_load.proofs.Common.{slice_get_read, same_Some, err_from_is_err_and, ℚ, passes_Q, is_same, begin_stops, begin_goes, step_stops, step_goes}
+use Rattle.nf_load.proofs.Common.{short_ends, short_alone, IsRate}
 use Rattle.nf_curve.proofs.Points.{points_there}
 use Rattle.nf_curve.proofs.Placing.{rise-pairs, curve-rises, before_last, next_there, last_there}
-use Rattle.nf_curve.proofs.Shortening.{begin_stops, begin_goes, step_stops, step_goes, short_ends, short_alone}
-use Rattle.nf_load.specs.Rates.{IsRate}
 use Rattle.nf_load.proofs.Alongs.{slope_at}
 use Rattle.nf_load.proofs.shortening.short_points.Goals as goal
 

@@ -1,8 +1,5 @@
 use Rattle.std.proofs.Common.{◌≡◌, drop}
-use Rattle.nf_frac_def.specs.Passing.{passes_Q}
-use Rattle.nf_frac_def.proofs.Each.{with_front}
-use Rattle.nf_curve_def.specs.Short.{checked_short}
-use Rattle.nf_curve.proofs.Shortening.{short_from}
+use Rattle.nf_load.proofs.Common.{passes_Q, with_front, checked_short, short_from}
 use Rattle.nf_load.proofs.shortening.short_points.Given as goal
 
 -- the points so far, and those from this one on

@@ -1,16 +1,5 @@
-use Rattle.std.proofs.Common.{◌≡◌, ℕ, ◌+◌, ◌-◌, suc, ◌≤◌, Option, length, append-nil, subst, List, drop, refl, sym, ap, ◌∙◌, arith}
-use Rattle.std.specs.Prelude.{Ok, Some, slice_get}
-use Rattle.nf_rational.specs.Rational.{ℚ}
-use Rattle.std.proofs.lemmas.List.{drop_all}
-use Rattle.std.proofs.lemmas.Result.{err_from_is_err_and}
-use Rattle.nf_frac_def.specs.declared.Part.TheVariants.{Load}
-use Rattle.nf_frac_def.specs.Passing.{passes_Q}
-use Rattle.nf_frac_def.specs.Checked.{at_part}
-use Rattle.nf_model.specs.Curve.{Point}
-use Rattle.nf_frac_def.proofs.Each.{with_front}
-use Rattle.nf_load_def.specs.Loading.{Waits, waits_after}
-use Rattle.nf_load.specs.Rates.{IsRate}
-use Rattle.nf_load.specs.Paces.{IsPaceIf}
+use Rattle.std.proofs.Common.{◌≡◌, ℕ, ◌+◌, ◌-◌, suc, ◌≤◌, Option, length, append-nil, subst, List, drop, refl, sym, ap, ◌∙◌, arith, Ok, Some, slice_get}
+use Rattle.nf_load.proofs.Common.{ℚ, drop_all, err_from_is_err_and, Load, passes_Q, at_part, Point, with_front, Waits, waits_after, IsRate, IsPaceIf}
 use Rattle.nf_load.proofs.Alongs.{linked_along}
 use Rattle.nf_load.proofs.Pacing.{first_pace, paces_on}
 use Rattle.nf_load.proofs.RatesInTurn.{rate_there}

@@ -1,8 +1,5 @@
 use Rattle.std.proofs.Common.{◌≡◌, drop}
-use Rattle.nf_frac_def.specs.Passing.{passes_Q}
-use Rattle.nf_frac_def.proofs.Each.{with_front}
-use Rattle.nf_load_def.specs.Loading.{waits_after, all_waits}
-use Rattle.nf_load.specs.Paces.{IsPaceIf}
+use Rattle.nf_load.proofs.Common.{passes_Q, with_front, waits_after, all_waits, IsPaceIf}
 use Rattle.nf_load.proofs.Alongs.{Linked}
 use Rattle.nf_load.proofs.QueueSteps.{Later, IsBefore}
 use Rattle.nf_load.proofs.waiting.all_waits.Given as goal

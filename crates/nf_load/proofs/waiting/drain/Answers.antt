@@ -1,13 +1,6 @@
-use Rattle.std.proofs.Common.{Bool, sym, ap, ◌∙◌}
-use Rattle.std.specs.Prelude.{Some}
-use Rattle.std.proofs.lemmas.Result.{err_from_is_err_and}
-use Rattle.nf_rational.specs.Rational.{ℚ}
-use Rattle.nf_rational.specs.Order.{lt_ℚ}
-use Rattle.nf_frac_def.specs.declared.Part.TheVariants.{Load}
-use Rattle.nf_frac_def.specs.Passing.{passes_Q}
-use Rattle.nf_frac_def.specs.Checked.{at_part}
+use Rattle.std.proofs.Common.{Bool, sym, ap, ◌∙◌, Some}
+use Rattle.nf_load.proofs.Common.{err_from_is_err_and, ℚ, lt_ℚ, Load, passes_Q, at_part, after_err, after_ok}
 use Rattle.nf_load_def.specs.Loading as lists
-use Rattle.nf_curve.proofs.Exits.{after_err, after_ok}
 use Rattle.nf_load.proofs.waiting.drain.Goals as goal
 
 pub returns-then-is_below-clause-list : goal.returns-then-is_below-clause-list

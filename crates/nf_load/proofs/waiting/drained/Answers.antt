@@ -1,5 +1,5 @@
 use Rattle.std.proofs.Common.{lit<, sym, ◌∙◌}
-use Rattle.nf_frac_def.specs.Passing.{passes_Q}
+use Rattle.nf_load.proofs.Common.{passes_Q}
 use Rattle.nf_load.proofs.QueueSteps.{change_apart}
 use Rattle.nf_load.proofs.waiting.drained.Goals as goal
 

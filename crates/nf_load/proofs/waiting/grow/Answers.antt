@@ -1,14 +1,6 @@
-use Rattle.std.proofs.Common.{[], ◌∷◌, sym, ap, ◌∙◌}
-use Rattle.std.specs.Prelude.{Ok}
-use Rattle.std.proofs.lemmas.Result.{err_from_is_err_and}
-use Rattle.nf_rational.specs.Rational.{ℚ}
-use Rattle.nf_frac_def.specs.declared.Op.TheVariants.{Difference}
-use Rattle.nf_frac_def.specs.declared.Part.TheVariants.{Load}
-use Rattle.nf_frac_def.specs.Passing.{passes_Q}
-use Rattle.nf_frac_def.specs.Checked.{checked, at_part}
+use Rattle.std.proofs.Common.{[], ◌∷◌, sym, ap, ◌∙◌, Ok}
+use Rattle.nf_load.proofs.Common.{err_from_is_err_and, ℚ, Difference, Load, passes_Q, checked, at_part, after_err, after_ok, was_ok, grown_by}
 use Rattle.nf_load_def.specs.Loading as lists
-use Rattle.nf_curve.proofs.Exits.{after_err, after_ok, was_ok}
-use Rattle.nf_load.specs.Paces.{grown_by}
 use Rattle.nf_load.proofs.Pacing.{change_passes, change_goes, grown_paced}
 use Rattle.nf_load.proofs.waiting.grow.Goals as goal
 

@@ -1,15 +1,6 @@
-use Rattle.std.proofs.Common.{List, ◌&&◌, sym, ap, subst, ◌∙◌}
-use Rattle.std.specs.Prelude.{Ok, Some}
-use Rattle.std.proofs.lemmas.Result.{err_from_is_err_and}
-use Rattle.nf_rational.specs.Order.{lt_ℚ, le_ℚ}
-use Rattle.nf_frac_def.specs.Passing.{passes_Q}
-use Rattle.nf_rational.specs.Signs.{is_zero, is_positive}
+use Rattle.std.proofs.Common.{List, ◌&&◌, sym, ap, subst, ◌∙◌, Ok, Some}
+use Rattle.nf_load.proofs.Common.{err_from_is_err_and, lt_ℚ, le_ℚ, passes_Q, is_zero, is_positive, checked_slope, Load, was_ok, IsPaced, Over}
 use Rattle.nf_load_def.specs.Loading as lists
-use Rattle.nf_curve_def.specs.Lines.{checked_slope}
-use Rattle.nf_frac_def.specs.declared.Part.TheVariants.{Load}
-use Rattle.nf_curve.proofs.Exits.{was_ok}
-use Rattle.nf_load.specs.Paces.{IsPaced}
-use Rattle.nf_load.specs.declared.waiting.Over.{Over}
 use Rattle.nf_load.proofs.Pacing.{level_paced, first_true}
 use Rattle.nf_load.proofs.OverPieces.{slope_passes, stays, goes}
 use Rattle.nf_load.proofs.waiting.over_bounded.Goals as goal

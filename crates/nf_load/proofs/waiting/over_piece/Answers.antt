@@ -1,6 +1,5 @@
 use Rattle.std.proofs.Common.{sym, subst}
-use Rattle.nf_load.specs.Paces.{IsPaced}
-use Rattle.nf_load.specs.declared.waiting.Over.{Over}
+use Rattle.nf_load.proofs.Common.{IsPaced, Over}
 use Rattle.nf_load.proofs.Pacing.{level_paced}
 use Rattle.nf_load.proofs.waiting.over_piece.Goals as goal
 

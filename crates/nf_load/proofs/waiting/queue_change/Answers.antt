@@ -1,6 +1,5 @@
 use Rattle.std.proofs.Common.{sym, ap, ◌∙◌, rules}
-use Rattle.nf_frac_def.specs.declared.Part.TheVariants.{Load}
-use Rattle.nf_frac_def.specs.Checked.{at_part}
+use Rattle.nf_load.proofs.Common.{Load, at_part}
 use Rattle.nf_load.proofs.waiting.queue_change.Goals as goal
 
 pub returns-2 : goal.returns-2

@@ -1,8 +1,5 @@
 use Rattle.std.proofs.Common.{◌∙◌, ap, List}
-use Rattle.nf_rational.specs.Operations.{0ℚ}
-use Rattle.nf_frac_def.specs.Passing.{passes_Q}
-use Rattle.nf_model.specs.Network.{Piece}
-use Rattle.nf_net.specs.Supply.{supplied_after}
+use Rattle.nf_net.proofs.Common.{0ℚ, passes_Q, Piece, supplied_after}
 use Rattle.nf_net.proofs.Supplied.{value_supplied}
 use Rattle.nf_net.proofs.amounts.supply.Goals as goal
 

@@ -1,9 +1,5 @@
 use Rattle.std.proofs.Common.{◌+◌, ◌++◌, List, [], ◌∷◌, drop, refl, sym, ◌∙◌, ap, append-nil}
-use Rattle.nf_net_def.specs.Named.{NamedLink}
-use Rattle.nf_net_def.specs.NetClosing.{marked}
-use Rattle.nf_net_file.specs.Closing.{tail_flags}
-use Rattle.nf_net_file.proofs.Filling.{filled, filled_all}
-use Rattle.nf_net_file.proofs.Marks.{marked_with, marked_past}
+use Rattle.nf_net.proofs.Common.{NamedLink, marked, tail_flags, filled, filled_all, marked_with, marked_past}
 use Rattle.nf_net.proofs.building.active_of.Goals as goal
 use Rattle.nf_net.proofs.building.active_of.Goals.{then-is_active+in_ok-push, else-is_active}
 

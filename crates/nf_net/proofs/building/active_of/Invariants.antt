@@ -1,6 +1,5 @@
 use Rattle.std.proofs.Common.{◌≡◌, ◌++◌, drop}
-use Rattle.nf_net_def.specs.NetClosing.{marked}
-use Rattle.nf_net_file.specs.Closing.{tail_flags}
+use Rattle.nf_net.proofs.Common.{marked, tail_flags}
 use Rattle.nf_net.proofs.building.active_of.Given as goal
 
 abbrev pub invariant-loop-link : goal.invariant-loop-link

@@ -1,6 +1,5 @@
 use Rattle.std.proofs.Common.{◌++◌, List, ◌∷◌, [], refl, ◌∙◌, ap}
-use Rattle.nf_net_def.specs.Names.{Name}
-use Rattle.nf_net_file.proofs.Filling.{filled, filled_all}
+use Rattle.nf_net.proofs.Common.{Name, filled, filled_all}
 use Rattle.nf_net.proofs.building.copied.Goals as goal
 
 pub loop-name-preserved : goal.loop-name-preserved

@@ -1,9 +1,5 @@
 use Rattle.std.proofs.Common.{◌+◌, ◌++◌, List, [], ◌∷◌, drop, map, not, refl, sym, ◌∙◌, ap, append-nil}
-use Rattle.nf_net_def.specs.Named.{NamedLink}
-use Rattle.nf_net_def.specs.NetClosing.{marked}
-use Rattle.nf_net_file.specs.Closing.{tail_flags}
-use Rattle.nf_net_file.proofs.Filling.{filled, filled_all}
-use Rattle.nf_net_file.proofs.Marks.{marked_with, marked_past}
+use Rattle.nf_net.proofs.Common.{NamedLink, marked, tail_flags, filled, filled_all, marked_with, marked_past}
 use Rattle.nf_net.proofs.building.idle_of.Goals as goal
 use Rattle.nf_net.proofs.building.idle_of.Goals.{then-not-is_active+in_ok-push, else-not-is_active}
 

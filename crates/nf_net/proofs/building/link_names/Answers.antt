@@ -1,7 +1,5 @@
 use Rattle.std.proofs.Common.{◌++◌, List, ◌∷◌, [], refl, ◌∙◌, ap}
-use Rattle.nf_net_def.specs.Names.{Name}
-use Rattle.nf_net_def.specs.Named.{NamedLink, names_of}
-use Rattle.nf_net_file.proofs.Filling.{filled, filled_all}
+use Rattle.nf_net.proofs.Common.{Name, NamedLink, names_of, filled, filled_all}
 use Rattle.nf_net.proofs.building.link_names.Goals as goal
 
 pub loop-link-preserved : goal.loop-link-preserved

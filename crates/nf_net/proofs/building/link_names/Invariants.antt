@@ -1,5 +1,5 @@
 use Rattle.std.proofs.Common.{◌≡◌, ◌++◌, drop}
-use Rattle.nf_net_def.specs.Named.{names_of}
+use Rattle.nf_net.proofs.Common.{names_of}
 use Rattle.nf_net.proofs.building.link_names.Given as goal
 
 abbrev pub invariant-loop-link : goal.invariant-loop-link

@@ -1,7 +1,5 @@
 use Rattle.std.proofs.Common.{◌+◌, ◌++◌, Bool, cond, List, [], ◌∷◌, drop, refl, sym, ◌∙◌, ap, append-nil}
-use Rattle.nf_net_def.specs.Names.{Name, without}
-use Rattle.nf_net_file.proofs.Filling.{filled, filled_all}
-use Rattle.nf_net_file.proofs.Marks.{kept_with}
+use Rattle.nf_net.proofs.Common.{Name, without, filled, filled_all, kept_with}
 use Rattle.nf_net.proofs.building.names_without.Goals as goal
 use Rattle.nf_net.proofs.building.names_without.Goals.{then-not-has+in_ok-push, else-not-has}
 

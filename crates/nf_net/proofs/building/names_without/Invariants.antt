@@ -1,5 +1,5 @@
 use Rattle.std.proofs.Common.{◌≡◌, ◌++◌, drop}
-use Rattle.nf_net_def.specs.Names.{without}
+use Rattle.nf_net.proofs.Common.{without}
 use Rattle.nf_net.proofs.building.names_without.Given as goal
 
 abbrev pub invariant-loop-name : goal.invariant-loop-name

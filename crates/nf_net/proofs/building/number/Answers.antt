@@ -1,5 +1,5 @@
 use Rattle.std.proofs.Common.{◌∙◌, ap}
-use Rattle.nf_net_def.specs.Named.{numbered}
+use Rattle.nf_net.proofs.Common.{numbered}
 use Rattle.nf_net.proofs.building.number.Goals as goal
 
 pub returns : goal.returns

@@ -1,7 +1,5 @@
 use Rattle.std.proofs.Common.{◌++◌, List, [], ◌∷◌, map, refl, ◌∙◌, ap}
-use Rattle.nf_model.specs.Network.{Link}
-use Rattle.nf_net_def.specs.Named.{numbered}
-use Rattle.nf_net_file.proofs.Filling.{filled, filled_all}
+use Rattle.nf_net.proofs.Common.{Link, numbered, filled, filled_all}
 use Rattle.nf_net.proofs.building.numbered_links.Goals as goal
 
 pub loop-link-preserved : goal.loop-link-preserved

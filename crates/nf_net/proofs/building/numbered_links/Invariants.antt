@@ -1,5 +1,5 @@
 use Rattle.std.proofs.Common.{◌≡◌, ◌++◌, drop, map}
-use Rattle.nf_net_def.specs.Named.{numbered}
+use Rattle.nf_net.proofs.Common.{numbered}
 use Rattle.nf_net.proofs.building.numbered_links.Given as goal
 
 abbrev pub invariant-loop-link : goal.invariant-loop-link

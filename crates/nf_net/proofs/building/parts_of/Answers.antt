@@ -1,7 +1,5 @@
 use Rattle.std.proofs.Common.{List, subst}
-use Rattle.nf_net_def.specs.Named.{NamedLink}
-use Rattle.nf_net_file.specs.Drafts.{seen_draft}
-use Rattle.nf_net.specs.Building.{AreTablesOf}
+use Rattle.nf_net.proofs.Common.{NamedLink, seen_draft, AreTablesOf}
 use Rattle.nf_net.proofs.Built.{few_names, are_parts}
 use Rattle.nf_net.proofs.building.parts_of.Goals as goal
 

@@ -1,6 +1,5 @@
 use Rattle.std.proofs.Common.{◌≡◌, drop}
-use Rattle.nf_net_def.specs.Names.{with_names}
-use Rattle.nf_net_def.specs.Named.{ends}
+use Rattle.nf_net.proofs.Common.{with_names, ends}
 use Rattle.nf_net.proofs.building.put_ends.Given as goal
 
 abbrev pub invariant-loop-link : goal.invariant-loop-link

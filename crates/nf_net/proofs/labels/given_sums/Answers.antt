@@ -1,7 +1,5 @@
 use Rattle.std.proofs.Common.{◌++◌, List, [], ◌∷◌, map, Option, Some, refl, sym, ◌∙◌, ap}
-use Rattle.std.proofs.lemmas.List.{map-append}
-use Rattle.nf_rational.specs.Rational.{ℚ}
-use Rattle.nf_net_file.proofs.Filling.{filled, filled_all}
+use Rattle.nf_net.proofs.Common.{map-append, ℚ, filled, filled_all}
 use Rattle.nf_net.proofs.labels.given_sums.Goals as goal
 
 pub loop-sum-preserved : goal.loop-sum-preserved

@@ -1,7 +1,5 @@
-use Rattle.std.proofs.Common.{◌≡◌, ℕ, ◌≤◌, length, map, List, Option, Some, slice_get, sym, ◌∙◌, ap, subst, arith}
-use Rattle.std.specs.Prelude.{IfOk}
-use Rattle.nf_rational.specs.Rational.{ℚ}
-use Rattle.nf_graph.specs.Distances.{AreDistances}
+use Rattle.std.proofs.Common.{◌≡◌, ℕ, ◌≤◌, length, map, List, Option, Some, slice_get, sym, ◌∙◌, ap, subst, arith, IfOk}
+use Rattle.nf_net.proofs.Common.{ℚ, AreDistances}
 use Rattle.nf_net.proofs.Limits.{few_links}
 use Rattle.nf_net.proofs.StartLabels.{net_below, net_transits, net_hops, never_none, labels_by_sums}
 use Rattle.nf_net.proofs.labels.start_labels.Goals as goal

@@ -1,7 +1,5 @@
 use Rattle.std.proofs.Common.{[], ◌∷◌, ◌++◌, ◌∙◌, codes}
-use Rattle.nf_frac_words.specs.Digits.{digits_of}
-use Rattle.nf_text_def.specs.Words.{line_of_words}
-use Rattle.nf_net_def.specs.Names.{name_at}
+use Rattle.nf_net.proofs.Common.{digits_of, line_of_words, name_at}
 use Rattle.nf_net.proofs.TextLines.{three_pushes}
 use Rattle.nf_net.proofs.printing.push_head.Goals as goal
 

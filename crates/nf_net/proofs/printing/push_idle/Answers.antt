@@ -1,9 +1,5 @@
 use Rattle.std.proofs.Common.{◌++◌, List, ℕ, map, refl, ◌∙◌, ap}
-use Rattle.std.specs.List.{flat_map}
-use Rattle.nf_text_def.specs.Words.{line_of_words}
-use Rattle.nf_net_def.specs.Named.{NamedLink}
-use Rattle.nf_net_def.specs.NetText.{link_words}
-use Rattle.nf_net_file.proofs.Filling.{filled, filled_all}
+use Rattle.nf_net.proofs.Common.{flat_map, line_of_words, NamedLink, link_words, filled, filled_all}
 use Rattle.nf_net.proofs.printing.push_idle.Goals as goal
 
 pub loop-link-preserved : goal.loop-link-preserved

@@ -1,8 +1,5 @@
 use Rattle.std.proofs.Common.{◌≡◌, ◌++◌, drop, map}
-use Rattle.std.specs.List.{flat_map}
-use Rattle.nf_text_def.specs.Words.{line_of_words}
-use Rattle.nf_net_def.specs.Named.{active_links}
-use Rattle.nf_net_def.specs.NetText.{link_words}
+use Rattle.nf_net.proofs.Common.{flat_map, line_of_words, active_links, link_words}
 use Rattle.nf_net.proofs.printing.push_links.Given as goal
 
 abbrev pub invariant-loop-index : goal.invariant-loop-index

@@ -1,6 +1,5 @@
 use Rattle.std.proofs.Common.{[], ◌∷◌}
-use Rattle.nf_net_def.specs.Names.{name_at}
-use Rattle.nf_text.proofs.Pushed.{same_line}
+use Rattle.nf_net.proofs.Common.{name_at, same_line}
 use Rattle.nf_net.proofs.printing.push_node.Goals as goal
 
 pub returns : goal.returns

@@ -1,5 +1,5 @@
 use Rattle.std.proofs.Common.{◌<◌, sym, ◌∙◌, ap, subst, Some}
-use Rattle.nf_model.specs.Network.{Link}
+use Rattle.nf_net.proofs.Common.{Link}
 use Rattle.nf_net.proofs.TextLines.{link_pushed}
 use Rattle.nf_net.proofs.printing.push_numbered.Goals as goal
 

@@ -1,6 +1,5 @@
 use Rattle.std.proofs.Common.{[], ◌∷◌, ◌∙◌, ap, codes}
-use Rattle.nf_net_def.specs.NetText.{inflow_words}
-use Rattle.nf_text.proofs.Pushed.{same_line}
+use Rattle.nf_net.proofs.Common.{inflow_words, same_line}
 use Rattle.nf_net.proofs.printing.push_piece.Goals as goal
 
 pub returns : goal.returns

@@ -1,9 +1,5 @@
 use Rattle.std.proofs.Common.{List, map, refl}
-use Rattle.std.specs.List.{flat_map}
-use Rattle.nf_text_def.specs.Words.{line_of_words}
-use Rattle.nf_model.specs.Network.{Piece}
-use Rattle.nf_net_def.specs.NetText.{inflow_words}
-use Rattle.nf_net_file.proofs.Filling.{filled, filled_all}
+use Rattle.nf_net.proofs.Common.{flat_map, line_of_words, Piece, inflow_words, filled, filled_all}
 use Rattle.nf_net.proofs.printing.push_pieces.Goals as goal
 
 pub loop-piece-preserved : goal.loop-piece-preserved

@@ -1,7 +1,5 @@
 use Rattle.std.proofs.Common.{◌≡◌, ◌++◌, drop, map}
-use Rattle.std.specs.List.{flat_map}
-use Rattle.nf_text_def.specs.Words.{line_of_words}
-use Rattle.nf_net_def.specs.NetText.{inflow_words}
+use Rattle.nf_net.proofs.Common.{flat_map, line_of_words, inflow_words}
 use Rattle.nf_net.proofs.printing.push_pieces.Given as goal
 
 abbrev pub invariant-loop-piece : goal.invariant-loop-piece

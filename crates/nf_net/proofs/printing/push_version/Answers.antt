@@ -1,6 +1,5 @@
 use Rattle.std.proofs.Common.{[], ◌∷◌, codes}
-use Rattle.nf_frac_words.specs.Digits.{digits_of}
-use Rattle.nf_text.proofs.Pushed.{same_line}
+use Rattle.nf_net.proofs.Common.{digits_of, same_line}
 use Rattle.nf_net.proofs.Versions.{first_version, second_version}
 use Rattle.nf_net.proofs.printing.push_version.Goals as goal
 

@@ -1,5 +1,5 @@
 use Rattle.std.proofs.Common.{ℕ, List, Ok, sym, subst}
-use Rattle.nf_net_def.specs.NetFile.{Reads}
+use Rattle.nf_net.proofs.Common.{Reads}
 use Rattle.nf_net_laws.proofs.CanonicalBack.{canonical_back}
 use Rattle.nf_net.proofs.printing.text.Goals as goal
 

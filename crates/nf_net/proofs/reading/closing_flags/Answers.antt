@@ -1,5 +1,4 @@
-use Rattle.nf_net_file.specs.Drafts.{seen_draft}
-use Rattle.nf_net_file.proofs.FileWalks.{good_of}
+use Rattle.nf_net.proofs.Common.{seen_draft, good_of}
 use Rattle.nf_net.proofs.reading.closing_flags.Goals as goal
 
 pub hops_of-requires : goal.hops_of-requires

@@ -1,7 +1,6 @@
 use Rattle.std.proofs.Common.{◌∙◌}
+use Rattle.nf_net.proofs.Common.{seen_draft, broken_more}
 use Rattle.std.proofs.lemmas.Result.{err_from_is_err_and}
-use Rattle.nf_net_file.specs.Drafts.{seen_draft}
-use Rattle.nf_net_file.proofs.ContentLines.{broken_more}
 use Rattle.nf_net.proofs.Closes.{reads_broken, reads_all}
 use Rattle.nf_net.proofs.reading.parse.Goals as goal
 

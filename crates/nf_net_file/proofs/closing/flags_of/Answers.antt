@@ -1,7 +1,5 @@
 use Rattle.std.proofs.Common.{ℕ, ◌<◌, ◌≤◌, length, unwrap_or, [], sym, subst, arith, rules}
-use Rattle.nf_net_def.specs.Names.{place_of}
-use Rattle.nf_graph.specs.Graph.{AreBelow}
-use Rattle.nf_net_file.specs.Drafts.{seen_draft}
+use Rattle.nf_net_file.proofs.Common.{place_of, AreBelow, seen_draft}
 use Rattle.nf_net_file.proofs.FileWalks.{good_of, below_of, source_given, source_below}
 use Rattle.nf_net_file.proofs.closing.flags_of.Goals as goal
 

@@ -1,7 +1,5 @@
 use Rattle.std.proofs.Common.{ℕ, ◌<◌, ◌≤◌, length, unwrap_or, [], sym, subst, arith, rules}
-use Rattle.nf_net_def.specs.Names.{place_of}
-use Rattle.nf_graph.specs.Graph.{AreBelow}
-use Rattle.nf_net_file.specs.Drafts.{seen_draft}
+use Rattle.nf_net_file.proofs.Common.{place_of, AreBelow, seen_draft}
 use Rattle.nf_net_file.proofs.FileWalks.{good_of, below_of, transits_of, few_hops, source_given, source_below, has_no_passing, passing_by_fault}
 use Rattle.nf_net_file.proofs.closing.has_passing_sum.Goals as goal
 

@@ -1,6 +1,5 @@
 use Rattle.std.proofs.Common.{ℕ, ◌≤◌, length, sym, subst, arith, rules}
-use Rattle.nf_graph.specs.Graph.{AreBelow}
-use Rattle.nf_net_file.specs.Drafts.{seen_draft}
+use Rattle.nf_net_file.proofs.Common.{AreBelow, seen_draft}
 use Rattle.nf_net_file.proofs.FileWalks.{good_of, below_of, few_hops, cycle_by_option}
 use Rattle.nf_net_file.proofs.closing.has_zero_cycle.Goals as goal
 

@@ -1,6 +1,5 @@
 use Rattle.std.proofs.Common.{◌++◌, List, [], ◌∷◌, refl, ◌∙◌, ap}
-use Rattle.nf_model.specs.Walk.{Hop}
-use Rattle.nf_net_def.specs.Named.{hops_among}
+use Rattle.nf_net_file.proofs.Common.{Hop, hops_among}
 use Rattle.nf_net_file.proofs.Filling.{filled, filled_all}
 use Rattle.nf_net_file.proofs.closing.hops_of.Goals as goal
 

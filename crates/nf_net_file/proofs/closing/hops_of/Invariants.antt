@@ -1,5 +1,5 @@
 use Rattle.std.proofs.Common.{◌≡◌, ◌++◌, drop}
-use Rattle.nf_net_def.specs.Named.{hops_among}
+use Rattle.nf_net_file.proofs.Common.{hops_among}
 use Rattle.nf_net_file.proofs.closing.hops_of.Given as goal
 
 abbrev pub invariant-loop-link : goal.invariant-loop-link

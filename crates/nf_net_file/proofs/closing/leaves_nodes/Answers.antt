@@ -1,6 +1,5 @@
 use Rattle.std.proofs.Common.{◌<◌, length, unwrap_or, [], arith}
-use Rattle.nf_net_def.specs.Names.{place_of}
-use Rattle.nf_net_file.specs.Drafts.{seen_draft}
+use Rattle.nf_net_file.proofs.Common.{place_of, seen_draft}
 use Rattle.nf_net_file.proofs.FileWalks.{good_of, sink_given, sink_below, leaves_by_test}
 use Rattle.nf_net_file.proofs.closing.leaves_nodes.Goals as goal
 

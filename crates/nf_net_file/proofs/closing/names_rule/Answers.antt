@@ -1,6 +1,5 @@
 use Rattle.std.proofs.Common.{Some, refl, sym, ◌∙◌, ap}
-use Rattle.nf_net_laws.proofs.NameFacts.{same_names}
-use Rattle.nf_net_file.specs.Drafts.{seen_draft}
+use Rattle.nf_net_file.proofs.Common.{same_names, seen_draft}
 use Rattle.nf_net_file.proofs.FirstRule.{first_apart}
 use Rattle.nf_net_file.proofs.closing.names_rule.Goals as goal
 

@@ -1,4 +1,4 @@
-use Rattle.nf_net_file.specs.Drafts.{seen_draft}
+use Rattle.nf_net_file.proofs.Common.{seen_draft}
 use Rattle.nf_net_file.proofs.FirstRule.{first_unreached, first_cycle, first_passing, none_broken}
 use Rattle.nf_net_file.proofs.FileWalks.{when_true, when_false}
 use Rattle.nf_net_file.proofs.closing.walk_rule.Goals as goal

@@ -1,7 +1,6 @@
 use Rattle.std.proofs.Common.{sym, ap, ◌∙◌}
+use Rattle.nf_net_file.proofs.Common.{add_lines, seen_draft}
 use Rattle.std.proofs.Math.ListN.{drop_of_length-le}
-use Rattle.nf_net_def.specs.NetLines.{add_lines}
-use Rattle.nf_net_file.specs.Drafts.{seen_draft}
 use Rattle.nf_net_file.proofs.ContentLines.{line_added, line_refused}
 use Rattle.nf_net_file.proofs.contents.add_lines.Goals as goal
 

@@ -1,6 +1,6 @@
 use Rattle.std.proofs.Common.{◌≡◌, drop}
+use Rattle.nf_net_file.proofs.Common.{seen_draft}
 use Rattle.nf_net_def.specs.NetLines.{add_lines as add_all}
-use Rattle.nf_net_file.specs.Drafts.{seen_draft}
 use Rattle.nf_net_file.proofs.contents.add_lines.Given as goal
 
 abbrev pub invariant-loop-line : goal.invariant-loop-line

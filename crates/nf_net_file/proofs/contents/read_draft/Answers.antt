@@ -1,7 +1,5 @@
 use Rattle.std.proofs.Common.{◌≡◌, Err, ◌∙◌}
-use Rattle.std.proofs.lemmas.Result.{err_from_is_err_and}
-use Rattle.nf_net_def.specs.NetLines.{add_lines, draft_from}
-use Rattle.nf_net_file.specs.Drafts.{seen_draft}
+use Rattle.nf_net_file.proofs.Common.{err_from_is_err_and, add_lines, draft_from, seen_draft}
 use Rattle.nf_net_file.proofs.ContentLines.{broken_more, version_then}
 use Rattle.nf_net_file.proofs.contents.read_draft.Goals as goal
 

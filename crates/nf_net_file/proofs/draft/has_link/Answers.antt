@@ -1,5 +1,5 @@
 use Rattle.std.proofs.Common.{sym, ◌∙◌, ap, bytes_eq}
-use Rattle.nf_net_def.specs.Named.{NamedLink}
+use Rattle.nf_net_file.proofs.Common.{NamedLink}
 use Rattle.nf_net_file.proofs.LinkNames.{name_later, name_here}
 use Rattle.nf_net_file.proofs.draft.has_link.Goals as goal
 

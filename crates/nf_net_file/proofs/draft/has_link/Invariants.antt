@@ -1,6 +1,5 @@
 use Rattle.std.proofs.Common.{◌≡◌, drop}
-use Rattle.nf_net_def.specs.Names.{has_name}
-use Rattle.nf_net_def.specs.Named.{names_of}
+use Rattle.nf_net_file.proofs.Common.{has_name, names_of}
 use Rattle.nf_net_file.proofs.draft.has_link.Given as goal
 
 abbrev pub invariant-loop-link : goal.invariant-loop-link

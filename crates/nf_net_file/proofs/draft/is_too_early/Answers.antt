@@ -1,7 +1,5 @@
 use Rattle.std.proofs.Common.{◌<◌, sym, ◌∙◌, ap, length, arith}
-use Rattle.std.proofs.lemmas.Bool.Decides.{nat_tests}
-use Rattle.nf_rational.specs.Order.{le_ℚ}
-use Rattle.nf_model.specs.Network.{Piece}
+use Rattle.nf_net_file.proofs.Common.{nat_tests, le_ℚ, Piece}
 use Rattle.nf_net_file.proofs.LastPiece.{late_by_last, late_of_none}
 use Rattle.nf_net_file.proofs.draft.is_too_early.Goals as goal
 

@@ -1,5 +1,5 @@
 use Rattle.std.proofs.Common.{◌+◌, sym, ◌∙◌}
-use Rattle.nf_net_file.specs.Drafts.{one_unless}
+use Rattle.nf_net_file.proofs.Common.{one_unless}
 use Rattle.nf_net_file.proofs.NodeCounts.{length_with_one, too_many_with_one}
 use Rattle.nf_net_file.proofs.draft.is_too_many.Goals as goal
 

@@ -1,5 +1,5 @@
 use Rattle.std.proofs.Common.{◌<◌, length, sym, ◌∙◌, arith}
-use Rattle.std.proofs.lemmas.Result.{err_from_is_err_and}
+use Rattle.nf_net_file.proofs.Common.{err_from_is_err_and}
 use Rattle.nf_net_file.proofs.LineWords.{sink_line, link_line_is, inflow_line_is, end_line_is, no_line}
 use Rattle.nf_net_file.proofs.entry.read_entry.Goals as goal
 

@@ -1,5 +1,5 @@
 use Rattle.std.proofs.Common.{sym, ◌∙◌}
-use Rattle.std.proofs.lemmas.Result.{err_from_is_err_and}
+use Rattle.nf_net_file.proofs.Common.{err_from_is_err_and}
 use Rattle.nf_net_file.proofs.LineWords.{name_not_read, tail_not_read, head_not_read, transit_not_read, capacity_not_read, link_read}
 use Rattle.nf_net_file.proofs.entry.read_link.Goals as goal
 

@@ -1,5 +1,5 @@
 use Rattle.std.proofs.Common.{sym, ◌∙◌}
-use Rattle.nf_net_def.specs.NetLines.{Source, Sink}
+use Rattle.nf_net_file.proofs.Common.{Source, Sink}
 use Rattle.nf_net_file.proofs.LineWords.{node_said}
 use Rattle.nf_net_file.proofs.entry.read_node.Goals as goal
 

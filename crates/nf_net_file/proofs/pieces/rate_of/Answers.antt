@@ -1,6 +1,5 @@
 use Rattle.std.proofs.Common.{drop, ◌+◌, sym, ◌∙◌, ap}
-use Rattle.nf_rational.specs.Order.{le_ℚ}
-use Rattle.nf_model.specs.Network.{Piece, rate_from}
+use Rattle.nf_net_file.proofs.Common.{le_ℚ, Piece, rate_from}
 use Rattle.nf_net_file.proofs.Rates.{rate_goes_on, rate_stays}
 use Rattle.nf_net_file.proofs.pieces.rate_of.Goals as goal
 

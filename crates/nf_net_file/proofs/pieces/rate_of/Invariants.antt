@@ -1,6 +1,5 @@
 use Rattle.std.proofs.Common.{◌≡◌, drop}
-use Rattle.nf_rational.specs.Operations.{0ℚ}
-use Rattle.nf_model.specs.Network.{rate_from}
+use Rattle.nf_net_file.proofs.Common.{0ℚ, rate_from}
 use Rattle.nf_net_file.proofs.pieces.rate_of.Given as goal
 
 abbrev pub invariant-loop-piece : goal.invariant-loop-piece

@@ -1,6 +1,5 @@
 use Rattle.std.proofs.Common.{Some, sym, ◌∙◌, ap}
-use Rattle.nf_rational.specs.Order.{lt_ℚ}
-use Rattle.nf_model.specs.Network.{Piece}
+use Rattle.nf_net_file.proofs.Common.{lt_ℚ, Piece}
 use Rattle.nf_net_file.proofs.Rates.{start_later, start_here}
 use Rattle.nf_net_file.proofs.pieces.start_after.Goals as goal
 

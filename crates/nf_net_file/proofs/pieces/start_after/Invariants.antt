@@ -1,5 +1,5 @@
 use Rattle.std.proofs.Common.{◌≡◌, drop}
-use Rattle.nf_model.specs.Network.{first_start}
+use Rattle.nf_net_file.proofs.Common.{first_start}
 use Rattle.nf_net_file.proofs.pieces.start_after.Given as goal
 
 abbrev pub invariant-loop-piece : goal.invariant-loop-piece

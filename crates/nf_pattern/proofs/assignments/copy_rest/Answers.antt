@@ -1,5 +1,5 @@
 use Rattle.std.proofs.Common.{◌++◌, take, ap, ◌∙◌, arith}
-use Rattle.nf_model.specs.Pattern.{Pattern}
+use Rattle.nf_pattern.proofs.Common.{Pattern}
 use Rattle.nf_pattern.proofs.Raising.{put_end, from_here}
 use Rattle.nf_pattern.proofs.assignments.copy_rest.Goals as goal
 

@@ -1,5 +1,5 @@
 use Rattle.std.proofs.Common.{◌≡◌, ◌+◌, ◌≤◌, drop}
-use Rattle.nf_model.specs.Pattern.{changes}
+use Rattle.nf_pattern.proofs.Common.{changes}
 use Rattle.nf_pattern.proofs.assignments.count_changes.Given as goal
 
 -- the links so far are counted

@@ -1,6 +1,5 @@
-use Rattle.std.proofs.Common.{◌≡◌, arith}
-use Rattle.std.specs.Prelude.{None, get_or}
-use Rattle.nf_pattern.specs.Successor.{change}
+use Rattle.std.proofs.Common.{◌≡◌, arith, None, get_or}
+use Rattle.nf_pattern.proofs.Common.{change}
 use Rattle.nf_pattern.proofs.Counting.{free_at, free_end}
 use Rattle.nf_pattern.proofs.assignments.count_free.Goals as goal
 

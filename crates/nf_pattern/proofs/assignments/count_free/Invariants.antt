@@ -1,5 +1,5 @@
 use Rattle.std.proofs.Common.{◌≡◌, ◌+◌, ◌≤◌, drop}
-use Rattle.nf_pattern.specs.Successor.{free}
+use Rattle.nf_pattern.proofs.Common.{free}
 use Rattle.nf_pattern.proofs.assignments.count_free.Given as goal
 
 -- the links so far are counted

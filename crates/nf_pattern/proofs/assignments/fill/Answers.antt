@@ -1,7 +1,5 @@
-use Rattle.std.proofs.Common.{◌≡◌, ap, refl, sym, ◌∙◌, arith, get_or, length, ◌+◌, ◌-◌, ◌<◌, ◌≤◌, false, subst, ℕ, suc, drop}
-use Rattle.std.specs.Prelude.{Some, None}
-use Rattle.nf_model.specs.Pattern.{Pattern}
-use Rattle.nf_pattern.specs.Successor.{change, fits_count, choices, first_good, free}
+use Rattle.std.proofs.Common.{◌≡◌, ap, refl, sym, ◌∙◌, arith, get_or, length, ◌+◌, ◌-◌, ◌<◌, ◌≤◌, false, subst, ℕ, suc, drop, Some, None}
+use Rattle.nf_pattern.proofs.Common.{Pattern, change, fits_count, choices, first_good, free}
 use Rattle.nf_pattern.proofs.Filling.{none_filled, all_filled, rest_free, has_choice, more_filled, idle_filled, no_state, rest_filled}
 use Rattle.nf_pattern.proofs.Quiet.{quiet_rest, quiet_end}
 use Rattle.nf_pattern.proofs.assignments.fill.Goals as goal

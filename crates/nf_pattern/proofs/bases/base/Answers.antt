@@ -1,6 +1,5 @@
 use Rattle.std.proofs.Common.{◌≡◌, ◌+◌, Bool, List, length, ap, sym, subst, arith}
-use Rattle.nf_model.specs.Pattern.{Pattern}
-use Rattle.nf_pattern.specs.Base.{AreBarred, IsBaseState}
+use Rattle.nf_pattern.proofs.Common.{Pattern, AreBarred, IsBaseState}
 use Rattle.nf_pattern.proofs.Each.{each_pushed, length_pushed, each_none, take_front}
 use Rattle.nf_pattern.proofs.EnteredNodes.{bars_next}
 use Rattle.nf_pattern.proofs.FirstPatterns.{is_base}

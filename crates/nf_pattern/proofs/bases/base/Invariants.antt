@@ -1,5 +1,5 @@
 use Rattle.std.proofs.Common.{◌≡◌, length}
-use Rattle.nf_pattern.specs.Base.{AreBarred, IsBaseState}
+use Rattle.nf_pattern.proofs.Common.{AreBarred, IsBaseState}
 use Rattle.nf_pattern.proofs.Each.{EachEntry}
 use Rattle.nf_pattern.proofs.bases.base.Given as goal
 

@@ -1,6 +1,5 @@
+use Rattle.std.proofs.Common.{◌≡◌, false, length, rules, Some, slice_get}
 use Rattle.nf_pattern.proofs.FirstPatterns.{tight_first, state_kept, zero_later}
-use Rattle.std.proofs.Common.{◌≡◌, false, length, rules}
-use Rattle.std.specs.Prelude.{Some, slice_get}
 use Rattle.nf_pattern.proofs.bases.base_state.Goals as goal
 
 pub returns-in-None : goal.returns-in-None

@@ -1,5 +1,5 @@
 use Rattle.std.proofs.Common.{ap, sym, subst, Bool, List, length, arith}
-use Rattle.nf_pattern.specs.Base.{AreEntered}
+use Rattle.nf_pattern.proofs.Common.{AreEntered}
 use Rattle.nf_pattern.proofs.Each.{take_front}
 use Rattle.nf_pattern.proofs.EnteredNodes.{ResetsBefore, no_reset, resets_next, all_resets}
 use Rattle.nf_pattern.proofs.bases.nodes_reset.Goals as goal

@@ -1,4 +1,4 @@
-use Rattle.nf_pattern.specs.Base.{AreEntered}
+use Rattle.nf_pattern.proofs.Common.{AreEntered}
 use Rattle.nf_pattern.proofs.EnteredNodes.{ResetsBefore}
 use Rattle.nf_pattern.proofs.bases.nodes_reset.Given as goal
 

@@ -1,5 +1,5 @@
 use Rattle.std.proofs.Common.{◌≡◌, false}
-use Rattle.nf_pattern.specs.Successor.{fits_count}
+use Rattle.nf_pattern.proofs.Common.{fits_count}
 use Rattle.nf_pattern.proofs.Choosing.{full_fits}
 use Rattle.nf_pattern.proofs.choice.first_choice.Goals as goal
 

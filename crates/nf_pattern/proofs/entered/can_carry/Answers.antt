@@ -1,7 +1,5 @@
-use Rattle.std.proofs.Common.{Bool, false, None, ◌∙◌, ap, sym, subst, inl}
-use Rattle.std.specs.Prelude.{Some, MatchBool}
-use Rattle.std.proofs.lemmas.Option.{slice_get-get_or}
-use Rattle.nf_pattern.specs.Entered.{CanCarry}
+use Rattle.std.proofs.Common.{Bool, false, None, ◌∙◌, ap, sym, subst, inl, Some, MatchBool}
+use Rattle.nf_pattern.proofs.Common.{slice_get-get_or, CanCarry}
 use Rattle.nf_pattern.proofs.Entries.{carried_by_state}
 use Rattle.nf_pattern.proofs.entered.can_carry.Goals as goal
 

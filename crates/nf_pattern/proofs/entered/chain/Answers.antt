@@ -1,10 +1,6 @@
 use Rattle.std.proofs.Common.{◌∙◌, ℕ, ◌+◌, List, Option, length, ap, sym, subst, arith, replicate, None, ◌≡◌, rules}
-use Rattle.std.proofs.lemmas.List.{with_items_is, length-replicate}
-use Rattle.nf_model.specs.Walk.{Hop, IsHop}
-use Rattle.nf_graph.specs.Graph.{AreBelow}
-use Rattle.nf_pattern.specs.Entered.{IsLastInto, AreLastInto, AreChained}
+use Rattle.nf_pattern.proofs.Common.{with_items_is, length-replicate, Hop, IsHop, AreBelow, IsLastInto, AreLastInto, AreChained, none-some}
 use Rattle.nf_pattern.proofs.Each.{each_pushed, length_pushed}
-use Rattle.std.proofs.lemmas.Option.{none-some}
 use Rattle.nf_pattern.proofs.Entries.{none_last}
 use Rattle.nf_pattern.proofs.entered.chain.Goals as goal
 

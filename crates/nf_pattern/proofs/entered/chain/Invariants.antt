@@ -1,5 +1,5 @@
 use Rattle.std.proofs.Common.{◌≡◌, length}
-use Rattle.nf_pattern.specs.Entered.{AreLastInto, AreChained}
+use Rattle.nf_pattern.proofs.Common.{AreLastInto, AreChained}
 use Rattle.nf_pattern.proofs.entered.chain.Given as goal
 
 abbrev pub invariant-loop-e : goal.invariant-loop-e

@@ -1,7 +1,5 @@
-use Rattle.std.proofs.Common.{◌∙◌, ℕ, Option, Some, refl, ap, sym, arith, subst, length, ◌<◌}
-use Rattle.std.proofs.lemmas.Option.{slice_get-get_or}
-use Rattle.std.proofs.Common.{rules}
-use Rattle.nf_model.specs.Walk.{Hop, IsHop}
+use Rattle.std.proofs.Common.{◌∙◌, ℕ, Option, Some, refl, ap, sym, arith, subst, length, ◌<◌, rules}
+use Rattle.nf_pattern.proofs.Common.{slice_get-get_or, Hop, IsHop}
 use Rattle.nf_pattern.proofs.Entries.{hop_there, last_noted, last_is}
 use Rattle.nf_pattern.proofs.entered.chain_link.Goals as goal
 

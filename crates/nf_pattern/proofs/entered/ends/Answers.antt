@@ -1,7 +1,5 @@
 use Rattle.std.proofs.Common.{◌≡◌, ◌∙◌, ℕ, ◌+◌, List, length, replicate, ap, sym, subst, arith}
-use Rattle.std.proofs.lemmas.List.{length-replicate, with_items_is}
-use Rattle.nf_graph.specs.Graph.{AreBelow}
-use Rattle.nf_pattern.specs.Entered.{AreEndsBefore}
+use Rattle.nf_pattern.proofs.Common.{length-replicate, with_items_is, AreBelow, AreEndsBefore}
 use Rattle.nf_pattern.proofs.Entries.{no_ends}
 use Rattle.nf_pattern.proofs.entered.ends.Goals as goal
 

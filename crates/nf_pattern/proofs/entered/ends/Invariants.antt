@@ -1,5 +1,5 @@
 use Rattle.std.proofs.Common.{◌≡◌, length}
-use Rattle.nf_pattern.specs.Entered.{AreEndsBefore}
+use Rattle.nf_pattern.proofs.Common.{AreEndsBefore}
 use Rattle.nf_pattern.proofs.entered.ends.Given as goal
 
 abbrev pub invariant-loop-e : goal.invariant-loop-e

@@ -1,5 +1,5 @@
 use Rattle.std.proofs.Common.{◌<◌, ◌∙◌, ℕ, Option, Some, get_or, ap, sym, subst, arith}
-use Rattle.std.proofs.lemmas.Option.{slice_get-get_or}
+use Rattle.nf_pattern.proofs.Common.{slice_get-get_or}
 use Rattle.nf_pattern.proofs.Entries.{IsBack, left_back_to, back_first, back_none, back_enters, back_more, back_fewer, back_within}
 use Rattle.nf_pattern.proofs.entered.is_entered_before.Goals as goal
 

@@ -1,6 +1,5 @@
 use Rattle.std.proofs.Common.{ℕ, List}
-use Rattle.nf_model.specs.Walk.{Hop}
-use Rattle.nf_pattern.specs.Entered.{LeadsTo, AreChained}
+use Rattle.nf_pattern.proofs.Common.{Hop, LeadsTo, AreChained}
 use Rattle.nf_pattern.proofs.Entries.{IsBack, left_back_to}
 use Rattle.nf_pattern.proofs.entered.is_entered_before.Given as goal
 

@@ -1,5 +1,5 @@
 use Rattle.std.proofs.Common.{arith}
-use Rattle.std.proofs.lemmas.Option.{slice_get_within}
+use Rattle.nf_pattern.proofs.Common.{slice_get_within}
 use Rattle.nf_pattern.proofs.Entries.{none_more}
 use Rattle.nf_pattern.proofs.entered.is_lost.Goals as goal
 

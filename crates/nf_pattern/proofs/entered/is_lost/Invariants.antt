@@ -1,5 +1,4 @@
-use Rattle.std.proofs.Common.{◌≡◌, ◌≢◌, ℕ, ◌<◌, Some}
-use Rattle.std.specs.Prelude.{slice_get}
+use Rattle.std.proofs.Common.{◌≡◌, ◌≢◌, ℕ, ◌<◌, Some, slice_get}
 use Rattle.nf_pattern.proofs.entered.is_lost.Given as goal
 
 abbrev pub invariant-loop-v : goal.invariant-loop-v

@@ -1,6 +1,5 @@
 use Rattle.std.proofs.Common.{true, false, Some, None, inl, inr, ap, ◌∙◌, rules}
-use Rattle.nf_model.specs.declared.State.{State}
-use Rattle.nf_model.specs.declared.State.TheVariants.{Tight, Full}
+use Rattle.nf_pattern.proofs.Common.{State, Tight, Full}
 use Rattle.nf_pattern.proofs.Each.{entry_at}
 use Rattle.nf_pattern.proofs.Tests.{no_state, other_state, carries_not}
 use Rattle.nf_pattern.proofs.entered.may_carry.Goals as goal

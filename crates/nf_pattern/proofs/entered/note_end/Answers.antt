@@ -1,6 +1,5 @@
-use Rattle.std.proofs.Common.{◌∙◌, ap, refl, arith, subst, length, ◌<◌, ℕ, sym}
-use Rattle.std.proofs.Common.{rules}
-use Rattle.nf_model.specs.Walk.{Hop, IsHop}
+use Rattle.std.proofs.Common.{◌∙◌, ap, refl, arith, subst, length, ◌<◌, ℕ, sym, rules}
+use Rattle.nf_pattern.proofs.Common.{Hop, IsHop}
 use Rattle.nf_pattern.proofs.Entries.{hop_there, ends_kept, end_noted}
 use Rattle.nf_pattern.proofs.entered.note_end.Goals as goal
 

@@ -1,6 +1,5 @@
 use Rattle.std.proofs.Common.{ℕ, List, Bool, length, ap, refl, sym, subst, length-set, ◌∙◌, ◌+◌, arith}
-use Rattle.nf_pattern.specs.Forest.{NoneCloses}
-use Rattle.nf_pattern.specs.Walking.{IsTightStack}
+use Rattle.nf_pattern.proofs.Common.{NoneCloses, IsTightStack}
 use Rattle.nf_pattern.proofs.Calming.{AreMarked, calm_marked, marked_none, marked_set}
 use Rattle.nf_pattern.proofs.firming.firm_links.Goals as goal
 

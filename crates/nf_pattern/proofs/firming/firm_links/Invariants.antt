@@ -1,6 +1,5 @@
 use Rattle.std.proofs.Common.{◌≡◌, length}
-use Rattle.nf_pattern.specs.Forest.{NoneCloses}
-use Rattle.nf_pattern.specs.Walking.{IsTightStack}
+use Rattle.nf_pattern.proofs.Common.{NoneCloses, IsTightStack}
 use Rattle.nf_pattern.proofs.Calming.{AreMarked}
 use Rattle.nf_pattern.proofs.firming.firm_links.Given as goal
 

@@ -1,6 +1,6 @@
-use Rattle.nf_pattern.proofs.Each.{take_pushed}
 use Rattle.std.proofs.Common.{◌∙◌, ℕ, ◌≤◌, sym, subst}
-use Rattle.std.proofs.lemmas.List.{take_all}
+use Rattle.nf_pattern.proofs.Common.{take_all}
+use Rattle.nf_pattern.proofs.Each.{take_pushed}
 use Rattle.nf_pattern.proofs.question.copied_flags.Goals as goal
 
 pub loop-e-preserved : goal.loop-e-preserved

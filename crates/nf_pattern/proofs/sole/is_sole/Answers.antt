@@ -1,7 +1,5 @@
-use Rattle.std.proofs.Common.{◌≡◌, ◌∙◌, Bool, ap, sym, subst, length, ◌<◌, ℕ, suc, refl, Some, None, arith}
-use Rattle.std.specs.Prelude.{MatchBool, slice_get}
-use Rattle.std.proofs.lemmas.Option.{slice_get-get_or}
-use Rattle.nf_model.specs.Walk.{Hop, IsHop}
+use Rattle.std.proofs.Common.{◌≡◌, ◌∙◌, Bool, ap, sym, subst, length, ◌<◌, ℕ, suc, refl, Some, None, arith, MatchBool, slice_get}
+use Rattle.nf_pattern.proofs.Common.{slice_get-get_or, Hop, IsHop}
 use Rattle.nf_pattern.proofs.Entries.{hop_there}
 use Rattle.nf_pattern.proofs.Sparing.{sole_told}
 use Rattle.nf_pattern.proofs.sole.is_sole.Goals as goal

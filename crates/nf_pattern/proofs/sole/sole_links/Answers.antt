@@ -1,8 +1,5 @@
 use Rattle.std.proofs.Common.{◌≡◌, ◌∙◌, ◌+◌, ℕ, Bool, true, List, length, replicate, ap, sym, refl, subst, arith}
-use Rattle.std.proofs.lemmas.List.{length-replicate, with_items_is}
-use Rattle.nf_graph.specs.Graph.{AreBelow}
-use Rattle.nf_pattern.specs.Entered.{AreEndsBefore, AreEnds}
-use Rattle.nf_pattern.specs.Sole.{EntersAlone}
+use Rattle.nf_pattern.proofs.Common.{length-replicate, with_items_is, AreBelow, AreEndsBefore, AreEnds, EntersAlone}
 use Rattle.nf_pattern.proofs.Each.{each_none, each_pushed, length_pushed}
 use Rattle.nf_pattern.proofs.Entries.{no_ends}
 use Rattle.nf_pattern.proofs.sole.sole_links.Goals as goal

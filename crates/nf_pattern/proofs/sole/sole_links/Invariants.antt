@@ -1,6 +1,5 @@
 use Rattle.std.proofs.Common.{◌≡◌, ℕ, Bool, true, length, Some, slice_get}
-use Rattle.nf_pattern.specs.Entered.{AreEndsBefore}
-use Rattle.nf_pattern.specs.Sole.{EntersAlone}
+use Rattle.nf_pattern.proofs.Common.{AreEndsBefore, EntersAlone}
 use Rattle.nf_pattern.proofs.sole.sole_links.Given as goal
 
 -- the flags of the links so far

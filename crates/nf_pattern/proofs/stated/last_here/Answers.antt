@@ -1,7 +1,5 @@
-use Rattle.std.proofs.Common.{None, ap, sym, ◌∙◌, arith}
-use Rattle.std.specs.Prelude.{Option, Some}
-use Rattle.std.proofs.lemmas.Option.{slice_get-get_or}
-use Rattle.nf_model.specs.declared.State.{State}
+use Rattle.std.proofs.Common.{None, ap, sym, ◌∙◌, arith, Option, Some}
+use Rattle.nf_pattern.proofs.Common.{slice_get-get_or, State}
 use Rattle.nf_pattern.proofs.Filling.{no_state}
 use Rattle.nf_pattern.proofs.Stating.{last_more}
 use Rattle.nf_pattern.proofs.stated.last_here.Goals as goal

@@ -1,5 +1,5 @@
 use Rattle.std.proofs.Common.{◌≡◌, ℕ, List, length, ap, arith}
-use Rattle.nf_pattern.specs.Stated.{IsLastTo}
+use Rattle.nf_pattern.proofs.Common.{IsLastTo}
 use Rattle.nf_pattern.proofs.Each.{each_pushed, length_pushed, each_none}
 use Rattle.nf_pattern.proofs.stated.last_stated.Goals as goal
 

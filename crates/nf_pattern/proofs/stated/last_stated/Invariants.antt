@@ -1,5 +1,5 @@
 use Rattle.std.proofs.Common.{◌≡◌, suc, ◌≤◌, length}
-use Rattle.nf_pattern.specs.Stated.{AreIdle, IsLastTo}
+use Rattle.nf_pattern.proofs.Common.{AreIdle, IsLastTo}
 use Rattle.nf_pattern.proofs.Each.{EachEntry}
 use Rattle.nf_pattern.proofs.stated.last_stated.Given as goal
 

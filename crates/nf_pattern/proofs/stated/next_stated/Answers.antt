@@ -1,6 +1,5 @@
 use Rattle.std.proofs.Common.{ℕ, ◌-◌, sym, subst, ◌∙◌, length-set, arith}
-use Rattle.std.proofs.lemmas.Option.{slice_get_within}
-use Rattle.nf_pattern.specs.Stated.{IsNextFrom}
+use Rattle.nf_pattern.proofs.Common.{slice_get_within, IsNextFrom}
 use Rattle.nf_pattern.proofs.Stating.{next_set}
 use Rattle.nf_pattern.proofs.stated.next_stated.Goals as goal
 

@@ -1,5 +1,5 @@
 use Rattle.std.proofs.Common.{◌≡◌, ℕ, ◌≤◌, length, Some, slice_get}
-use Rattle.nf_pattern.specs.Stated.{IsNextFrom}
+use Rattle.nf_pattern.proofs.Common.{IsNextFrom}
 use Rattle.nf_pattern.proofs.stated.next_stated.Given as goal
 
 -- there are those of the links from this one on

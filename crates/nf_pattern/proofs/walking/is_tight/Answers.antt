@@ -1,6 +1,5 @@
 use Rattle.std.proofs.Common.{Some, None, ap, ◌∙◌, rules}
-use Rattle.nf_model.specs.declared.State.{State}
-use Rattle.nf_model.specs.declared.State.TheVariants.{Tight}
+use Rattle.nf_pattern.proofs.Common.{State, Tight}
 use Rattle.nf_pattern.proofs.Each.{entry_at}
 use Rattle.nf_pattern.proofs.Tests.{no_state, other_state}
 use Rattle.nf_pattern.proofs.walking.is_tight.Goals as goal

@@ -1,5 +1,5 @@
 use Rattle.std.proofs.Common.{ℕ, ◌<◌}
-use Rattle.nf_phase.specs.OpenRuns.{ApartAt}
+use Rattle.nf_phase.proofs.Common.{ApartAt}
 use Rattle.nf_phase.proofs.open_runs.are_apart.Given as goal
 
 abbrev pub invariant-loop-e : goal.invariant-loop-e

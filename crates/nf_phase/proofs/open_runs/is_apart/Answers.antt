@@ -1,7 +1,5 @@
-use Rattle.std.proofs.Common.{◌≡◌, ◌<◌, ℕ, length, refl, sym, ap, subst, ◌∙◌}
-use Rattle.std.specs.Prelude.{Option, Some, slice_get}
-use Rattle.std.proofs.lemmas.Option.{slice_get_read}
-use Rattle.nf_model.specs.declared.State.{State}
+use Rattle.std.proofs.Common.{◌≡◌, ◌<◌, ℕ, length, refl, sym, ap, subst, ◌∙◌, Option, Some, slice_get}
+use Rattle.nf_phase.proofs.Common.{slice_get_read, State}
 use Rattle.nf_phase.proofs.Opened.{apart_by, apart_with_state}
 use Rattle.nf_phase.proofs.open_runs.is_apart.Goals as goal
 

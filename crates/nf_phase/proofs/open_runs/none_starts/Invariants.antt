@@ -1,5 +1,5 @@
 use Rattle.std.proofs.Common.{◌≡◌, drop}
-use Rattle.nf_phase.specs.OpenRuns.{none_starts}
+use Rattle.nf_phase.proofs.Common.{none_starts}
 use Rattle.nf_phase.proofs.open_runs.none_starts.Given as goal
 
 abbrev pub invariant-loop-piece : goal.invariant-loop-piece

@@ -1,8 +1,5 @@
 use Rattle.std.proofs.Common.{map, refl, ap, ◌∙◌}
-use Rattle.std.proofs.lemmas.List.{take_all}
-use Rattle.std.proofs.lemmas.Option.{slice_get_read}
-use Rattle.nf_phase_def.specs.Restoring.{value_at_end}
-use Rattle.nf_curve.specs.Points.{Grown}
+use Rattle.nf_phase.proofs.Common.{take_all, slice_get_read, value_at_end, Grown}
 use Rattle.nf_phase_curves.proofs.Corners.{value_at_last}
 use Rattle.nf_phase_curves.proofs.OneByOne.{mapped_pushed}
 use Rattle.nf_phase.proofs.restoring.end_values.Goals as goal

@@ -1,5 +1,5 @@
 use Rattle.std.proofs.Common.{◌≡◌, map, take}
-use Rattle.nf_phase_def.specs.Restoring.{value_at_end}
+use Rattle.nf_phase.proofs.Common.{value_at_end}
 use Rattle.nf_phase.proofs.restoring.end_values.Given as goal
 
 abbrev pub invariant-loop-curve : goal.invariant-loop-curve

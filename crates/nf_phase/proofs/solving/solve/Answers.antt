@@ -1,4 +1,4 @@
-use Rattle.nf_phase.specs.Solution.{bounds_of}
+use Rattle.nf_phase.proofs.Common.{bounds_of}
 use Rattle.nf_phase.proofs.Ended.{solved}
 use Rattle.nf_phase.proofs.solving.solve.Goals as goal
 

@@ -1,6 +1,5 @@
 use Rattle.std.proofs.Common.{◌∙◌, arith}
-use Rattle.std.proofs.lemmas.List.{take_all}
-use Rattle.std.proofs.lemmas.Result.{IfOk-weaker}
+use Rattle.nf_phase_curves.proofs.Common.{take_all, IfOk-weaker}
 use Rattle.nf_phase_curves.proofs.copies.copy_of.Goals as goal
 
 pub returns : goal.returns

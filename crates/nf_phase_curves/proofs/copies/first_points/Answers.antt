@@ -1,8 +1,5 @@
 use Rattle.std.proofs.Common.{◌+◌, ◌<◌, List, sym, subst, arith}
-use Rattle.nf_rational.specs.Rational.{ℚ}
-use Rattle.nf_rational.specs.Order.{◌<ℚ◌}
-use Rattle.nf_curve.specs.Points.{last_time}
-use Rattle.nf_pattern.proofs.Each.{take_pushed}
+use Rattle.nf_phase_curves.proofs.Common.{ℚ, ◌<ℚ◌, last_time, take_pushed}
 use Rattle.nf_phase_curves.proofs.Copying.{later_than_taken}
 use Rattle.nf_phase_curves.proofs.copies.first_points.Goals as goal
 

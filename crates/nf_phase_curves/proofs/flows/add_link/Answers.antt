@@ -1,7 +1,5 @@
 use Rattle.std.proofs.Common.{◌∙◌, [], ◌∷◌, ap, map}
-use Rattle.std.proofs.lemmas.List.{map-append}
-use Rattle.nf_curve.specs.Flows.{seen_trace}
-use Rattle.nf_curve.specs.Points.{Grown}
+use Rattle.nf_phase_curves.proofs.Common.{map-append, seen_trace, Grown}
 use Rattle.nf_phase_curves.proofs.Places.{nothing_given}
 use Rattle.nf_phase_curves.proofs.flows.add_link.Goals as goal
 

@@ -1,11 +1,5 @@
 use Rattle.std.proofs.Common.{◌∙◌, List, [], ◌∷◌, ◌++◌, take, refl, ap}
-use Rattle.std.proofs.lemmas.List.{take_all}
-use Rattle.std.proofs.lemmas.Option.{slice_get_read}
-use Rattle.nf_curve.specs.Flows.{seen_trace, seen_flow}
-use Rattle.nf_thin_def.specs.ReportCurves.{LinkCurves}
-use Rattle.nf_pattern.proofs.Each.{take_pushed}
-use Rattle.nf_phase_curves.specs.Growing.{Roomy, all_grown}
-use Rattle.nf_phase_curves.specs.Flows.{flow_so_far}
+use Rattle.nf_phase_curves.proofs.Common.{take_all, slice_get_read, seen_trace, seen_flow, LinkCurves, take_pushed, Roomy, all_grown, flow_so_far}
 use Rattle.nf_phase_curves.proofs.LinkFlows.{one_more_link}
 use Rattle.nf_phase_curves.proofs.flows.copy_flow.Goals as goal
 

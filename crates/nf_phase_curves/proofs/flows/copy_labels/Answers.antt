@@ -1,9 +1,5 @@
 use Rattle.std.proofs.Common.{◌∙◌, List, refl, ap, map}
-use Rattle.std.proofs.lemmas.List.{take_all, map-append}
-use Rattle.std.proofs.lemmas.Option.{slice_get_read}
-use Rattle.nf_curve.specs.Points.{Grown}
-use Rattle.nf_thin_def.specs.ReportCurves.{GrowingCurve}
-use Rattle.nf_phase_curves.specs.Growing.{Roomy, all_grown}
+use Rattle.nf_phase_curves.proofs.Common.{take_all, map-append, slice_get_read, Grown, GrowingCurve, Roomy, all_grown}
 use Rattle.nf_phase_curves.proofs.OneByOne.{grown_pushed}
 use Rattle.nf_phase_curves.proofs.flows.copy_labels.Goals as goal
 

@@ -1,5 +1,5 @@
 use Rattle.std.proofs.Common.{◌≡◌, map, take}
-use Rattle.nf_phase_curves.specs.Growing.{all_grown}
+use Rattle.nf_phase_curves.proofs.Common.{all_grown}
 use Rattle.nf_phase_curves.proofs.flows.copy_labels.Given as goal
 
 abbrev pub invariant-loop-curve : goal.invariant-loop-curve

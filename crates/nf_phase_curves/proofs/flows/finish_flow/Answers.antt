@@ -1,6 +1,5 @@
 use Rattle.std.proofs.Common.{[], ◌∙◌}
-use Rattle.nf_curve.specs.Flows.{seen_trace, seen_flow}
-use Rattle.nf_phase_curves.specs.Growing.{all_grown}
+use Rattle.nf_phase_curves.proofs.Common.{seen_trace, seen_flow, all_grown}
 use Rattle.nf_phase_curves.proofs.LinkFlows.{one_more_link}
 use Rattle.nf_phase_curves.proofs.flows.finish_flow.Goals as goal
 

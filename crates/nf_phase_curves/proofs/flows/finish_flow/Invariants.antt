@@ -1,7 +1,5 @@
 use Rattle.std.proofs.Common.{◌≡◌}
-use Rattle.nf_curve.specs.Flows.{seen_flow}
-use Rattle.nf_phase_curves.specs.Growing.{all_grown}
-use Rattle.nf_phase_curves.specs.Flows.{flow_so_far}
+use Rattle.nf_phase_curves.proofs.Common.{seen_flow, all_grown, flow_so_far}
 use Rattle.nf_phase_curves.proofs.flows.finish_flow.Given as goal
 
 abbrev pub invariant-loop-curves : goal.invariant-loop-curves

@@ -1,7 +1,5 @@
 use Rattle.std.proofs.Common.{◌∙◌, ap, map}
-use Rattle.std.proofs.lemmas.List.{map-append}
-use Rattle.nf_curve.specs.Points.{Grown}
-use Rattle.nf_thin_def.specs.ReportCurves.{GrowingCurve}
+use Rattle.nf_phase_curves.proofs.Common.{map-append, Grown, GrowingCurve}
 use Rattle.nf_phase_curves.proofs.OneByOne.{yielded_pushed}
 use Rattle.nf_phase_curves.proofs.flows.finish_labels.Goals as goal
 

@@ -1,10 +1,6 @@
-use Rattle.std.proofs.Common.{◌≡◌, ◌<◌, length, get_or, refl, sym, ap, ◌∙◌, arith}
-use Rattle.std.specs.Prelude.{Some}
-use Rattle.std.proofs.lemmas.List.{length-map}
-use Rattle.std.proofs.lemmas.Option.{slice_get-get_or, slice_get_read}
-use Rattle.nf_thin_def.specs.ReportCurves.{GrowingCurve, label_curves_after}
-use Rattle.nf_phase_laws.proofs.AfterPhase.{label_after_at, label_after-length}
-use Rattle.nf_phase_curves.specs.Growing.{Roomy, all_grown}
+use Rattle.std.proofs.Common.{◌≡◌, ◌<◌, length, get_or, refl, sym, ap, ◌∙◌, arith, Some}
+use Rattle.nf_phase_curves.proofs.Common.{length-map, slice_get-get_or, slice_get_read, GrowingCurve, label_curves_after, label_after_at}
+use Rattle.nf_phase_curves.proofs.Common.{label_after-length, Roomy, all_grown}
 use Rattle.nf_phase_curves.proofs.Places.{grown_before, none_grown, one_grown, all_are_grown}
 use Rattle.nf_phase_curves.proofs.growth.extend_labels.Goals as goal
 

@@ -1,5 +1,4 @@
-use Rattle.nf_thin_def.specs.ReportCurves.{label_curves_after}
-use Rattle.nf_phase_curves.specs.Growing.{all_grown}
+use Rattle.nf_phase_curves.proofs.Common.{label_curves_after, all_grown}
 use Rattle.nf_phase_curves.proofs.Places.{GrownBelow}
 use Rattle.nf_phase_curves.proofs.growth.extend_labels.Given as goal
 

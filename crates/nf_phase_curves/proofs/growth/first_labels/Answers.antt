@@ -1,8 +1,5 @@
 use Rattle.std.proofs.Common.{◌∙◌, refl, ap, map}
-use Rattle.std.proofs.lemmas.List.{take_all}
-use Rattle.std.proofs.lemmas.Option.{slice_get_read}
-use Rattle.nf_thin_def.specs.ReportCurves.{first_label_curve}
-use Rattle.nf_phase_curves.specs.Growing.{all_grown}
+use Rattle.nf_phase_curves.proofs.Common.{take_all, slice_get_read, first_label_curve, all_grown}
 use Rattle.nf_phase_curves.proofs.OneByOne.{mapped_pushed}
 use Rattle.nf_phase_curves.proofs.Places.{grown_pushed}
 use Rattle.nf_phase_curves.proofs.growth.first_labels.Goals as goal

@@ -1,6 +1,5 @@
 use Rattle.std.proofs.Common.{◌≡◌, map, take}
-use Rattle.nf_thin_def.specs.ReportCurves.{first_label_curve}
-use Rattle.nf_phase_curves.specs.Growing.{all_grown}
+use Rattle.nf_phase_curves.proofs.Common.{first_label_curve, all_grown}
 use Rattle.nf_phase_curves.proofs.growth.first_labels.Given as goal
 
 abbrev pub invariant-loop-label : goal.invariant-loop-label

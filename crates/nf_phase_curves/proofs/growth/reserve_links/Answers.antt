@@ -1,5 +1,5 @@
 use Rattle.std.proofs.Common.{◌<◌, length, get_or, arith}
-use Rattle.std.proofs.lemmas.Option.{slice_get-get_or}
+use Rattle.nf_phase_curves.proofs.Common.{slice_get-get_or}
 use Rattle.nf_phase_curves.proofs.Places.{still_grown, none_roomy, one_roomy, all_are_roomy}
 use Rattle.nf_phase_curves.proofs.growth.reserve_links.Goals as goal
 

@@ -1,16 +1,6 @@
 use Rattle.std.proofs.Common.{◌+◌, ◌≤◌, List, length, map, refl, sym, ap, subst, ◌∙◌, arith}
-use Rattle.std.proofs.lemmas.List.{length-map}
-use Rattle.std.proofs.lemmas.Option.{slice_get_read}
-use Rattle.std.proofs.lemmas.Result.{err_from_is_err_and}
-use Rattle.nf_frac_def.specs.declared.Part.TheVariants.{Curve}
-use Rattle.nf_frac_def.specs.Passing.{passes_Q}
-use Rattle.nf_frac_def.specs.Checked.{each, at_part}
-use Rattle.nf_thin_def.specs.ReportCurves.{GrowingCurve}
-use Rattle.nf_phase_def.specs.Restoring.{growing}
-use Rattle.nf_curve.specs.Points.{Grown}
-use Rattle.nf_curve.proofs.Exits.{stops_on}
-use Rattle.nf_rational_laws.proofs.Entries.{slice_get-image}
-use Rattle.nf_phase_curves.specs.Growing.{all_grown}
+use Rattle.nf_phase_curves.proofs.Common.{length-map, slice_get_read, err_from_is_err_and, Curve, passes_Q, each, at_part, GrowingCurve, growing, Grown}
+use Rattle.nf_phase_curves.proofs.Common.{stops_on, slice_get-image, all_grown}
 use Rattle.nf_phase_curves.proofs.Places.{grown_pushed}
 use Rattle.nf_phase_curves.proofs.OneByOne.{SoFar, none_yet, one_more, one_passes, all_done}
 use Rattle.nf_phase_curves.proofs.growth.restore_labels.Goals as goal

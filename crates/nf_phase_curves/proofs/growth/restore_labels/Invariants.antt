@@ -1,7 +1,5 @@
 use Rattle.std.proofs.Common.{map}
-use Rattle.nf_frac_def.specs.Passing.{passes_Q}
-use Rattle.nf_phase_def.specs.Restoring.{growing}
-use Rattle.nf_phase_curves.specs.Growing.{all_grown}
+use Rattle.nf_phase_curves.proofs.Common.{passes_Q, growing, all_grown}
 use Rattle.nf_phase_curves.proofs.OneByOne.{SoFar}
 use Rattle.nf_phase_curves.proofs.growth.restore_labels.Given as goal
 

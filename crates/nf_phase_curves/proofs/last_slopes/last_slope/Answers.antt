@@ -1,11 +1,5 @@
-use Rattle.std.proofs.Common.{◌≡◌, ℕ, ◌-◌, sym, ap, subst, ◌∙◌, arith}
-use Rattle.std.specs.Prelude.{Ok, Some, slice_get}
-use Rattle.std.proofs.lemmas.Result.{err_from_is_err_and}
-use Rattle.nf_frac_def.specs.declared.Part.TheVariants.{Curve}
-use Rattle.nf_frac_def.specs.Passing.{passes_Q}
-use Rattle.nf_frac_def.specs.Checked.{at_part}
-use Rattle.nf_curve_def.specs.Lines.{checked_slope}
-use Rattle.nf_curve.proofs.Exits.{after_err, after_ok}
+use Rattle.std.proofs.Common.{◌≡◌, ℕ, ◌-◌, sym, ap, subst, ◌∙◌, arith, Ok, Some, slice_get}
+use Rattle.nf_phase_curves.proofs.Common.{err_from_is_err_and, Curve, passes_Q, at_part, checked_slope, after_err, after_ok}
 use Rattle.nf_phase_curves.proofs.LastSlopes.{rises_there, few_points, last_slope_there}
 use Rattle.nf_phase_curves.proofs.last_slopes.last_slope.Goals as goal
 

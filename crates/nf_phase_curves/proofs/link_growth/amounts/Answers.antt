@@ -1,8 +1,5 @@
 use Rattle.std.proofs.Common.{◌∙◌, List, refl, ap, map}
-use Rattle.std.proofs.lemmas.List.{take_all}
-use Rattle.std.proofs.lemmas.Option.{slice_get_read}
-use Rattle.nf_thin_def.specs.ReportCurves.{LinkCurves, amount_so_far}
-use Rattle.nf_phase_curves.specs.Growing.{Roomy, all_grown}
+use Rattle.nf_phase_curves.proofs.Common.{take_all, slice_get_read, LinkCurves, amount_so_far, Roomy, all_grown}
 use Rattle.nf_phase_curves.proofs.OneByOne.{grown_pushed}
 use Rattle.nf_phase_curves.proofs.link_growth.amounts.Goals as goal
 

@@ -1,6 +1,5 @@
 use Rattle.std.proofs.Common.{◌≡◌, map, take}
-use Rattle.nf_thin_def.specs.ReportCurves.{amount_so_far}
-use Rattle.nf_phase_curves.specs.Growing.{all_grown}
+use Rattle.nf_phase_curves.proofs.Common.{amount_so_far, all_grown}
 use Rattle.nf_phase_curves.proofs.link_growth.amounts.Given as goal
 
 abbrev pub invariant-loop-of_link : goal.invariant-loop-of_link

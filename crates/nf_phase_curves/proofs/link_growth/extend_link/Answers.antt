@@ -1,6 +1,5 @@
 use Rattle.std.proofs.Common.{sym, ap, ◌∙◌}
-use Rattle.nf_model.specs.Network.{Link}
-use Rattle.nf_thin_def.specs.ReportCurves.{trace_after, queue_curve_after}
+use Rattle.nf_phase_curves.proofs.Common.{Link, trace_after, queue_curve_after}
 use Rattle.nf_phase_curves.proofs.AtLabels.{number_read, ends_before}
 use Rattle.nf_phase_curves.proofs.link_growth.extend_link.Goals as goal
 

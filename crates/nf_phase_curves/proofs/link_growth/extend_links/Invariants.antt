@@ -1,5 +1,4 @@
-use Rattle.nf_thin_def.specs.ReportCurves.{link_curves_after}
-use Rattle.nf_phase_curves.specs.Growing.{all_grown}
+use Rattle.nf_phase_curves.proofs.Common.{link_curves_after, all_grown}
 use Rattle.nf_phase_curves.proofs.Places.{GrownBelow}
 use Rattle.nf_phase_curves.proofs.link_growth.extend_links.Given as goal
 

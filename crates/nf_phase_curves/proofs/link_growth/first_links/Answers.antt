@@ -1,12 +1,7 @@
-use Rattle.std.proofs.Common.{map, sym, ap, ◌∙◌, arith}
-use Rattle.std.specs.Prelude.{Some}
-use Rattle.std.proofs.lemmas.List.{take_all, length-map}
-use Rattle.nf_thin_def.specs.ReportCurves.{LinkCurves, first_curves}
-use Rattle.nf_pattern.proofs.Each.{take_pushed}
-use Rattle.nf_phase_curves.specs.Growing.{all_grown}
+use Rattle.std.proofs.Common.{map, sym, ap, ◌∙◌, arith, Some}
+use Rattle.nf_phase_curves.proofs.Common.{take_all, length-map, LinkCurves, first_curves, take_pushed, all_grown, slice_get-image}
 use Rattle.nf_phase_curves.proofs.Places.{grown_pushed}
 use Rattle.nf_phase_curves.proofs.link_growth.first_links.Goals as goal
-use Rattle.nf_rational_laws.proofs.Entries.{slice_get-image}
 
 pub loop-e-preserved : goal.loop-e-preserved
 loop-e-preserved c =

@@ -1,6 +1,5 @@
 use Rattle.std.proofs.Common.{◌≡◌, map, take}
-use Rattle.nf_thin_def.specs.ReportCurves.{first_curves}
-use Rattle.nf_phase_curves.specs.Growing.{all_grown}
+use Rattle.nf_phase_curves.proofs.Common.{first_curves, all_grown}
 use Rattle.nf_phase_curves.proofs.link_growth.first_links.Given as goal
 
 abbrev pub invariant-loop-e : goal.invariant-loop-e

@@ -1,9 +1,5 @@
 use Rattle.std.proofs.Common.{sym, ap, ◌∙◌}
-use Rattle.std.proofs.lemmas.Result.{IfOk-weaker}
-use Rattle.nf_rational.specs.Rational.{ℚ}
-use Rattle.nf_model.specs.Network.{Link}
-use Rattle.nf_rational.specs.Signs.{is_positive}
-use Rattle.nf_thin_def.specs.ReportCurves.{LinkCurves, first_trace, first_queue}
+use Rattle.nf_phase_curves.proofs.Common.{IfOk-weaker, ℚ, Link, is_positive, LinkCurves, first_trace, first_queue}
 use Rattle.nf_phase_curves.proofs.AtLabels.{number_read}
 use Rattle.nf_phase_curves.proofs.link_growth.first_of.Goals as goal
 

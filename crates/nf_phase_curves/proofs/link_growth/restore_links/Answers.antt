@@ -1,17 +1,6 @@
 use Rattle.std.proofs.Common.{◌≡◌, ◌+◌, ◌<◌, List, length, map, refl, sym, ap, subst, ◌∙◌, arith}
-use Rattle.std.proofs.lemmas.List.{length-map}
-use Rattle.std.proofs.lemmas.Option.{slice_get_read}
-use Rattle.std.proofs.lemmas.Result.{err_from_is_err_and}
-use Rattle.nf_frac_def.specs.declared.Part.TheVariants.{Curve}
-use Rattle.nf_frac_def.specs.Passing.{passes_Q}
-use Rattle.nf_frac_def.specs.Checked.{at_part}
-use Rattle.nf_thin_def.specs.ReportCurves.{LinkCurves}
-use Rattle.nf_curve.specs.Flows.{seen_trace}
-use Rattle.nf_curve.specs.Points.{Grown}
-use Rattle.nf_curve.proofs.Exits.{stops_on}
-use Rattle.nf_rational_laws.proofs.Entries.{slice_get-image}
-use Rattle.nf_phase_curves.specs.Growing.{all_grown}
-use Rattle.nf_phase_curves.specs.Restoring.{of_link, of_links}
+use Rattle.nf_phase_curves.proofs.Common.{length-map, slice_get_read, err_from_is_err_and, Curve, passes_Q, at_part, LinkCurves, seen_trace, Grown}
+use Rattle.nf_phase_curves.proofs.Common.{stops_on, slice_get-image, all_grown, of_link, of_links}
 use Rattle.nf_phase_curves.proofs.Places.{grown_pushed}
 use Rattle.nf_phase_curves.proofs.OneByOne.{LinksSoFar, no_links, one_link, link_passes, links_done}
 use Rattle.nf_phase_curves.proofs.link_growth.restore_links.Goals as goal

@@ -1,7 +1,5 @@
 use Rattle.std.proofs.Common.{map}
-use Rattle.nf_frac_def.specs.Passing.{passes_Q}
-use Rattle.nf_curve.specs.Flows.{seen_trace}
-use Rattle.nf_phase_curves.specs.Growing.{all_grown}
+use Rattle.nf_phase_curves.proofs.Common.{passes_Q, seen_trace, all_grown}
 use Rattle.nf_phase_curves.proofs.OneByOne.{LinksSoFar}
 use Rattle.nf_phase_curves.proofs.link_growth.restore_links.Given as goal
 

@@ -1,8 +1,6 @@
 use Rattle.std.proofs.Common.{sym, ◌∙◌}
-use Rattle.std.proofs.lemmas.Result.{err_from_is_err_and}
-use Rattle.nf_frac_def.specs.Passing.{passes_Q}
+use Rattle.nf_phase_curves.proofs.Common.{err_from_is_err_and, passes_Q, positive_apart}
 use Rattle.nf_phase_curves.proofs.Queued.{inflow_passes, outflow_passes, queue_passes, link_step_is}
-use Rattle.nf_rational_laws.proofs.SignTests.{positive_apart}
 use Rattle.nf_phase_curves.proofs.stepping.link_step.Goals as goal
 
 pub rate_over-requires : goal.rate_over-requires

@@ -1,6 +1,5 @@
 use Rattle.std.proofs.Common.{sym, ◌∙◌}
-use Rattle.std.proofs.lemmas.Result.{err_from_is_err_and}
-use Rattle.nf_frac_def.specs.Passing.{passes_Q}
+use Rattle.nf_phase_curves.proofs.Common.{err_from_is_err_and, passes_Q}
 use Rattle.nf_phase_curves.proofs.Queued.{size_passes, slope_passes, queue_step_is}
 use Rattle.nf_phase_curves.proofs.stepping.queue_step.Goals as goal
 

@@ -1,6 +1,5 @@
-use Rattle.std.proofs.Common.{rules, ◌≡◌, Some, refl}
-use Rattle.std.specs.Prelude.{slice_get}
-use Rattle.std.proofs.lemmas.Option.{slice_get_read}
+use Rattle.std.proofs.Common.{rules, ◌≡◌, Some, refl, slice_get}
+use Rattle.nf_phase_length.proofs.Common.{slice_get_read}
 use Rattle.nf_phase_length.proofs.advancing.label_after.Goals as goal
 
 pub returns : goal.returns

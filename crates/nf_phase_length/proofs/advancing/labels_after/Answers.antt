@@ -1,10 +1,6 @@
 use Rattle.std.proofs.Common.{◌<◌, length, refl, arith}
-use Rattle.std.proofs.lemmas.Option.{slice_get_read}
-use Rattle.std.proofs.lemmas.Result.{err_from_is_err_and}
-use Rattle.nf_frac_def.specs.Passing.{passes_Q}
-use Rattle.nf_frac_def.specs.declared.Part.TheVariants.{Advance}
-use Rattle.nf_thin_def.specs.Advance.{label_after, labels_after}
-use Rattle.nf_thin_laws.proofs.Numbered.{one_more, one_passes, all_done}
+use Rattle.nf_phase_length.proofs.Common.{slice_get_read, err_from_is_err_and, passes_Q, Advance, label_after, one_more, one_passes, all_done}
+use Rattle.nf_thin_def.specs.Advance.{labels_after}
 use Rattle.nf_phase_length.proofs.advancing.labels_after.Goals as goal
 
 pub returns-in_err-next : goal.returns-in_err-next

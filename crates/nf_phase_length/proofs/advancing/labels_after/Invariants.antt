@@ -1,6 +1,4 @@
-use Rattle.nf_frac_def.specs.Passing.{passes_Q}
-use Rattle.nf_thin_def.specs.Advance.{label_after}
-use Rattle.nf_thin_laws.proofs.Numbered.{SoFar}
+use Rattle.nf_phase_length.proofs.Common.{passes_Q, label_after, SoFar}
 use Rattle.nf_phase_length.proofs.advancing.labels_after.Given as goal
 
 -- The labels so far precede those of the other nodes.

@@ -1,6 +1,5 @@
 use Rattle.std.proofs.Common.{arith}
-use Rattle.std.proofs.lemmas.Result.{err_from_is_err_and}
-use Rattle.nf_frac_def.specs.Passing.{passes_Q}
+use Rattle.nf_phase_length.proofs.Common.{err_from_is_err_and, passes_Q}
 use Rattle.nf_phase_length.proofs.Looping.{one_more, one_passes, all_done}
 use Rattle.nf_phase_length.proofs.lengths.after_links.Goals as goal
 

@@ -1,4 +1,4 @@
-use Rattle.nf_frac_def.specs.Passing.{passes_Q}
+use Rattle.nf_phase_length.proofs.Common.{passes_Q}
 use Rattle.nf_phase_length.proofs.Looping.{SoFar}
 use Rattle.nf_phase_length.proofs.lengths.after_links.Given as goal
 

@@ -1,9 +1,6 @@
 use Rattle.std.proofs.Common.{sym, ◌∙◌}
-use Rattle.std.proofs.lemmas.Result.{err_from_is_err_and}
-use Rattle.nf_frac_def.specs.Passing.{passes_Q}
-use Rattle.nf_frac_def.specs.declared.Part.TheVariants.{Extend}
-use Rattle.nf_thin_def.specs.Extend.{extend_list}
-use Rattle.nf_phase_def.specs.ToEnd.{end_after, end_list}
+use Rattle.nf_phase_length.proofs.Common.{err_from_is_err_and, passes_Q, Extend, extend_list, end_after}
+use Rattle.nf_phase_def.specs.ToEnd.{end_list}
 use Rattle.nf_curve.proofs.Exits.{after_err, after_ok}
 use Rattle.nf_phase_length.proofs.LaterEnds.{end_later}
 use Rattle.nf_phase_length.proofs.lengths.end_of.Goals as goal

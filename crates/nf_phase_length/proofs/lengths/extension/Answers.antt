@@ -1,4 +1,4 @@
-use Rattle.nf_frac_def.specs.Passing.{passes_Q}
+use Rattle.nf_phase_length.proofs.Common.{passes_Q}
 use Rattle.nf_phase_length.proofs.Meaning.{length_means, whole_list}
 use Rattle.nf_phase_length.proofs.lengths.extension.Goals as goal
 

@@ -1,10 +1,5 @@
-use Rattle.std.proofs.Common.{◌<◌, ◌≤◌, Option, sym, ap, subst, ◌∙◌, arith}
-use Rattle.std.specs.Prelude.{Ok, IfSome}
-use Rattle.std.proofs.lemmas.Result.{err_from_is_err_and, IfOk-from_err}
-use Rattle.nf_frac_def.specs.Passing.{passes_Q}
-use Rattle.nf_quick_def.specs.Rounds.{Walk}
-use Rattle.nf_quick_def.specs.Answers.{IsShortestWalk}
-use Rattle.nf_quick_def.specs.Quick.{QuickStanding, OverBudget}
+use Rattle.std.proofs.Common.{◌<◌, ◌≤◌, Option, sym, ap, subst, ◌∙◌, arith, Ok, IfSome}
+use Rattle.nf_quick.proofs.Common.{err_from_is_err_and, IfOk-from_err, passes_Q, Walk, IsShortestWalk, QuickStanding, OverBudget}
 use Rattle.nf_quick.proofs.PushByPush.{pushes_first, next_stops, none_next, push_stops, pushes_more, last_stops, last_none, over_budget, halted}
 use Rattle.nf_quick.proofs.pushing.push_up_to.Goals as goal
 

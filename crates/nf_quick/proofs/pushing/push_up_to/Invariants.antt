@@ -1,4 +1,4 @@
-use Rattle.nf_frac_def.specs.Passing.{passes_Q}
+use Rattle.nf_quick.proofs.Common.{passes_Q}
 use Rattle.nf_quick.proofs.PushByPush.{PushesOn}
 use Rattle.nf_quick.proofs.pushing.push_up_to.Given as goal
 

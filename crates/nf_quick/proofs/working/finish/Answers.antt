@@ -1,8 +1,5 @@
-use Rattle.std.proofs.Common.{List, length, sym, ap, ◌∙◌}
-use Rattle.std.proofs.lemmas.Result.{err_from_is_err_and}
-use Rattle.std.specs.Prelude.{Option}
-use Rattle.nf_rational.specs.Rational.{ℚ}
-use Rattle.nf_frac_def.specs.Passing.{passes_Q}
+use Rattle.std.proofs.Common.{List, length, sym, ap, ◌∙◌, Option}
+use Rattle.nf_quick.proofs.Common.{err_from_is_err_and, ℚ, passes_Q}
 use Rattle.nf_quick.proofs.Finishing.{walks_stop, source_stops, sink_stops, cut_stops, value_passes, finished}
 use Rattle.nf_quick.proofs.working.finish.Goals as goal
 

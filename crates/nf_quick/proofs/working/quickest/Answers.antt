@@ -1,4 +1,4 @@
-use Rattle.nf_frac_def.specs.Passing.{passes_Q}
+use Rattle.nf_quick.proofs.Common.{passes_Q}
 use Rattle.nf_quick.proofs.Answering.{answered_is_quick, answered_in_order}
 use Rattle.nf_quick.proofs.working.quickest.Goals as goal
 

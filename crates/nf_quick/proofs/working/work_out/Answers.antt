@@ -1,15 +1,6 @@
-use Rattle.std.proofs.Common.{◌≡◌, ℕ, true, false, Option, Vec, Global, unwrap_or, sym, ap, subst, ◌∙◌}
-use Rattle.std.specs.Prelude.{is_some}
+use Rattle.std.proofs.Common.{◌≡◌, ℕ, true, false, Option, Vec, Global, unwrap_or, sym, ap, subst, ◌∙◌, is_some}
+use Rattle.nf_quick.proofs.Common.{err_from_is_err_and, ℚ, 0ℚ, le_ℚ, passes_Q, lt_of_test, IsUnboundedWalk, IsLimited, IsSound, QuickStanding}
 use Rattle.std.proofs.lemmas.Option.{MatchOption-at_some, MatchOption-at_none}
-use Rattle.std.proofs.lemmas.Result.{err_from_is_err_and}
-use Rattle.nf_rational.specs.Rational.{ℚ}
-use Rattle.nf_rational.specs.Operations.{0ℚ}
-use Rattle.nf_rational.specs.Order.{le_ℚ}
-use Rattle.nf_frac_def.specs.Passing.{passes_Q}
-use Rattle.nf_rational_laws.proofs.Tests.{lt_of_test}
-use Rattle.nf_quick_def.specs.Steps.{IsUnboundedWalk, IsLimited}
-use Rattle.nf_quick_def.specs.Flows.{IsSound}
-use Rattle.nf_quick_def.specs.Quick.{QuickStanding}
 use Rattle.nf_quick.proofs.Answering.{nothing_answered, pushes_stop, has_time, finish_stops, finish_answered}
 use Rattle.nf_quick.proofs.working.work_out.Goals as goal
 

@@ -1,7 +1,5 @@
-use Rattle.std.proofs.Common.{Option, None, length, refl, sym, ap}
-use Rattle.std.specs.Prelude.{unwrap_or}
-use Rattle.std.proofs.lemmas.Option.{slice_get_read}
-use Rattle.nf_rational.specs.Rational.{ℚ}
+use Rattle.std.proofs.Common.{Option, None, length, refl, sym, ap, unwrap_or}
+use Rattle.nf_quick_times.proofs.Common.{slice_get_read, ℚ}
 use Rattle.nf_quick_times.proofs.cut.distance_at.Goals as goal
 
 pub returns : goal.returns

@@ -1,11 +1,7 @@
-use Rattle.std.proofs.Common.{sym, ap, ◌∙◌}
-use Rattle.std.specs.Prelude.{Result, Ok, Err}
-use Rattle.nf_rational.specs.Rational.{ℚ}
-use Rattle.nf_rational.specs.Order.{min_ℚ}
+use Rattle.std.proofs.Common.{sym, ap, ◌∙◌, Result, Ok, Err}
+use Rattle.nf_quick_times.proofs.Common.{ℚ, min_ℚ, at_part, ◌>>=◌, at_most}
 use Rattle.nf_frac_def.specs.declared.Part.TheVariants.{Quick}
 use Rattle.nf_frac_def.specs.declared.Passed.{Passed}
-use Rattle.nf_frac_def.specs.Checked.{at_part, ◌>>=◌}
-use Rattle.nf_quick_def.specs.Cuts.{at_most}
 use Rattle.nf_quick_times.proofs.cut.node_time.Goals as goal
 
 pub returns-in-None : goal.returns-in-None

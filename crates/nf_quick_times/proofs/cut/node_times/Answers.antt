@@ -1,7 +1,5 @@
 use Rattle.std.proofs.Common.{ℕ, ◌+◌, ◌≤◌, List, ◌∷◌, [], length, length-append, sym, ap, subst, ◌∙◌, arith}
-use Rattle.std.proofs.lemmas.Result.{err_from_is_err_and}
-use Rattle.nf_rational.specs.Rational.{ℚ}
-use Rattle.nf_frac_def.specs.Passing.{passes_Q}
+use Rattle.nf_quick_times.proofs.Common.{err_from_is_err_and, ℚ, passes_Q}
 use Rattle.nf_quick_times.proofs.NodeByNode.{TimesOn, times_first, times_all, time_passes, times_more}
 use Rattle.nf_quick_times.proofs.cut.node_times.Goals as goal
 

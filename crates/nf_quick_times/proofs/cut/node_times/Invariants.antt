@@ -1,5 +1,5 @@
 use Rattle.std.proofs.Common.{◌≡◌, length}
-use Rattle.nf_frac_def.specs.Passing.{passes_Q}
+use Rattle.nf_quick_times.proofs.Common.{passes_Q}
 use Rattle.nf_quick_times.proofs.NodeByNode.{TimesOn}
 use Rattle.nf_quick_times.proofs.cut.node_times.Given as goal
 

@@ -1,6 +1,5 @@
 use Rattle.std.proofs.Common.{ℕ, ◌<◌, ◌≤◌, length, sym, subst, arith}
-use Rattle.std.proofs.lemmas.Result.{err_from_is_err_and}
-use Rattle.nf_frac_def.specs.Passing.{passes_Q}
+use Rattle.nf_quick_times.proofs.Common.{err_from_is_err_and, passes_Q}
 use Rattle.nf_quick_times.proofs.NodeByNode.{values_first, values_all, value_passes, values_more}
 use Rattle.nf_quick_times.proofs.cut.value_of.Goals as goal
 

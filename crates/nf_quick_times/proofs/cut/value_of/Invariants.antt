@@ -1,4 +1,4 @@
-use Rattle.nf_frac_def.specs.Passing.{passes_Q}
+use Rattle.nf_quick_times.proofs.Common.{passes_Q}
 use Rattle.nf_quick_times.proofs.NodeByNode.{ValuesOn}
 use Rattle.nf_quick_times.proofs.cut.value_of.Given as goal
 

@@ -1,11 +1,6 @@
 use Rattle.std.proofs.Common.{◌≡◌, ◌+◌, List, Some, None, slice_get, option_map, refl, sym, ap, subst, ◌∙◌}
-use Rattle.std.proofs.lemmas.Option.{slice_get_read}
-use Rattle.std.proofs.lemmas.Result.{err_from_is_err_and}
+use Rattle.nf_quick_times.proofs.Common.{slice_get_read, err_from_is_err_and, passes_Q, at_part, Piece, checked_supply}
 use Rattle.nf_frac_def.specs.declared.Part.TheVariants as Part
-use Rattle.nf_frac_def.specs.Passing.{passes_Q}
-use Rattle.nf_frac_def.specs.Checked.{at_part}
-use Rattle.nf_model.specs.Network.{Piece}
-use Rattle.nf_net.specs.Supply.{checked_supply}
 use Rattle.nf_quick_times.proofs.PieceByPiece.{comes_first, in_last_piece, next_passes, rate_is_some, in_this_piece, comes_on}
 use Rattle.nf_quick_times.proofs.departing.departs.Goals as goal
 

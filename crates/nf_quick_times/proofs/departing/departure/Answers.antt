@@ -1,9 +1,5 @@
 use Rattle.std.proofs.Common.{◌≡◌, true, false, sym, ap, ◌∙◌}
-use Rattle.nf_rational.specs.Rational.{ℚ}
-use Rattle.nf_rational.specs.Operations.{0ℚ}
-use Rattle.nf_rational.specs.Order.{le_ℚ}
-use Rattle.nf_rational_laws.proofs.Tests.{lt_of_test}
-use Rattle.nf_frac_def.specs.Passing.{passes_Q}
+use Rattle.nf_quick_times.proofs.Common.{ℚ, 0ℚ, le_ℚ, lt_of_test, passes_Q}
 use Rattle.nf_quick_times.proofs.PieceByPiece.{departure_of_none, departure_found}
 use Rattle.nf_quick_times.proofs.departing.departure.Goals as goal
 

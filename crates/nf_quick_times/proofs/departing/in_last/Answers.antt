@@ -1,13 +1,6 @@
 use Rattle.std.proofs.Common.{◌≡◌, Bool, true, sym, ap, ◌∙◌}
-use Rattle.nf_rational.specs.Rational.{ℚ}
-use Rattle.nf_rational.specs.Operations.{0ℚ}
-use Rattle.nf_rational.specs.Order.{lt_ℚ}
-use Rattle.nf_rational_laws.proofs.Tests.{less_of_test}
+use Rattle.nf_quick_times.proofs.Common.{ℚ, 0ℚ, lt_ℚ, less_of_test, passes_Q, at_part, Piece, last_piece}
 use Rattle.nf_frac_def.specs.declared.Part.TheVariants as Part
-use Rattle.nf_frac_def.specs.Passing.{passes_Q}
-use Rattle.nf_frac_def.specs.Checked.{at_part}
-use Rattle.nf_model.specs.Network.{Piece}
-use Rattle.nf_quick_def.specs.Departures.{last_piece}
 use Rattle.nf_quick_times.proofs.departing.in_last.Goals as goal
 
 pub within-requires : goal.within-requires

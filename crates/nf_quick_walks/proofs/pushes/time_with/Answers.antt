@@ -1,8 +1,7 @@
 use Rattle.std.proofs.Common.{lit<}
+use Rattle.nf_quick_walks.proofs.Common.{0ℚ, passes_Q}
 use Rattle.nf_rational_laws.proofs.Quotient.{ps_apart}
 use Rattle.nf_rational_laws.proofs.Order.{≤ℚ_of_lt}
-use Rattle.nf_rational.specs.Operations.{0ℚ}
-use Rattle.nf_frac_def.specs.Passing.{passes_Q}
 use Rattle.nf_quick_walks.proofs.OnePush.{some_sum}
 use Rattle.nf_quick_walks.proofs.pushes.time_with.Goals as goal
 

@@ -1,8 +1,5 @@
 use Rattle.std.proofs.Common.{◌≡◌, ◌<◌, ℕ, List, length, Some, sym, ap, subst, ◌∙◌}
-use Rattle.std.proofs.lemmas.Option.{slice_get_within}
-use Rattle.std.proofs.lemmas.Result.{err_from_is_err_and}
-use Rattle.nf_model.specs.Network.{Link}
-use Rattle.nf_quick_walks.specs.Ways.{Ways, walk_to, LeadsToNew, NoneLeadsOn, AreWays}
+use Rattle.nf_quick_walks.proofs.Common.{slice_get_within, err_from_is_err_and, Link, Ways, walk_to, LeadsToNew, NoneLeadsOn, AreWays}
 use Rattle.nf_quick_walks.proofs.GrowingWays.{unknown, ways_first, fewer, ways_more, all_known}
 use Rattle.nf_quick_walks.proofs.unbounded.all_ways.Goals as goal
 

@@ -1,4 +1,4 @@
-use Rattle.nf_quick_walks.specs.Ways.{AreWays}
+use Rattle.nf_quick_walks.proofs.Common.{AreWays}
 use Rattle.nf_quick_walks.proofs.GrowingWays.{unknown}
 use Rattle.nf_quick_walks.proofs.unbounded.all_ways.Given as goal
 

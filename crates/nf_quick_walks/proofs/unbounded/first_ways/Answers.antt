@@ -1,8 +1,5 @@
-use Rattle.std.proofs.Common.{◌≡◌, ℕ, ◌+◌, List, [], ◌∷◌, ◌++◌, length, replicate, Some, None, ap, ◌∙◌, arith}
-use Rattle.std.specs.Prelude.{set}
-use Rattle.std.proofs.lemmas.List.{replicate_more, length_push}
-use Rattle.std.proofs.lemmas.Result.{err_from_is_err_and}
-use Rattle.nf_quick_walks.specs.Ways.{Ways}
+use Rattle.std.proofs.Common.{◌≡◌, ℕ, ◌+◌, List, [], ◌∷◌, ◌++◌, length, replicate, Some, None, ap, ◌∙◌, arith, set}
+use Rattle.nf_quick_walks.proofs.Common.{replicate_more, length_push, err_from_is_err_and, Ways}
 use Rattle.nf_quick_walks.proofs.unbounded.first_ways.Goals as goal
 
 pub returns-in_err-ways : goal.returns-in_err-ways

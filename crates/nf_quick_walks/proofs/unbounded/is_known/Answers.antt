@@ -1,6 +1,5 @@
-use Rattle.std.proofs.Common.{ℕ, get_or, refl, sym, ap, ◌∙◌}
-use Rattle.std.specs.Prelude.{is_some, unwrap_or, None}
-use Rattle.std.proofs.lemmas.Option.{slice_get_read}
+use Rattle.std.proofs.Common.{ℕ, get_or, refl, sym, ap, ◌∙◌, is_some, unwrap_or, None}
+use Rattle.nf_quick_walks.proofs.Common.{slice_get_read}
 use Rattle.nf_quick_walks.proofs.unbounded.is_known.Goals as goal
 
 pub returns : goal.returns

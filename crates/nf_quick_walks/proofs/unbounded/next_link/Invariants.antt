@@ -1,6 +1,5 @@
 use Rattle.std.proofs.Common.{◌≡◌, ℕ, ◌<◌, false}
-use Rattle.nf_model.specs.Network.{Link, IsLink}
-use Rattle.nf_quick_walks.specs.Ways.{leads_on}
+use Rattle.nf_quick_walks.proofs.Common.{Link, IsLink, leads_on}
 use Rattle.nf_quick_walks.proofs.unbounded.next_link.Given as goal
 
 -- None of the links so far leads to a new node.

@@ -1,7 +1,5 @@
 use Rattle.std.proofs.Common.{ℕ, List, ◌<◌, length, get_or, None, Some, sym, ap, subst, ◌∙◌}
-use Rattle.std.proofs.lemmas.List.{get_or_read}
-use Rattle.std.proofs.lemmas.Option.{none-some, unwrap_or-slice_get}
-use Rattle.nf_quick_def.specs.Steps.{IsUnboundedWalk}
+use Rattle.nf_quick_walks.proofs.Common.{get_or_read, none-some, unwrap_or-slice_get, IsUnboundedWalk}
 use Rattle.nf_quick_walks.proofs.unbounded.unbounded_walk.Goals as goal
 
 pub returns-in-None : goal.returns-in-None

@@ -1,7 +1,5 @@
 use Rattle.std.proofs.Common.{ℕ, ◌<◌, length, sym, ap, subst, ◌∙◌}
-use Rattle.std.proofs.lemmas.Option.{same_Some}
-use Rattle.nf_rational.specs.Rational.{ℚ}
-use Rattle.nf_quick_walks.specs.Spent.{is_out}
+use Rattle.nf_quick_walks.proofs.Common.{same_Some, ℚ, is_out}
 use Rattle.nf_quick_walks.proofs.WalkByWalk.{found_out, looks_more}
 use Rattle.nf_quick_walks.proofs.SpentLinks.{looks_from}
 use Rattle.nf_quick_walks.proofs.walks.first_out.Goals as goal

@@ -1,10 +1,5 @@
 use Rattle.std.proofs.Common.{ℕ, ◌+◌, ◌<◌, List, ◌∷◌, length, drop, None, Some, sym, ap, subst, ◌∙◌}
-use Rattle.std.specs.List.{AllByRecursion}
-use Rattle.std.proofs.lemmas.List.{drop_more, drop_all}
-use Rattle.nf_rational.specs.Rational.{ℚ}
-use Rattle.nf_rational.specs.Order.{min_ℚ}
-use Rattle.nf_quick_def.specs.Walks.{least_along}
-use Rattle.nf_residual.proofs.Folding.{all_at}
+use Rattle.nf_quick_walks.proofs.Common.{AllByRecursion, drop_more, drop_all, ℚ, min_ℚ, least_along, all_at}
 use Rattle.nf_quick_walks.proofs.WalkByWalk.{rest_of, rest_is}
 use Rattle.nf_quick_walks.proofs.walks.least_along.Goals as goal
 

@@ -1,5 +1,5 @@
 use Rattle.std.proofs.Common.{◌≡◌, None, Some, drop}
-use Rattle.nf_quick_def.specs.Walks.{least_along}
+use Rattle.nf_quick_walks.proofs.Common.{least_along}
 use Rattle.nf_quick_walks.proofs.walks.least_along.Given as goal
 
 abbrev pub invariant-loop-link : goal.invariant-loop-link

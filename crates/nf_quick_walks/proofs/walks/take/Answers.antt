@@ -1,15 +1,9 @@
-use Rattle.std.proofs.Common.{◌≡◌, ℕ, ◌+◌, ◌<◌, List, length, set, refl, sym, ap, subst, ◌∙◌}
+use Rattle.std.proofs.Common.{◌≡◌, ℕ, ◌+◌, ◌<◌, List, length, set, refl, sym, ap, subst, ◌∙◌, Result, Ok, Err}
+use Rattle.nf_quick_walks.proofs.Common.{ℚ, Difference, passes_Q, at_part, checked, ◌>>=◌, number_at, take_link, FoldsOn, all_at, fold_all, fold_stops}
+use Rattle.nf_quick_walks.proofs.Common.{fold_more}
 use Rattle.std.proofs.Math.ListN.{length-set}
-use Rattle.std.specs.Prelude.{Result, Ok, Err}
-use Rattle.nf_rational.specs.Rational.{ℚ}
-use Rattle.nf_frac_def.specs.declared.Op.TheVariants.{Difference}
 use Rattle.nf_frac_def.specs.declared.Passed.{Passed}
-use Rattle.nf_frac_def.specs.Passing.{passes_Q}
 use Rattle.nf_frac_def.specs.declared.Part.TheVariants as Part
-use Rattle.nf_frac_def.specs.Checked.{at_part, checked, ◌>>=◌}
-use Rattle.nf_model.specs.Entries.{number_at}
-use Rattle.nf_quick_def.specs.Walks.{take_link}
-use Rattle.nf_residual.proofs.Folding.{FoldsOn, all_at, fold_all, fold_stops, fold_more}
 use Rattle.nf_quick_walks.proofs.walks.take.Goals as goal
 
 pub loop-link-init : goal.loop-link-init

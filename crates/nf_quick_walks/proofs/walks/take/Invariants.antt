@@ -1,7 +1,5 @@
 use Rattle.std.proofs.Common.{◌≡◌, length}
-use Rattle.nf_frac_def.specs.Passing.{passes_Q}
-use Rattle.nf_quick_def.specs.Walks.{take_link}
-use Rattle.nf_residual.proofs.Folding.{FoldsOn}
+use Rattle.nf_quick_walks.proofs.Common.{passes_Q, take_link, FoldsOn}
 use Rattle.nf_quick_walks.proofs.walks.take.Given as goal
 
 abbrev pub invariant-loop-link : goal.invariant-loop-link

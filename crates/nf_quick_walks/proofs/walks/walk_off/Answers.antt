@@ -1,5 +1,5 @@
 use Rattle.std.proofs.Common.{length, refl, sym, ap}
-use Rattle.nf_rational.specs.Rational.{ℚ}
+use Rattle.nf_quick_walks.proofs.Common.{ℚ}
 use Rattle.nf_quick_walks.proofs.WalkByWalk.{within_as}
 use Rattle.nf_quick_walks.proofs.walks.walk_off.Goals as goal
 

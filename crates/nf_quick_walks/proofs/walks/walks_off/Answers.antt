@@ -1,11 +1,6 @@
 use Rattle.std.proofs.Common.{◌<◌, ◌≤◌, ◌==◌, List, ℕ, length, replicate, refl, sym, ap, subst, ◌∙◌}
-use Rattle.std.proofs.lemmas.List.{length-replicate}
-use Rattle.std.proofs.lemmas.Result.{err_from_is_err_and}
-use Rattle.nf_rational.specs.Rational.{ℚ}
-use Rattle.nf_frac_def.specs.Passing.{passes_Q}
-use Rattle.nf_quick_def.specs.Walks.{way_out}
+use Rattle.nf_quick_walks.proofs.Common.{length-replicate, err_from_is_err_and, ℚ, passes_Q, way_out, AreSpent, HaveFlow}
 use Rattle.nf_quick_walks.proofs.WalkByWalk.{takes_first, takes_all, none_left, take_passes, takes_more, none_there, some_there, within_as}
-use Rattle.nf_quick_walks.specs.Spent.{AreSpent, HaveFlow}
 use Rattle.nf_quick_walks.proofs.SpentLinks.{spent_first, spent_still}
 use Rattle.nf_quick_walks.proofs.walks.walks_off.Goals as goal
 

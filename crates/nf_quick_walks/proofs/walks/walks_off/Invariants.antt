@@ -1,6 +1,5 @@
 use Rattle.std.proofs.Common.{◌≡◌, length}
-use Rattle.nf_frac_def.specs.Passing.{passes_Q}
-use Rattle.nf_quick_walks.specs.Spent.{AreSpent}
+use Rattle.nf_quick_walks.proofs.Common.{passes_Q, AreSpent}
 use Rattle.nf_quick_walks.proofs.WalkByWalk.{TakesOn}
 use Rattle.nf_quick_walks.proofs.walks.walks_off.Given as goal
 

@@ -1,6 +1,5 @@
 use Rattle.std.proofs.Common.{List, ℕ, sym, ap, subst, refl, ◌<◌, ◌≤◌, ◌∙◌}
-use Rattle.nf_model.specs.Network.{Link}
-use Rattle.nf_quick_walks.specs.Spent.{HaveFlow}
+use Rattle.nf_quick_walks.proofs.Common.{Link, HaveFlow}
 use Rattle.nf_quick_walks.proofs.WalkByWalk.{way_ends, way_stops, way_goes}
 use Rattle.nf_quick_walks.proofs.SpentLinks.{out_has_flow, all_and}
 use Rattle.nf_quick_walks.proofs.walks.way_out.Goals as goal

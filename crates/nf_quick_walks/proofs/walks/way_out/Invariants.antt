@@ -1,5 +1,5 @@
 use Rattle.std.proofs.Common.{◌≡◌, ◌<◌, length}
-use Rattle.nf_quick_walks.specs.Spent.{AreSpent, HaveFlow}
+use Rattle.nf_quick_walks.proofs.Common.{AreSpent, HaveFlow}
 use Rattle.nf_quick_walks.proofs.WalkByWalk.{LeadsOut}
 use Rattle.nf_quick_walks.proofs.walks.way_out.Given as goal
 

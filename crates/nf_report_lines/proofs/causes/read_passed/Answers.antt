@@ -1,5 +1,5 @@
 use Rattle.std.proofs.Common.{[], ◌∷◌, sym, ap, ◌∙◌}
-use Rattle.nf_report_def.specs.ReportCauses.{passed_cause}
+use Rattle.nf_report_lines.proofs.Common.{passed_cause}
 use Rattle.nf_report_lines.proofs.WordCounts.{six_behind}
 use Rattle.nf_report_lines.proofs.causes.read_passed.Goals as goal
 

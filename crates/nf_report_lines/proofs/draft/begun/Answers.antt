@@ -1,5 +1,5 @@
 use Rattle.std.proofs.Common.{[], ◌∷◌, sym, ap, ◌∙◌}
-use Rattle.nf_rational.specs.Rational.{ℚ}
+use Rattle.nf_report_lines.proofs.Common.{ℚ}
 use Rattle.nf_report_lines.proofs.LastPoints.{starts_at_0}
 use Rattle.nf_report_lines.proofs.draft.begun.Goals as goal
 

@@ -1,6 +1,5 @@
 use Rattle.std.proofs.Common.{List, ℕ, true, false, bytes_eq, codes, sym, ap, ◌∙◌}
-use Rattle.std.proofs.lemmas.Result.{err_from_is_err_and}
-use Rattle.nf_rational.specs.Order.{lt_ℚ}
+use Rattle.nf_report_lines.proofs.Common.{err_from_is_err_and, lt_ℚ}
 use Rattle.nf_report_lines.proofs.HeadLines.{no_horizon, horizon_fails, horizon_read}
 use Rattle.nf_report_lines.proofs.head.read_horizon.Goals as goal
 

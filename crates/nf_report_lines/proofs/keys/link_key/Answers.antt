@@ -1,6 +1,5 @@
 use Rattle.std.proofs.Common.{Some, refl, sym, ◌∙◌, arith}
-use Rattle.nf_net.proofs.Limits.{as_many_names}
-use Rattle.nf_report_def.specs.ReportLines.{key_of}
+use Rattle.nf_report_lines.proofs.Common.{as_many_names, key_of}
 use Rattle.nf_report_lines.proofs.KeyNumbers.{link_key_there, link_key_past}
 use Rattle.nf_report_lines.proofs.keys.link_key.Goals as goal
 

@@ -1,9 +1,6 @@
 use Rattle.std.proofs.Common.{ap, Result}
-use Rattle.nf_report_def.specs.declared.ReportRule.{ReportRule}
-use Rattle.nf_report_def.specs.ReportLines.{nothing_more}
-use Rattle.nf_report_lines.specs.declared.entry.Entry.{Entry}
+use Rattle.nf_report_lines.proofs.Common.{ReportRule, nothing_more, Entry, drafted}
 use Rattle.nf_side.specs.Said.{said_by}
-use Rattle.nf_report_lines.specs.Entries.{drafted}
 use Rattle.nf_report_lines.proofs.lines.read_nothing.Goals as goal
 
 pub returns-in-Ok-clause-says : goal.returns-in-Ok-clause-says

@@ -1,5 +1,5 @@
 use Rattle.std.proofs.Common.{◌≡◌, take, true}
-use Rattle.nf_frac_words.specs.Digits.{are_digits, value_of}
+use Rattle.nf_report_lines.proofs.Common.{are_digits, value_of}
 use Rattle.nf_report_lines.proofs.plain_numbers.leading_number.Given as goal
 
 -- the digits so far write the number so far

@@ -1,6 +1,5 @@
 use Rattle.std.proofs.Common.{rules, ◌≡◌, sym, ap, ◌∙◌, to_z}
-use Rattle.std.specs.Int.{w128}
-use Rattle.std.proofs.Math.Facts.{to_z-of_z}
+use Rattle.nf_report_lines.proofs.Common.{w128, to_z-of_z}
 use Rattle.nf_report_lines.proofs.PlainNumbers.{number_from}
 use Rattle.nf_report_lines.proofs.plain_numbers.plain_number.Goals as goal
 

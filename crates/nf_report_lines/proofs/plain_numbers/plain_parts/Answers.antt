@@ -1,7 +1,5 @@
 use Rattle.std.proofs.Common.{rules, sym, ap, ◌∙◌, ℤ, ◌<◌, length}
-use Rattle.std.specs.Int.{w128}
-use Rattle.std.proofs.Math.Facts.{to_z-of_z}
-use Rattle.nf_frac_words.specs.Printed.{printed_parts}
+use Rattle.nf_report_lines.proofs.Common.{w128, to_z-of_z, printed_parts}
 use Rattle.nf_report_lines.proofs.PlainNumbers.{negative_is}
 use Rattle.nf_report_lines.proofs.plain_numbers.plain_parts.Goals as goal
 

@@ -1,5 +1,5 @@
 use Rattle.std.proofs.Common.{rules, sym, ap, ◌∙◌, take}
-use Rattle.nf_frac_words.specs.Digits.{digits_of}
+use Rattle.nf_report_lines.proofs.Common.{digits_of}
 use Rattle.nf_frac_words.proofs.Counts.{plain_is_digits}
 use Rattle.nf_report_lines.proofs.plain_numbers.plain_to.Goals as goal
 

@@ -1,6 +1,5 @@
-use Rattle.std.proofs.Common.{[], ◌∷◌}
-use Rattle.std.specs.Prelude.{codes}
-use Rattle.nf_net_def.specs.Causes.{passed_words}
+use Rattle.std.proofs.Common.{[], ◌∷◌, codes}
+use Rattle.nf_report_pages.proofs.Common.{passed_words}
 use Rattle.nf_report_pages.proofs.Gathering.{same_gathered}
 use Rattle.nf_report_pages.proofs.causes.put_passed.Goals as goal
 

@@ -1,6 +1,5 @@
-use Rattle.std.proofs.Common.{[], ◌∷◌}
-use Rattle.std.specs.Prelude.{codes}
-use Rattle.nf_frac_words.specs.Digits.{digits_of}
+use Rattle.std.proofs.Common.{[], ◌∷◌, codes}
+use Rattle.nf_report_pages.proofs.Common.{digits_of}
 use Rattle.nf_report_pages.proofs.Gathering.{same_gathered}
 use Rattle.nf_report_pages.proofs.causes.put_patterns.Goals as goal
 

@@ -1,9 +1,5 @@
-use Rattle.std.proofs.Common.{[], ◌∷◌, ap, sym}
-use Rattle.std.specs.Prelude.{Some, codes}
-use Rattle.nf_rational.specs.Rational.{ℚ}
-use Rattle.nf_frac_words.specs.Digits.{digits_of}
-use Rattle.nf_net_def.specs.declared.Cause.{Cause}
-use Rattle.nf_net_def.specs.Causes.{cause_words, passed_words}
+use Rattle.std.proofs.Common.{[], ◌∷◌, ap, sym, Some, codes}
+use Rattle.nf_report_pages.proofs.Common.{ℚ, digits_of, Cause, cause_words, passed_words}
 use Rattle.nf_report_pages.proofs.Gathering.{same_gathered}
 use Rattle.nf_report_pages.proofs.causes.put_stop.Goals as goal
 

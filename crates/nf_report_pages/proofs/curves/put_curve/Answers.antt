@@ -1,7 +1,5 @@
 use Rattle.std.proofs.Common.{◌≤◌, [], ◌∷◌, ◌+◌, length, take, drop, suc, ap, arith}
-use Rattle.std.proofs.lemmas.List.{take_all}
-use Rattle.nf_net_def.specs.Report.{point_lines}
-use Rattle.nf_report_pages.specs.Written.{written_point}
+use Rattle.nf_report_pages.proofs.Common.{take_all, point_lines, written_point}
 use Rattle.nf_report_pages.proofs.Parts.{point_lines_next, point_lines_left}
 use Rattle.nf_report_pages.proofs.Gathering.{gathered_nil, gathered_next, gathered_then_failed, same_gathered}
 use Rattle.nf_report_pages.proofs.curves.put_curve.Goals as goal

@@ -1,9 +1,5 @@
-use Rattle.std.proofs.Common.{take}
-use Rattle.std.specs.Prelude.{Ok}
-use Rattle.nf_edge.specs.declared.SinkFault.{SinkFault}
-use Rattle.nf_edge.specs.Writing.{state_of}
-use Rattle.nf_net_def.specs.Report.{point_lines}
-use Rattle.nf_report_pages.specs.Pages.{GatheredLines}
+use Rattle.std.proofs.Common.{take, Ok}
+use Rattle.nf_report_pages.proofs.Common.{SinkFault, state_of, point_lines, GatheredLines}
 use Rattle.nf_report_pages.proofs.curves.put_curve.Given as goal
 
 abbrev pub invariant-loop-index : goal.invariant-loop-index

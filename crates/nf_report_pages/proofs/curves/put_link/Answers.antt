@@ -1,6 +1,5 @@
-use Rattle.std.proofs.Common.{◌++◌, refl, sym, append_assoc}
-use Rattle.std.specs.Prelude.{codes}
-use Rattle.nf_net_def.specs.Report.{point_lines, trace_lines}
+use Rattle.std.proofs.Common.{◌++◌, refl, sym, append_assoc, codes}
+use Rattle.nf_report_pages.proofs.Common.{point_lines, trace_lines}
 use Rattle.nf_report_pages.proofs.Gathering.{gathered_next, gathered_failed, gathered_then_failed}
 use Rattle.nf_report_pages.proofs.curves.put_link.Goals as goal
 

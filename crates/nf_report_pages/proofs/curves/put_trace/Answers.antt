@@ -1,9 +1,6 @@
-use Rattle.std.proofs.Common.{◌≡◌, ◌≤◌, ◌+◌, List, [], ◌∷◌, length, take, drop, suc, ap, ◌∙◌, arith}
-use Rattle.std.proofs.lemmas.List.{take_all}
-use Rattle.std.specs.Prelude.{slice_get}
+use Rattle.std.proofs.Common.{◌≡◌, ◌≤◌, ◌+◌, List, [], ◌∷◌, length, take, drop, suc, ap, ◌∙◌, arith, slice_get}
+use Rattle.nf_report_pages.proofs.Common.{take_all, trace_lines, written_trace}
 use Rattle.nf_model.specs.Curve.{Point}
-use Rattle.nf_net_def.specs.Report.{trace_lines}
-use Rattle.nf_report_pages.specs.Written.{written_trace}
 use Rattle.nf_report_pages.proofs.Parts.{trace_lines_next, trace_lines_left}
 use Rattle.nf_report_pages.proofs.Gathering.{gathered_nil, gathered_next, gathered_then_failed, same_gathered}
 use Rattle.nf_report_pages.proofs.curves.put_trace.Goals as goal

@@ -1,9 +1,5 @@
-use Rattle.std.proofs.Common.{take}
-use Rattle.std.specs.Prelude.{Ok}
-use Rattle.nf_edge.specs.declared.SinkFault.{SinkFault}
-use Rattle.nf_edge.specs.Writing.{state_of}
-use Rattle.nf_net_def.specs.Report.{trace_lines}
-use Rattle.nf_report_pages.specs.Pages.{GatheredLines}
+use Rattle.std.proofs.Common.{take, Ok}
+use Rattle.nf_report_pages.proofs.Common.{SinkFault, state_of, trace_lines, GatheredLines}
 use Rattle.nf_report_pages.proofs.curves.put_trace.Given as goal
 
 abbrev pub invariant-loop-index : goal.invariant-loop-index

@@ -1,11 +1,6 @@
-use Rattle.std.proofs.Common.{◌≡◌, ◌<◌, ◌++◌, length, List, ℕ, ◌∙◌, arith}
-use Rattle.std.specs.Prelude.{codes}
-use Rattle.nf_rational.specs.Rational.{ℚ}
+use Rattle.std.proofs.Common.{◌≡◌, ◌<◌, ◌++◌, length, List, ℕ, ◌∙◌, arith, codes}
+use Rattle.nf_report_pages.proofs.Common.{ℚ, seen_flow, seen_trace, name_at, point_lines, trace_lines, link_lines, Line}
 use Rattle.nf_model.specs.Equilibrium as model
-use Rattle.nf_curve.specs.Flows.{seen_flow, seen_trace}
-use Rattle.nf_net_def.specs.Names.{name_at}
-use Rattle.nf_net_def.specs.Report.{point_lines, trace_lines, link_lines}
-use Rattle.nf_report_pages.specs.Written.{Line}
 use Rattle.nf_report_pages.proofs.Parts.{points_there, trace_there, same_link}
 use Rattle.nf_report_pages.proofs.Gathering.{same_gathered}
 use Rattle.nf_report_pages.proofs.flow.put_curves.Goals as goal

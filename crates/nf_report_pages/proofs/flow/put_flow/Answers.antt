@@ -1,8 +1,5 @@
 use Rattle.std.proofs.Common.{List, ◌++◌, length, map, refl, sym, ◌∙◌}
-use Rattle.std.proofs.lemmas.List.{length-map}
-use Rattle.nf_net_def.specs.Report.{for_each, label_lines, link_lines}
-use Rattle.nf_curve.specs.Flows.{seen_flow, seen_trace}
-use Rattle.nf_report_pages.specs.Written.{Line, never_lines}
+use Rattle.nf_report_pages.proofs.Common.{length-map, for_each, label_lines, link_lines, seen_flow, seen_trace, Line, never_lines}
 use Rattle.nf_report_pages.proofs.Gathering.{gathered_next, gathered_failed, gathered_then_failed, right_first}
 use Rattle.nf_report_pages.proofs.flow.put_flow.Goals as goal
 

@@ -1,7 +1,5 @@
-use Rattle.std.proofs.Common.{◌≡◌, ◌+◌, ◌<◌, [], ◌∷◌, take, drop, suc, length, arith}
-use Rattle.std.specs.Prelude.{codes}
-use Rattle.nf_net_def.specs.Names.{name_at}
-use Rattle.nf_report_pages.specs.Written.{never_lines}
+use Rattle.std.proofs.Common.{◌≡◌, ◌+◌, ◌<◌, [], ◌∷◌, take, drop, suc, length, arith, codes}
+use Rattle.nf_report_pages.proofs.Common.{name_at, never_lines}
 use Rattle.nf_report_pages.proofs.Parts.{never_next, never_left, never_all}
 use Rattle.nf_report_pages.proofs.Gathering.{gathered_nil, gathered_next, gathered_then_failed, same_gathered}
 use Rattle.nf_report_pages.proofs.flow.put_idle.Goals as goal

@@ -1,9 +1,5 @@
-use Rattle.std.proofs.Common.{take}
-use Rattle.std.specs.Prelude.{Ok}
-use Rattle.nf_edge.specs.declared.SinkFault.{SinkFault}
-use Rattle.nf_edge.specs.Writing.{state_of}
-use Rattle.nf_report_pages.specs.Written.{never_lines}
-use Rattle.nf_report_pages.specs.Pages.{GatheredLines}
+use Rattle.std.proofs.Common.{take, Ok}
+use Rattle.nf_report_pages.proofs.Common.{SinkFault, state_of, never_lines, GatheredLines}
 use Rattle.nf_report_pages.proofs.flow.put_idle.Given as goal
 
 abbrev pub invariant-loop-node : goal.invariant-loop-node

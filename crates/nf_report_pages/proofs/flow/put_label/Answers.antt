@@ -1,10 +1,6 @@
-use Rattle.std.proofs.Common.{◌≡◌, ◌<◌, length, List, ℕ, ◌∙◌, arith}
+use Rattle.std.proofs.Common.{◌≡◌, ◌<◌, length, List, ℕ, ◌∙◌, arith, codes}
+use Rattle.nf_report_pages.proofs.Common.{ℚ, seen_flow, name_at, point_lines, label_lines}
 use mathlib.Core.Path.{ap₂}
-use Rattle.std.specs.Prelude.{codes}
-use Rattle.nf_rational.specs.Rational.{ℚ}
-use Rattle.nf_curve.specs.Flows.{seen_flow}
-use Rattle.nf_net_def.specs.Names.{name_at}
-use Rattle.nf_net_def.specs.Report.{point_lines, label_lines}
 use Rattle.nf_report_pages.proofs.Parts.{points_there}
 use Rattle.nf_report_pages.proofs.Gathering.{same_gathered}
 use Rattle.nf_report_pages.proofs.flow.put_label.Goals as goal

@@ -1,11 +1,5 @@
-use Rattle.std.proofs.Common.{take}
-use Rattle.std.specs.Prelude.{Ok, flat_map}
-use Rattle.std.specs.List.{range_with_len}
-use Rattle.nf_edge.specs.declared.SinkFault.{SinkFault}
-use Rattle.nf_edge.specs.Writing.{state_of}
-use Rattle.nf_curve.specs.Flows.{seen_flow}
-use Rattle.nf_net_def.specs.Report.{label_lines}
-use Rattle.nf_report_pages.specs.Pages.{GatheredLines}
+use Rattle.std.proofs.Common.{take, Ok, flat_map}
+use Rattle.nf_report_pages.proofs.Common.{range_with_len, SinkFault, state_of, seen_flow, label_lines, GatheredLines}
 use Rattle.nf_report_pages.proofs.flow.put_labels.Given as goal
 
 abbrev pub invariant-loop-node : goal.invariant-loop-node

@@ -1,8 +1,5 @@
-use Rattle.std.proofs.Common.{◌≡◌, ◌+◌, ◌<◌, take, drop, suc, length, arith}
-use Rattle.std.specs.Prelude.{flat_map}
-use Rattle.std.specs.List.{range_with_len}
-use Rattle.nf_net_def.specs.Report.{state_lines}
-use Rattle.nf_net_def.specs.Report.{for_each}
+use Rattle.std.proofs.Common.{◌≡◌, ◌+◌, ◌<◌, take, drop, suc, length, arith, flat_map}
+use Rattle.nf_report_pages.proofs.Common.{range_with_len, state_lines, for_each}
 use Rattle.nf_report_pages.proofs.Parts.{each_next, each_left, each_all}
 use Rattle.nf_report_pages.proofs.Gathering.{gathered_nil, gathered_next, gathered_then_failed, same_gathered}
 use Rattle.nf_report_pages.proofs.flow.put_states.Goals as goal

@@ -1,5 +1,4 @@
-use Rattle.nf_curve.specs.Points.{Grown}
-use Rattle.nf_report_laws.specs.Readable.{AreFractionPoints}
+use Rattle.nf_report_pages.proofs.Common.{Grown, AreFractionPoints}
 use Rattle.nf_report_pages.proofs.Entries.{one_read, up_to_end, all_image}
 use Rattle.nf_report_pages.proofs.known.know_curves.Goals as goal
 

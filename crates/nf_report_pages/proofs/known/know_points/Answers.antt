@@ -1,5 +1,5 @@
 use Rattle.std.proofs.Common.{◌≤◌, length, arith}
-use Rattle.nf_report_laws.specs.Readable.{IsFractionPoint}
+use Rattle.nf_report_pages.proofs.Common.{IsFractionPoint}
 use Rattle.nf_report_pages.proofs.Entries.{one_more, up_to_end}
 use Rattle.nf_report_pages.proofs.known.know_points.Goals as goal
 

@@ -1,4 +1,4 @@
-use Rattle.nf_net_def.specs.WellNamed.{IsFraction}
+use Rattle.nf_report_pages.proofs.Common.{IsFraction}
 use Rattle.nf_report_pages.proofs.Entries.{one_read, up_to_end}
 use Rattle.nf_report_pages.proofs.known.know_rates.Goals as goal
 

@@ -1,6 +1,5 @@
 use Rattle.std.proofs.Common.{take}
-use Rattle.std.specs.List.{AllByRecursion}
-use Rattle.nf_net_def.specs.WellNamed.{IsFraction}
+use Rattle.nf_report_pages.proofs.Common.{AllByRecursion, IsFraction}
 use Rattle.nf_report_pages.proofs.known.know_rates.Given as goal
 
 abbrev pub invariant-loop-rate : goal.invariant-loop-rate

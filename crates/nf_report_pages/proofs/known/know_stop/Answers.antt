@@ -1,7 +1,5 @@
 use Rattle.std.proofs.Common.{Some, sym, subst}
-use Rattle.nf_rational.specs.Rational.{ℚ}
-use Rattle.nf_net_def.specs.declared.Cause.{Cause}
-use Rattle.nf_report_laws.specs.Readable.{IsReadableCause}
+use Rattle.nf_report_pages.proofs.Common.{ℚ, Cause, IsReadableCause}
 use Rattle.nf_report_pages.proofs.known.know_stop.Goals as goal
 
 pub returns-in-Patterns : goal.returns-in-Patterns

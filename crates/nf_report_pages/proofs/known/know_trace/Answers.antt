@@ -1,7 +1,5 @@
 use Rattle.std.proofs.Common.{List, subst}
-use Rattle.std.specs.List.{AllByRecursion}
-use Rattle.nf_rational.specs.Rational.{ℚ}
-use Rattle.nf_net_def.specs.WellNamed.{IsFraction}
+use Rattle.nf_report_pages.proofs.Common.{AllByRecursion, ℚ, IsFraction}
 use Rattle.nf_report_pages.proofs.known.know_trace.Goals as goal
 
 pub returns : goal.returns

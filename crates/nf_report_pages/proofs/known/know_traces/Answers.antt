@@ -1,6 +1,4 @@
-use Rattle.nf_curve.specs.Flows.{seen_trace}
-use Rattle.nf_curve.specs.declared.flow.Trace.{Trace}
-use Rattle.nf_report_laws.specs.Readable.{IsFractionTrace}
+use Rattle.nf_report_pages.proofs.Common.{seen_trace, Trace, IsFractionTrace}
 use Rattle.nf_report_pages.proofs.Entries.{one_read, up_to_end, all_image}
 use Rattle.nf_report_pages.proofs.known.know_traces.Goals as goal
 

@@ -1,5 +1,5 @@
 use Rattle.std.proofs.Common.{[], ◌∷◌, ◌++◌, map, refl, sym, ◌∙◌, append_assoc}
-use Rattle.nf_report_pages.specs.Written.{after_words}
+use Rattle.nf_report_pages.proofs.Common.{after_words}
 use Rattle.nf_report_pages.proofs.Parts.{line_joined}
 use Rattle.nf_report_pages.proofs.Gathering.{gathered_both, gathered_front}
 use Rattle.nf_report_pages.proofs.line.put_line.Goals as goal

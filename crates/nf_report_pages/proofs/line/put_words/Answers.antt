@@ -1,7 +1,7 @@
 use Rattle.std.proofs.Common.{◌∷◌, map, drop, suc, refl}
+use Rattle.nf_report_pages.proofs.Common.{after_words}
 use Rattle.nf_report_pages.proofs.Parts.{next_part, parts_left, mapped_there}
 use Rattle.nf_report_pages.proofs.Gathering.{gathered_nil, gathered_both, gathered_front}
-use Rattle.nf_report_pages.specs.Written.{after_words}
 use Rattle.nf_report_pages.proofs.line.put_words.Goals as goal
 
 pub loop-word-init : goal.loop-word-init

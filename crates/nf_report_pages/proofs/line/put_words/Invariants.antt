@@ -1,9 +1,5 @@
-use Rattle.std.proofs.Common.{take, map}
-use Rattle.std.specs.Prelude.{Ok}
-use Rattle.nf_report_pages.specs.Pages.{Gathered}
-use Rattle.nf_edge.specs.declared.SinkFault.{SinkFault}
-use Rattle.nf_edge.specs.Writing.{state_of}
-use Rattle.nf_report_pages.specs.Written.{after_words}
+use Rattle.std.proofs.Common.{take, map, Ok}
+use Rattle.nf_report_pages.proofs.Common.{Gathered, SinkFault, state_of, after_words}
 use Rattle.nf_report_pages.proofs.line.put_words.Given as goal
 
 abbrev pub invariant-loop-word : goal.invariant-loop-word

@@ -1,12 +1,7 @@
 use Rattle.std.proofs.Common.{List, map, subst, sym, ap, ◌∙◌}
-use Rattle.std.specs.List.{AllByRecursion}
+use Rattle.nf_report_pages.proofs.Common.{AllByRecursion, Report, Grown, seen_flow, seen_trace, Trace, AreFractionPoints, IsFractionTrace}
 use Rattle.std.specs.Option.{option_copied}
-use Rattle.nf_net_def.specs.Report.{Report}
 use Rattle.nf_report_def.specs.ReportFile.{report_in}
-use Rattle.nf_curve.specs.Points.{Grown}
-use Rattle.nf_curve.specs.Flows.{seen_flow, seen_trace}
-use Rattle.nf_curve.specs.declared.flow.Trace.{Trace}
-use Rattle.nf_report_laws.specs.Readable.{AreFractionPoints, IsFractionTrace}
 use Rattle.nf_report_laws.proofs.ReportBack.{report_back}
 use Rattle.nf_report_laws.proofs.ReportFit.{fit}
 use Rattle.nf_rational_laws.proofs.Results.{same_Ok}

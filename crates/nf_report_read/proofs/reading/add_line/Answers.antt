@@ -1,5 +1,5 @@
 use Rattle.std.proofs.Common.{ℕ, Ok, Err, sym, ap, ◌∙◌}
-use Rattle.nf_report_def.specs.ReportFile.{in_report_line}
+use Rattle.nf_report_read.proofs.Common.{in_report_line}
 use Rattle.nf_report_read.proofs.reading.add_line.Goals as goal
 
 pub returns-in_ok-add-in-Ok-clause-adds : goal.returns-in_ok-add-in-Ok-clause-adds

@@ -1,11 +1,8 @@
 use Rattle.std.proofs.Common.{◌≡◌, ◌<◌, suc, ◌∷◌, length, map, Option, option_map, Err, refl, sym, ap, subst, ◌∙◌, arith}
-use Rattle.nf_text_def.specs.Words.{ReadLine, read_line}
-use Rattle.nf_text_def.specs.Faults.{LineFault, first_fault_of}
-use Rattle.nf_report_def.specs.ReportFile.{as_report_rule, report_by_bytes, report_lines_from}
-use Rattle.nf_report_lines.specs.Lines.{words_behind}
-use Rattle.nf_report_lines.specs.Drafts.{seen_draft}
-use Rattle.nf_report_read.specs.Files.{closed_by}
-use Rattle.nf_report_read.proofs.LineByLine.{from_line, count_from, broken_more, next_lines, next_faults, next_ends, next_behind, next_count, line_adds, line_breaks, fault_breaks, loop_ends}
+use Rattle.nf_report_read.proofs.Common.{ReadLine, read_line, LineFault, first_fault_of, as_report_rule, report_by_bytes, report_lines_from, words_behind}
+use Rattle.nf_report_read.proofs.Common.{seen_draft, closed_by}
+use Rattle.nf_report_read.proofs.LineByLine.{from_line, count_from, broken_more, next_lines, next_faults, next_ends, next_behind, next_count, line_adds}
+use Rattle.nf_report_read.proofs.LineByLine.{line_breaks, fault_breaks, loop_ends}
 use Rattle.nf_report_read.proofs.reading.add_lines.Goals as goal
 
 pub loop-line-init : goal.loop-line-init

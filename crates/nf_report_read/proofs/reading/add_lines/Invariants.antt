@@ -1,8 +1,5 @@
 use Rattle.std.proofs.Common.{◌≡◌, ◌∷◌, map}
-use Rattle.nf_text_def.specs.Words.{read_line}
-use Rattle.nf_text_def.specs.Faults.{first_fault_of}
-use Rattle.nf_report_def.specs.ReportFile.{report_lines_from}
-use Rattle.nf_report_lines.specs.Drafts.{seen_draft, IsWithinNetwork}
+use Rattle.nf_report_read.proofs.Common.{read_line, first_fault_of, report_lines_from, seen_draft, IsWithinNetwork}
 use Rattle.nf_report_read.proofs.LineByLine.{from_line, count_from, EndsThere}
 use Rattle.nf_report_read.proofs.reading.add_lines.Given as goal
 

@@ -1,8 +1,5 @@
 use Rattle.std.proofs.Common.{◌≡◌, ◌<◌, ◌∷◌, List, [], length, map, Option, Some, MatchOption, ap, arith}
-use Rattle.std.proofs.lemmas.List.{length-map}
-use Rattle.std.proofs.lemmas.Option.{MatchOption-at_some}
-use Rattle.nf_text_def.specs.Lines.{TextLine}
-use Rattle.nf_text_def.specs.Words.{ReadLine, read_line}
+use Rattle.nf_report_read.proofs.Common.{length-map, MatchOption-at_some, TextLine, ReadLine, read_line}
 use Rattle.nf_report_read.proofs.reading.check_rest.Goals as goal
 
 fewer_lines : (old new : List TextLine) (next : Option ReadLine) (line : ReadLine) → next ≡ Some line

@@ -1,5 +1,5 @@
 use Rattle.std.proofs.Common.{◌≡◌, length}
-use Rattle.nf_text_def.specs.Faults.{first_fault_of}
+use Rattle.nf_report_read.proofs.Common.{first_fault_of}
 use Rattle.nf_report_read.proofs.reading.check_rest.Given as goal
 
 abbrev pub invariant-loop-fault : goal.invariant-loop-fault

@@ -1,4 +1,4 @@
-use Rattle.nf_text_def.specs.Faults.{first_fault_of}
+use Rattle.nf_report_read.proofs.Common.{first_fault_of}
 use Rattle.nf_report_read.proofs.LineByLine.{text_refused}
 use Rattle.nf_report_read.proofs.reading.next_line.Goals as goal
 

@@ -1,8 +1,5 @@
 use Rattle.std.proofs.Common.{List, option_map, sym, ap, ◌∙◌}
-use Rattle.nf_text_def.specs.Lines.{TextLine}
-use Rattle.nf_text_def.specs.Faults.{first_fault_of}
-use Rattle.nf_report_def.specs.ReportFile.{as_report_rule}
-use Rattle.nf_report_lines.specs.Drafts.{seen_draft}
+use Rattle.nf_report_read.proofs.Common.{TextLine, first_fault_of, as_report_rule, seen_draft}
 use Rattle.nf_report_read.proofs.LineByLine.{broken_more, fault_breaks_text, no_line, draft_read, fault_read}
 use Rattle.nf_report_read.proofs.reading.read_draft.Goals as goal
 

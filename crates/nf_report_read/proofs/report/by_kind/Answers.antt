@@ -1,10 +1,7 @@
 use Rattle.std.proofs.Common.{ℕ, ◌<◌, [], ◌∷◌, length, Some, slice_get, refl, sym, ap, ◌∙◌, length-append, arith}
+use Rattle.nf_report_read.proofs.Common.{slice_get_read, curve_keys, key_at, seen_done}
 use Rattle.std.proofs.lemmas.Iterator.Adapters.{YieldsList-from_vec}
 use Rattle.std.proofs.lemmas.Iterator.Consumers.{YieldsList-turn}
-use Rattle.std.proofs.lemmas.Option.{slice_get_read}
-use Rattle.nf_report_def.specs.ReportLines.{curve_keys}
-use Rattle.nf_report_lines.specs.Keys.{key_at}
-use Rattle.nf_report_lines.specs.Drafts.{seen_done}
 use Rattle.nf_report_read.proofs.Sorting.{kind_here, few_here, key_there, one_more_sorted}
 use Rattle.nf_report_read.proofs.report.by_kind.Goals as goal
 

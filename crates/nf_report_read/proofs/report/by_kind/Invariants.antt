@@ -1,6 +1,5 @@
 use Rattle.std.proofs.Common.{◌≡◌, length}
-use Rattle.nf_report_lines.specs.Drafts.{seen_done}
-use Rattle.nf_report_read.specs.Sorted.{AreSorted}
+use Rattle.nf_report_read.proofs.Common.{seen_done, AreSorted}
 use Rattle.nf_report_read.proofs.report.by_kind.Given as goal
 
 abbrev pub invariant-loop-curve : goal.invariant-loop-curve

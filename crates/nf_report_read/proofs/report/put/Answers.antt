@@ -1,8 +1,5 @@
 use Rattle.std.proofs.Common.{[], ◌∷◌, ◌++◌, Option, sym, ap, subst, ◌∙◌}
-use Rattle.nf_curve.specs.declared.flow.Trace.{Trace}
-use Rattle.nf_report_lines.specs.Keys.{seen_kind}
-use Rattle.nf_report_lines.specs.Drafts.{seen_curve}
-use Rattle.nf_report_read.specs.Sorted.{AreSorted}
+use Rattle.nf_report_read.proofs.Common.{Trace, seen_kind, seen_curve, AreSorted}
 use Rattle.nf_report_read.proofs.Sorting.{label_put, inflow_put, outflow_put, queue_put}
 use Rattle.nf_report_read.proofs.report.put.Goals as goal
 

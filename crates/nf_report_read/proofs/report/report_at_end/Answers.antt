@@ -1,10 +1,8 @@
 use Rattle.std.proofs.Common.{◌≡◌, Ok, sym, ap, ◌∙◌}
+use Rattle.nf_report_read.proofs.Common.{if_at_end, seen_draft, seen_stage, not_ended, done_few}
 use Rattle.std.proofs.lemmas.Bool.{true≢false, false≢true}
-use Rattle.nf_report_def.specs.ReportFile.{if_at_end}
 use Rattle.nf_report_lines.specs.declared.draft.Stage.{Stage}
 use Rattle.nf_report_lines.specs.declared.draft.Stage.TheVariants as stages
-use Rattle.nf_report_lines.specs.Drafts.{seen_draft, seen_stage}
-use Rattle.nf_report_lines.proofs.DraftSteps.{not_ended, done_few}
 use Rattle.nf_report_read.proofs.report.report_at_end.Goals as goal
 use Rattle.nf_report_read.proofs.report.report_at_end.Goals.{in-End, in_default}
 

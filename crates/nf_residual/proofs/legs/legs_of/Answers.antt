@@ -1,5 +1,5 @@
 use Rattle.std.proofs.Common.{◌≤◌, length, arith}
-use Rattle.std.proofs.lemmas.Result.{IfOk-from_err}
+use Rattle.nf_residual.proofs.Common.{IfOk-from_err}
 use Rattle.nf_residual.proofs.LegByLeg.{legs_first, legs_more, legs_all, all_led}
 use Rattle.nf_residual.proofs.legs.legs_of.Goals as goal
 

@@ -1,6 +1,5 @@
-use Rattle.std.proofs.Common.{Option, unwrap_or, refl, sym, ap, ◌∙◌}
-use Rattle.std.specs.Prelude.{is_some}
-use Rattle.nf_rational.specs.Rational.{ℚ}
+use Rattle.std.proofs.Common.{Option, unwrap_or, refl, sym, ap, ◌∙◌, is_some}
+use Rattle.nf_residual.proofs.Common.{ℚ}
 use Rattle.nf_residual.proofs.WholeLengths.{made_is, widened}
 use Rattle.nf_residual.proofs.length.fraction.Goals as goal
 

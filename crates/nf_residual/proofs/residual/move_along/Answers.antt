@@ -1,5 +1,4 @@
-use Rattle.std.proofs.lemmas.Result.{err_from_is_err_and}
-use Rattle.nf_frac_def.specs.Passing.{passes_Q}
+use Rattle.nf_residual.proofs.Common.{err_from_is_err_and, passes_Q}
 use Rattle.nf_residual.proofs.Moving.{moves_first, link_within, moves_stop, moves_all, moves_by_parts}
 use Rattle.nf_residual.proofs.residual.move_along.Goals as goal
 

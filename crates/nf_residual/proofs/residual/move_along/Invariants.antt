@@ -1,4 +1,4 @@
-use Rattle.nf_frac_def.specs.Passing.{passes_Q}
+use Rattle.nf_residual.proofs.Common.{passes_Q}
 use Rattle.nf_residual.proofs.Moving.{MovesOn}
 use Rattle.nf_residual.proofs.residual.move_along.Given as goal
 

@@ -1,12 +1,5 @@
-use Rattle.std.proofs.Common.{◌<◌, List, Some, length, refl, ap, sym, subst, ◌∙◌}
-use Rattle.std.specs.Prelude.{Ok}
-use Rattle.std.specs.List.{AllByRecursion}
-use Rattle.std.proofs.lemmas.Result.{err_from_is_err_and}
-use Rattle.nf_rational.specs.Rational.{ℚ}
-use Rattle.nf_frac_def.specs.Passing.{passes_Q}
-use Rattle.nf_frac_def.specs.Checked.{seen_passed_at}
-use Rattle.nf_quick_def.specs.Steps.{Step, IsResidualWalk}
-use Rattle.nf_quick_def.specs.Order.{Reach}
+use Rattle.std.proofs.Common.{◌<◌, List, Some, length, refl, ap, sym, subst, ◌∙◌, Ok}
+use Rattle.nf_residual.proofs.Common.{AllByRecursion, err_from_is_err_and, ℚ, passes_Q, seen_passed_at, Step, IsResidualWalk, Reach}
 use Rattle.nf_residual.proofs.Stopping.{ok_of_part, room_stops, walk_of, room_found}
 use Rattle.nf_residual.proofs.Finishing.{steps_within, has_room}
 use Rattle.nf_residual.proofs.residual.with_room.Goals as goal

@@ -1,9 +1,5 @@
-use Rattle.std.proofs.Common.{◌<◌, length}
-use Rattle.std.specs.Prelude.{None}
-use Rattle.nf_quick_def.specs.Steps.{Step}
-use Rattle.std.proofs.lemmas.Result.{err_from_is_err_and}
-use Rattle.nf_frac_def.specs.Passing.{passes_Q}
-use Rattle.nf_quick_def.specs.Rounds.{room_after}
+use Rattle.std.proofs.Common.{◌<◌, length, None}
+use Rattle.nf_residual.proofs.Common.{Step, err_from_is_err_and, passes_Q, room_after}
 use Rattle.nf_residual.proofs.Folding.{all_at, fold_stops, fold_more}
 use Rattle.nf_residual.proofs.room.room_of.Goals as goal
 

@@ -1,6 +1,5 @@
-use Rattle.std.specs.Prelude.{None}
-use Rattle.nf_frac_def.specs.Passing.{passes_Q}
-use Rattle.nf_quick_def.specs.Rounds.{room_after}
+use Rattle.std.proofs.Common.{None}
+use Rattle.nf_residual.proofs.Common.{passes_Q, room_after}
 use Rattle.nf_residual.proofs.Folding.{FoldsOn}
 use Rattle.nf_residual.proofs.room.room_of.Given as goal
 

@@ -1,10 +1,7 @@
 use Rattle.std.proofs.Common.{ℕ, ◌++◌, ◌∷◌, [], refl, ap, ◌∙◌}
-use Rattle.nf_rational.specs.Rational.{ℚ}
-use Rattle.nf_rational.specs.Operations.{whole}
-use Rattle.nf_frac_def.specs.Passing.{passes_Q}
+use Rattle.nf_residual.proofs.Common.{ℚ, whole, passes_Q, Places, twig_at, place_at, twig_after}
 use mir.Syntax.{w64}
 use mir.Val.{to_z, of_z}
-use Rattle.nf_residual.specs.Ways.{Places, twig_at, place_at, twig_after}
 use Rattle.nf_residual.proofs.WholeLengths.{kept_exact}
 use Rattle.nf_residual.proofs.Twigs.{within_known}
 use Rattle.nf_residual.proofs.Offering.{offer_lost, offer_won, offer_grows}

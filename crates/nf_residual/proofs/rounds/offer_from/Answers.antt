@@ -1,7 +1,6 @@
 use Rattle.std.proofs.Common.{◌+◌, ◌<◌, ◌≤◌, length, arith}
-use Rattle.nf_frac_def.specs.Passing.{passes_Q}
+use Rattle.nf_residual.proofs.Common.{passes_Q, IsNextOut}
 use Rattle.nf_residual.proofs.NodeByNode.{after_arc, offers_more}
-use Rattle.nf_residual.specs.Chains.{IsNextOut}
 use Rattle.nf_residual.proofs.rounds.offer_from.Goals as goal
 
 pub loop-arc-smaller : goal.loop-arc-smaller

@@ -1,5 +1,5 @@
 use Rattle.std.proofs.Common.{◌-◌, length}
-use Rattle.nf_frac_def.specs.Passing.{passes_Q}
+use Rattle.nf_residual.proofs.Common.{passes_Q}
 use Rattle.nf_residual.proofs.NodeByNode.{OffersOn}
 use Rattle.nf_residual.proofs.rounds.offer_from.Given as goal
 

@@ -1,7 +1,5 @@
 use Rattle.std.proofs.Common.{ℕ, refl, ap, ◌∙◌}
-use Rattle.std.proofs.lemmas.Result.{err_from_is_err_and}
-use Rattle.nf_frac_def.specs.Passing.{passes_Q}
-use Rattle.nf_residual.specs.Ways.{Places, twig_at, place_at, twig_after}
+use Rattle.nf_residual.proofs.Common.{err_from_is_err_and, passes_Q, Places, twig_at, place_at, twig_after}
 use Rattle.nf_residual.proofs.Twigs.{within_known}
 use Rattle.nf_residual.proofs.Offering.{nothing_grows, offer_passes, offer_lost, offer_won, offer_grows}
 use Rattle.nf_residual.proofs.Reading.{way_within}

@@ -1,12 +1,8 @@
 use Rattle.std.proofs.Common.{◌≡◌, ℕ, ◌+◌, ◌<◌, List, length, Option, Vec, Global, refl, sym, ap, subst, ◌∙◌, arith}
-use Rattle.std.proofs.lemmas.Result.{err_from_is_err_and}
-use Rattle.nf_frac_def.specs.Passing.{passes_Q}
-use Rattle.nf_residual.specs.declared.legs.Leg.{Leg}
-use Rattle.nf_residual.specs.Legs.{AreLegs, AreSettled}
-use Rattle.nf_residual.specs.Chains.{AreChains}
-use Rattle.nf_residual.specs.Ways.{Places, ArePathsBelow}
+use Rattle.nf_residual.proofs.Common.{err_from_is_err_and, passes_Q, Leg, AreLegs, AreSettled, AreChains, Places, ArePathsBelow}
 use Rattle.nf_residual.proofs.NodeByNode.{stops_by}
-use Rattle.nf_residual.proofs.Rounding.{SearchOn, search_first, search_stops, search_still, search_more, places_are, within_still, count_still, search_all, search_count}
+use Rattle.nf_residual.proofs.Rounding.{SearchOn, search_first, search_stops, search_still, search_more, places_are, within_still, count_still, search_all}
+use Rattle.nf_residual.proofs.Rounding.{search_count}
 use Rattle.nf_residual.proofs.rounds.reaches_by.Goals as goal
 
 pub loop-init : goal.loop-init

@@ -1,5 +1,5 @@
 use Rattle.std.proofs.Common.{◌≡◌, length}
-use Rattle.nf_frac_def.specs.Passing.{passes_Q}
+use Rattle.nf_residual.proofs.Common.{passes_Q}
 use Rattle.nf_residual.proofs.Rounding.{SearchOn}
 use Rattle.nf_residual.proofs.rounds.reaches_by.Given as goal
 

@@ -1,5 +1,5 @@
 use Rattle.std.proofs.Common.{◌≤◌, length, arith}
-use Rattle.nf_frac_def.specs.Passing.{passes_Q}
+use Rattle.nf_residual.proofs.Common.{passes_Q}
 use Rattle.nf_residual.proofs.NodeByNode.{nodes_first, known_here, nodes_more, nodes_skip, nodes_all, nodes_settled}
 use Rattle.nf_residual.proofs.rounds.round_by_nodes.Goals.{in-Some+in_ok-offer_from, in_default}
 use Rattle.nf_residual.proofs.rounds.round_by_nodes.Goals as goal

@@ -1,4 +1,4 @@
-use Rattle.nf_frac_def.specs.Passing.{passes_Q}
+use Rattle.nf_residual.proofs.Common.{passes_Q}
 use Rattle.nf_residual.proofs.NodeByNode.{NodesOn}
 use Rattle.nf_residual.proofs.rounds.round_by_nodes.Given as goal
 

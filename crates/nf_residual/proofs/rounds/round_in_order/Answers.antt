@@ -1,6 +1,5 @@
 use Rattle.std.proofs.Common.{ℕ, ◌<◌, ◌≤◌, length, sym, subst, arith}
-use Rattle.std.proofs.lemmas.Result.{err_from_is_err_and}
-use Rattle.nf_frac_def.specs.Passing.{passes_Q}
+use Rattle.nf_residual.proofs.Common.{err_from_is_err_and, passes_Q}
 use Rattle.nf_residual.proofs.Rounding.{round_first, leg_ends, count_is, way_within, within_grown, offer_stops, offer_more, old_more, round_all, settled_all}
 use Rattle.nf_residual.proofs.rounds.round_in_order.Goals.{in-Some+in_ok-offer, in_default}
 use Rattle.nf_residual.proofs.rounds.round_in_order.Goals as goal

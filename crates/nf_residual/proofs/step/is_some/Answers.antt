@@ -1,6 +1,6 @@
 use Rattle.std.proofs.Common.{ℤ, pos, sym, ap, ◌∙◌}
+use Rattle.nf_residual.proofs.Common.{plain}
 use lib.Signed.{lt_z}
-use Rattle.nf_frac.proofs.Bits.{plain}
 use Rattle.nf_residual.proofs.Signs.{above_zero}
 use Rattle.nf_residual.proofs.step.is_some.Goals as goal
 

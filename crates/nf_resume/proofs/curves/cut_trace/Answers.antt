@@ -1,11 +1,6 @@
 use Rattle.std.proofs.Common.{◌∙◌}
-use Rattle.std.proofs.lemmas.Result.{err_from_is_err_and}
+use Rattle.nf_resume.proofs.Common.{err_from_is_err_and, passes_Q, at_part, checked_slopes, cut_short, cut_trace, after_err, after_ok, stops_on}
 use Rattle.nf_frac_def.specs.declared.Part.TheVariants.{Curve as OfCurve}
-use Rattle.nf_frac_def.specs.Passing.{passes_Q}
-use Rattle.nf_frac_def.specs.Checked.{at_part}
-use Rattle.nf_curve_def.specs.Short.{checked_slopes}
-use Rattle.nf_resume_def.specs.Resuming.{cut_short, cut_trace}
-use Rattle.nf_curve.proofs.Exits.{after_err, after_ok, stops_on}
 use Rattle.nf_resume.proofs.curves.cut_trace.Goals as goal
 
 pub returns-in_err-curve : goal.returns-in_err-curve

@@ -1,7 +1,5 @@
 use Rattle.std.proofs.Common.{◌≡◌, ◌<◌, ◌-◌, length, sym, ap, ◌∙◌, arith}
-use Rattle.nf_model.specs.Equilibrium.{points_at}
-use Rattle.nf_phase_def.specs.Restoring.{value_at_end}
-use Rattle.nf_resume.specs.Cuts.{points_of_each}
+use Rattle.nf_resume.proofs.Common.{points_at, value_at_end, points_of_each}
 use Rattle.nf_resume.proofs.Ends.{end_is, curve_at_is}
 use Rattle.nf_resume.proofs.curves.last_label.Goals as goal
 

@@ -1,8 +1,6 @@
 use Rattle.std.proofs.Common.{◌<◌, ◌≤◌, ◌+◌, length, sym, arith}
-use Rattle.std.proofs.lemmas.Result.{err_from_is_err_and}
+use Rattle.nf_resume.proofs.Common.{err_from_is_err_and, passes_Q, entry}
 use Rattle.nf_frac_def.specs.declared.Part.TheVariants.{Curve as OfCurve}
-use Rattle.nf_frac_def.specs.Passing.{passes_Q}
-use Rattle.nf_rational_laws.proofs.Entries.{entry}
 use Rattle.nf_curve.proofs.Placing.{times_apart}
 use Rattle.nf_resume.proofs.Rates.{rates_first, rate_stops, rate_goes, rates_end}
 use Rattle.nf_resume.proofs.curves.rates.Goals as goal

@@ -1,4 +1,4 @@
-use Rattle.nf_frac_def.specs.Passing.{passes_Q}
+use Rattle.nf_resume.proofs.Common.{passes_Q}
 use Rattle.nf_resume.proofs.Rates.{RatesTo}
 use Rattle.nf_resume.proofs.curves.rates.Given as goal
 

@@ -1,15 +1,7 @@
 use Rattle.std.proofs.Common.{List, length, map, sym, ap, subst, ◌∙◌}
-use Rattle.std.proofs.lemmas.List.{length-map}
-use Rattle.std.proofs.lemmas.Result.{err_from_is_err_and}
-use Rattle.nf_rational.specs.Operations.{0ℚ}
-use Rattle.nf_rational.specs.Order.{◌≤ℚ◌}
+use Rattle.nf_resume.proofs.Common.{length-map, err_from_is_err_and, 0ℚ, ◌≤ℚ◌, passes_Q, points_at, Grown, seen_trace, seen_flow, value_at_end}
+use Rattle.nf_resume.proofs.Common.{points_of_each, cut_in}
 use Rattle.nf_frac_def.specs.declared.Part.TheVariants.{Curve as OfCurve}
-use Rattle.nf_frac_def.specs.Passing.{passes_Q}
-use Rattle.nf_model.specs.Equilibrium.{points_at}
-use Rattle.nf_curve.specs.Points.{Grown}
-use Rattle.nf_curve.specs.Flows.{seen_trace, seen_flow}
-use Rattle.nf_phase_def.specs.Restoring.{value_at_end}
-use Rattle.nf_resume.specs.Cuts.{points_of_each, cut_in}
 use Rattle.nf_resume.proofs.CutFlow.{labels_stop, labels_count, labels_end, links_stop, flow_is_cut}
 use Rattle.nf_resume.proofs.cutting.cut_flow.Goals as goal
 

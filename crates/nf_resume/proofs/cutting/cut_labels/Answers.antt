@@ -1,11 +1,6 @@
 use Rattle.std.proofs.Common.{ℕ, ◌≤◌, List, sym, ap, subst, ◌∙◌}
-use Rattle.std.proofs.lemmas.List.{length-map, map-append}
-use Rattle.std.proofs.lemmas.Result.{err_from_is_err_and}
+use Rattle.nf_resume.proofs.Common.{length-map, map-append, err_from_is_err_and, passes_Q, Grown, cut_short, points_of_each}
 use Rattle.nf_frac_def.specs.declared.Part.TheVariants.{Curve as OfCurve}
-use Rattle.nf_frac_def.specs.Passing.{passes_Q}
-use Rattle.nf_curve.specs.Points.{Grown}
-use Rattle.nf_resume_def.specs.Resuming.{cut_short}
-use Rattle.nf_resume.specs.Cuts.{points_of_each}
 use Rattle.nf_resume.proofs.Looping.{front_halts, front_goes, front_last}
 use Rattle.nf_resume.proofs.Ends.{curve_there}
 use Rattle.nf_resume.proofs.cutting.cut_labels.Goals as goal

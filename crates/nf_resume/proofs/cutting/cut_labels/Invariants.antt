@@ -1,6 +1,4 @@
-use Rattle.nf_frac_def.specs.Passing.{passes_Q}
-use Rattle.nf_resume_def.specs.Resuming.{cut_short}
-use Rattle.nf_resume.specs.Cuts.{points_of_each}
+use Rattle.nf_resume.proofs.Common.{passes_Q, cut_short, points_of_each}
 use Rattle.nf_resume.proofs.Looping.{Front}
 use Rattle.nf_resume.proofs.cutting.cut_labels.Given as goal
 

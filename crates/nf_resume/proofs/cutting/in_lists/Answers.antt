@@ -1,10 +1,7 @@
 use Rattle.std.proofs.Common.{◌≡◌, List, [], ◌∷◌, ◌++◌, map, sym, ap, subst, ◌∙◌}
-use Rattle.std.proofs.lemmas.List.{map-append}
-use Rattle.nf_model.specs.Curve.{Point}
+use Rattle.nf_resume.proofs.Common.{map-append, Point, CutLink, cut_in, AreLists}
 use Rattle.nf_model.specs.Equilibrium.{Trace}
 use Rattle.nf_resume_def.specs.Resuming as lists
-use Rattle.nf_resume.specs.declared.links.CutLink.{CutLink}
-use Rattle.nf_resume.specs.Cuts.{cut_in, AreLists}
 use Rattle.nf_resume.proofs.cutting.in_lists.Goals as goal
 
 -- one more link

@@ -1,6 +1,5 @@
 use Rattle.std.proofs.Common.{map}
-use Rattle.nf_curve.specs.Flows.{seen_trace}
-use Rattle.nf_resume.specs.Cuts.{points_of_each, cut_in, AreLists}
+use Rattle.nf_resume.proofs.Common.{seen_trace, points_of_each, cut_in, AreLists}
 use Rattle.nf_resume.proofs.cutting.in_lists.Given as goal
 
 abbrev pub invariant-loop-cut : goal.invariant-loop-cut

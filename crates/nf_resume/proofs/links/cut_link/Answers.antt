@@ -1,12 +1,6 @@
 use Rattle.std.proofs.Common.{◌∙◌}
-use Rattle.std.proofs.lemmas.Result.{err_from_is_err_and}
+use Rattle.nf_resume.proofs.Common.{err_from_is_err_and, passes_Q, at_part, cut_short, cut_trace, seen_trace, after_err, after_ok, stops_on, cut_ends}
 use Rattle.nf_frac_def.specs.declared.Part.TheVariants.{Curve as OfCurve}
-use Rattle.nf_frac_def.specs.Passing.{passes_Q}
-use Rattle.nf_frac_def.specs.Checked.{at_part}
-use Rattle.nf_resume_def.specs.Resuming.{cut_short, cut_trace}
-use Rattle.nf_curve.specs.Flows.{seen_trace}
-use Rattle.nf_curve.proofs.Exits.{after_err, after_ok, stops_on}
-use Rattle.nf_resume.specs.Cuts.{cut_ends}
 use Rattle.nf_resume.proofs.links.cut_link.Goals as goal
 
 pub returns-in_err-inflow : goal.returns-in_err-inflow

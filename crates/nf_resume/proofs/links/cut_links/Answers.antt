@@ -1,22 +1,8 @@
-use Rattle.std.proofs.Common.{◌≡◌, ℕ, ◌<◌, List, length, map, sym, ap, subst, ◌∙◌, arith}
-use Rattle.std.specs.Prelude.{Ok}
-use Rattle.std.proofs.lemmas.List.{length-map, map-append}
-use Rattle.std.proofs.lemmas.Result.{err_from_is_err_and}
-use Rattle.nf_rational.specs.Rational.{ℚ}
-use Rattle.nf_rational.specs.Operations.{0ℚ}
-use Rattle.nf_rational.specs.Order.{◌≤ℚ◌}
+use Rattle.std.proofs.Common.{◌≡◌, ℕ, ◌<◌, List, length, map, sym, ap, subst, ◌∙◌, arith, Ok}
+use Rattle.nf_resume.proofs.Common.{length-map, map-append, err_from_is_err_and, ℚ, 0ℚ, ◌≤ℚ◌, passes_Q, Checked, Stops, at_part, Link, points_at}
+use Rattle.nf_resume.proofs.Common.{seen_trace, seen_flow, value_at_end, links_with, cut_link, links_with-length, CutLink, points_of_each, cut_in}
 use Rattle.nf_frac_def.specs.declared.Part.TheVariants.{Curve as OfCurve}
-use Rattle.nf_frac_def.specs.Passing.{passes_Q}
-use Rattle.nf_frac_def.specs.Checked.{Checked, Stops, at_part}
-use Rattle.nf_model.specs.Network.{Link}
-use Rattle.nf_model.specs.Equilibrium.{points_at}
-use Rattle.nf_curve.specs.Flows.{seen_trace, seen_flow}
-use Rattle.nf_phase_def.specs.Restoring.{value_at_end}
 use Rattle.nf_resume_def.specs.Resuming as lists
-use Rattle.nf_resume_def.specs.Resuming.{links_with, cut_link}
-use Rattle.nf_resume_laws.proofs.CutFlow.{links_with-length}
-use Rattle.nf_resume.specs.declared.links.CutLink.{CutLink}
-use Rattle.nf_resume.specs.Cuts.{points_of_each, cut_in}
 use Rattle.nf_resume.proofs.Looping.{front_first, front_halts, front_goes, front_last}
 use Rattle.nf_resume.proofs.Ends.{link_cut}
 use Rattle.nf_resume.proofs.links.cut_links.Goals as goal

@@ -1,8 +1,5 @@
 use Rattle.std.proofs.Common.{map}
-use Rattle.nf_frac_def.specs.Passing.{passes_Q}
-use Rattle.nf_curve.specs.Flows.{seen_flow}
-use Rattle.nf_resume_def.specs.Resuming.{links_with, cut_link}
-use Rattle.nf_resume.specs.Cuts.{points_of_each, cut_in}
+use Rattle.nf_resume.proofs.Common.{passes_Q, seen_flow, links_with, cut_link, points_of_each, cut_in}
 use Rattle.nf_resume.proofs.Looping.{Front}
 use Rattle.nf_resume.proofs.links.cut_links.Given as goal
 

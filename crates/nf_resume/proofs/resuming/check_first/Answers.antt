@@ -1,9 +1,5 @@
 use Rattle.std.proofs.Common.{map, sym, subst, ◌∙◌}
-use Rattle.std.proofs.lemmas.List.{length-map}
-use Rattle.nf_frac_def.specs.Passing.{passes_Q}
-use Rattle.nf_curve.specs.Flows.{seen_trace}
-use Rattle.nf_report_read.specs.Files.{seen_report}
-use Rattle.nf_resume.specs.Faults.{IsCauseAtAnyHorizon}
+use Rattle.nf_resume.proofs.Common.{length-map, passes_Q, seen_trace, seen_report, IsCauseAtAnyHorizon}
 use Rattle.nf_resume.proofs.Resumed.{check_stops, said_yes, said_equilibrium, said_no}
 use Rattle.nf_resume.proofs.resuming.check_first.Goals as goal
 

@@ -1,21 +1,8 @@
-use Rattle.std.proofs.Common.{length, sym, ap, subst, ◌∙◌}
-use Rattle.std.specs.Prelude.{Result}
-use Rattle.std.proofs.lemmas.Result.{err_from_is_err_and}
-use Rattle.nf_rational.specs.Rational.{ℚ}
-use Rattle.nf_frac_def.specs.declared.PassedAt.{PassedAt}
+use Rattle.std.proofs.Common.{length, sym, ap, subst, ◌∙◌, Result}
+use Rattle.nf_resume.proofs.Common.{err_from_is_err_and, ℚ, PassedAt, Stops, passes_Q, Pattern, Flow, Standing, seen_flow, was_ok, cut_flow, cut_flow-is}
+use Rattle.nf_resume.proofs.Common.{seen_report, NoneFull}
 use Rattle.nf_frac_def.specs.declared.Part.TheVariants.{Curve as OfCurve}
-use Rattle.nf_frac_def.specs.Checked.{Stops}
-use Rattle.nf_frac_def.specs.Passing.{passes_Q}
-use Rattle.nf_model.specs.Pattern.{Pattern}
-use Rattle.nf_model.specs.Equilibrium.{Flow}
-use Rattle.nf_thin_def.specs.PhaseRun.{Standing}
-use Rattle.nf_curve.specs.Flows.{seen_flow}
-use Rattle.nf_curve.proofs.Exits.{was_ok}
-use Rattle.nf_resume_def.specs.Resuming.{cut_flow}
-use Rattle.nf_resume_laws.proofs.CutFlow.{cut_flow-is}
 use Rattle.nf_resume_laws.proofs.Restarted.{Equilibrium-cut_flow, IsShortFlow-cut_flow, EndsAtItsLabels-cut_flow}
-use Rattle.nf_report_read.specs.Files.{seen_report}
-use Rattle.nf_phase_def.specs.Restoring.{NoneFull}
 use Rattle.nf_resume.proofs.Resumed.{cut_stops, restored}
 use Rattle.nf_resume.proofs.resuming.restart.Goals as goal
 

@@ -1,11 +1,5 @@
 use Rattle.std.proofs.Common.{sym, subst}
-use Rattle.nf_rational.specs.Rational.{ℚ}
-use Rattle.nf_rational.specs.Order.{◌≤ℚ◌}
-use Rattle.std.proofs.lemmas.Result.{err_from_is_err_and}
-use Rattle.nf_frac_def.specs.Passing.{passes_Q}
-use Rattle.nf_report_read.specs.Files.{seen_report}
-use Rattle.nf_phase.specs.Solution.{bounds_of, solution_report}
-use Rattle.nf_resume.specs.Faults.{of_halt}
+use Rattle.nf_resume.proofs.Common.{ℚ, ◌≤ℚ◌, err_from_is_err_and, passes_Q, seen_report, bounds_of, solution_report, of_halt}
 use Rattle.nf_resume.proofs.Resumed.{in_time, restart_stops, is_resumed, went_on}
 use Rattle.nf_resume.proofs.resuming.resume.Goals as goal
 

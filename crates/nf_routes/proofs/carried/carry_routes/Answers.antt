@@ -1,16 +1,7 @@
-use Rattle.std.proofs.Common.{sym, ap, ◌∙◌}
-use Rattle.std.specs.Prelude.{Ok}
-use Rattle.std.proofs.lemmas.Result.{err_from_is_err_and}
-use Rattle.nf_frac_def.specs.declared.Part.TheVariants.{Load}
-use Rattle.nf_frac_def.specs.Passing.{passes_Q}
-use Rattle.nf_frac_def.specs.Checked.{at_part}
-use Rattle.nf_curve.proofs.Exits.{stops_on, was_ok, err_before, ok_before}
-use Rattle.nf_routes_def.specs.RoutesFile.{routes_of}
-use Rattle.nf_routes_def.specs.RoutesList.{routes_list}
-use Rattle.nf_routes_links.specs.declared.keeping.Kept.TheVariants.{Last}
-use Rattle.nf_routes.specs.KeptList.{kept_result, kept_list}
+use Rattle.std.proofs.Common.{sym, ap, ◌∙◌, Ok}
+use Rattle.nf_routes.proofs.Common.{err_from_is_err_and, Load, passes_Q, at_part, stops_on, was_ok, err_before, ok_before, routes_of, routes_list, Last}
+use Rattle.nf_routes.proofs.Common.{kept_result, kept_list, routed_of}
 use Rattle.nf_routes.specs.Carried.{entries_or}
-use Rattle.nf_routes.specs.Routed.{routed_of}
 use Rattle.nf_routes.proofs.Whole.{entries_in, with_all}
 use Rattle.nf_routes.proofs.carried.carry_routes.Goals as goal
 

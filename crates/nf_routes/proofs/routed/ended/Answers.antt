@@ -1,14 +1,7 @@
 use Rattle.std.proofs.Common.{◌≡◌, List, [], ◌∷◌, ◌++◌, length, map, Some, refl, sym, ap, ◌∙◌, arith}
+use Rattle.nf_routes.proofs.Common.{YieldsList-from_vec, YieldsList-turn, slice_get_read, err_from_is_err_and, ℚ, passes_Q, loaded_of, LoadedLink, end_or}
+use Rattle.nf_routes.proofs.Common.{loaded_or, same_pushed}
 use Rattle.std.proofs.lemmas.List.{map-append}
-use Rattle.std.proofs.lemmas.Iterator.Adapters.{YieldsList-from_vec}
-use Rattle.std.proofs.lemmas.Iterator.Consumers.{YieldsList-turn}
-use Rattle.std.proofs.lemmas.Option.{slice_get_read}
-use Rattle.std.proofs.lemmas.Result.{err_from_is_err_and}
-use Rattle.nf_rational.specs.Rational.{ℚ}
-use Rattle.nf_frac_def.specs.Passing.{passes_Q}
-use Rattle.nf_load.specs.Loadings.{loaded_of}
-use Rattle.nf_routes_def.specs.RoutesList.{LoadedLink, end_or, loaded_or}
-use Rattle.nf_routes_links.proofs.Lists.{same_pushed}
 use Rattle.nf_routes.proofs.routed.ended.Goals as goal
 
 pub loop-link-init : goal.loop-link-init

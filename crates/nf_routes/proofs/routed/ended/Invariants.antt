@@ -1,7 +1,5 @@
 use Rattle.std.proofs.Common.{◌≡◌, map}
-use Rattle.nf_frac_def.specs.Passing.{passes_Q}
-use Rattle.nf_load.specs.Loadings.{loaded_of}
-use Rattle.nf_routes_def.specs.RoutesList.{end_or, loaded_or}
+use Rattle.nf_routes.proofs.Common.{passes_Q, loaded_of, end_or, loaded_or}
 use Rattle.nf_routes.proofs.routed.ended.Given as goal
 
 abbrev pub invariant-loop-link : goal.invariant-loop-link

@@ -1,26 +1,14 @@
-use Rattle.std.proofs.Common.{◌≡◌, List, map, sym, ap, subst, ◌∙◌}
-use Rattle.std.specs.Prelude.{Ok}
-use Rattle.std.proofs.lemmas.Result.{err_from_is_err_and}
-use Rattle.nf_frac_def.specs.declared.Part.TheVariants.{Load}
-use Rattle.nf_frac_def.specs.Passing.{passes_Q}
-use Rattle.nf_frac_def.specs.Checked.{at_part, each, ◌>>=◌}
-use Rattle.nf_check_def.specs.Curves.{departures}
-use Rattle.nf_curve.proofs.Exits.{after_err, after_ok, stops_on}
+use Rattle.std.proofs.Common.{◌≡◌, List, map, sym, ap, subst, ◌∙◌, Ok}
+use Rattle.nf_routes.proofs.Common.{err_from_is_err_and, Load, passes_Q, at_part, each, ◌>>=◌, departures, after_err, after_ok, stops_on, loaded_of, Route}
+use Rattle.nf_routes.proofs.Common.{AreRoutes, HoldCircle, NamedRoute, routes_of, SoFar, loaded_or, routes_list, all_kept, HaveExits, GoOverAll}
+use Rattle.nf_routes.proofs.Common.{travel_along, complete_exits, complete_over, kept_result}
 use Rattle.nf_curve.specs.Points.{Grown}
-use Rattle.nf_load.specs.Loadings.{loaded_of}
 use Rattle.nf_load.specs.declared.loading.Loaded.{Loaded}
-use Rattle.nf_routes_def.specs.Routes.{Route, AreRoutes, HoldCircle}
-use Rattle.nf_routes_def.specs.RoutesFile.{NamedRoute, routes_of}
-use Rattle.nf_routes_def.specs.RoutesList.{SoFar, loaded_or, routes_list}
 use Rattle.nf_routes_laws.proofs.Arriving.{arrive}
 use Rattle.nf_routes_laws.proofs.Routed.{routes_list-is}
 use Rattle.nf_routes_laws.proofs.FileKept.{are_routes}
-use Rattle.nf_routes_links.specs.Keeping.{all_kept}
 use Rattle.nf_routes_links.specs.Standing.{seen_so_far}
-use Rattle.nf_routes_links.specs.Travels.{HaveExits, GoOverAll, travel_along}
-use Rattle.nf_routes_links.proofs.Travelling.{complete_exits, complete_over}
 use Rattle.nf_routes_links.proofs.All.{kept_stops, whole_of}
-use Rattle.nf_routes.specs.KeptList.{kept_result}
 use Rattle.nf_routes.proofs.Whole.{ended_as, load_stops, travel_stops, list_comes, same_parts, kept_ended, kept_links}
 use Rattle.nf_routes.proofs.routed.load_kept.Goals as goal
 

@@ -1,15 +1,7 @@
-use Rattle.std.proofs.Common.{subst, ap}
-use Rattle.std.specs.Prelude.{Result}
-use Rattle.nf_rational.specs.Rational.{ℚ}
-use Rattle.nf_frac_def.specs.declared.Part.TheVariants.{Load}
-use Rattle.nf_frac_def.specs.declared.PassedAt.{PassedAt}
-use Rattle.nf_frac_def.specs.Passing.{passes_Q}
-use Rattle.nf_frac_def.specs.Checked.{Gives, at_part}
+use Rattle.std.proofs.Common.{subst, ap, Result}
+use Rattle.nf_routes.proofs.Common.{ℚ, Load, PassedAt, passes_Q, Gives, at_part, routes_of, Routed, routes_list, routed_of}
 use Rattle.nf_frac_def.proofs.Binding.{bind_end}
 use Rattle.nf_routes_def.specs.Meanings.{IsRouted, RoutesArrive}
-use Rattle.nf_routes_def.specs.RoutesFile.{routes_of}
-use Rattle.nf_routes_def.specs.RoutesList.{Routed, routes_list}
-use Rattle.nf_routes.specs.Routed.{routed_of}
 use Rattle.nf_routes_links.proofs.Sharing.{gives_ok}
 use Rattle.nf_routes.proofs.routed.load_routes.Goals as goal
 

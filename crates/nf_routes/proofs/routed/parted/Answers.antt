@@ -1,11 +1,5 @@
 use Rattle.std.proofs.Common.{length, refl, arith}
-use Rattle.std.proofs.lemmas.Iterator.Adapters.{YieldsList-from_vec}
-use Rattle.std.proofs.lemmas.Iterator.Consumers.{YieldsList-turn}
-use Rattle.std.proofs.lemmas.Option.{slice_get_read}
-use Rattle.std.proofs.lemmas.Result.{err_from_is_err_and}
-use Rattle.nf_frac_def.specs.Passing.{passes_Q}
-use Rattle.nf_routes_def.specs.RoutesList.{last_entry, but_last}
-use Rattle.nf_routes_links.proofs.Lists.{same_pushed}
+use Rattle.nf_routes.proofs.Common.{YieldsList-from_vec, YieldsList-turn, slice_get_read, err_from_is_err_and, passes_Q, last_entry, but_last, same_pushed}
 use Rattle.nf_routes.proofs.routed.parted.Goals as goal
 
 pub returns-in_err-push-clause-entries : goal.returns-in_err-push-clause-entries

@@ -1,6 +1,5 @@
 use Rattle.std.proofs.Common.{◌≡◌, map}
-use Rattle.nf_frac_def.specs.Passing.{passes_Q}
-use Rattle.nf_routes_def.specs.RoutesList.{last_entry, but_last}
+use Rattle.nf_routes.proofs.Common.{passes_Q, last_entry, but_last}
 use Rattle.nf_routes.proofs.routed.parted.Given as goal
 
 abbrev pub invariant-loop-stages : goal.invariant-loop-stages

@@ -1,5 +1,5 @@
 use Rattle.std.proofs.Common.{List, sym, subst}
-use Rattle.nf_model.specs.Curve.{Point, IsCurve}
+use Rattle.nf_routes_links.proofs.Common.{Point, IsCurve}
 use Rattle.nf_routes_links.proofs.composing.copied.Goals as goal
 
 pub of_points-requires : goal.of_points-requires

@@ -1,6 +1,6 @@
 use Rattle.std.proofs.Common.{◌<◌, ℕ, List, length, map, refl, sym, ap, subst, ◌∙◌, Ok, Option, Result}
-use Rattle.nf_routes_links.proofs.Common.{slice_get_read, err_from_is_err_and, ℚ, Load, PassedAt, passes_Q, at_part, Gives, Point, departures, Grown, loaded_of}
-use Rattle.nf_routes_links.proofs.Common.{slice_get-image, NamedRoute, links_of, travel_along}
+use Rattle.nf_routes_links.proofs.Common.{slice_get_read, err_from_is_err_and, ℚ, Load, PassedAt, passes_Q, at_part, Gives, Point, departures, Grown}
+use Rattle.nf_routes_links.proofs.Common.{loaded_of, slice_get-image, NamedRoute, links_of, travel_along}
 use Rattle.nf_routes_links.proofs.composing.next_travel.Goals as goal
 
 pub travel-requires-clause-over : goal.travel-requires-clause-over

@@ -1,6 +1,6 @@
 use Rattle.std.proofs.Common.{◌≡◌, ◌<◌, ◌≤◌, ℕ, List, length, get_or, map, refl, sym, ap, subst, ◌∙◌, rules, arith, Some, Result, slice_get}
-use Rattle.nf_routes_links.proofs.Common.{length-map, slice_get-get_or, slice_get_read, err_from_is_err_and, ℚ, Load, PassedAt, passes_Q, at_part, Gives, Point}
-use Rattle.nf_routes_links.proofs.Common.{Grown, slice_get-image, loaded_of}
+use Rattle.nf_routes_links.proofs.Common.{length-map, slice_get-get_or, slice_get_read, err_from_is_err_and, ℚ, Load, PassedAt, passes_Q, at_part, Gives}
+use Rattle.nf_routes_links.proofs.Common.{Point, Grown, slice_get-image, loaded_of}
 use Rattle.nf_routes_links.proofs.Travelling.{travels_first, travels_last, travels_stop, travels_go}
 use Rattle.nf_routes_links.proofs.composing.travel.Goals as goal
 

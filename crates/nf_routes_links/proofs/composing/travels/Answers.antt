@@ -1,6 +1,6 @@
 use Rattle.std.proofs.Common.{◌≡◌, ◌≤◌, ℕ, List, [], ◌∷◌, length, map, sym, ap, subst, ◌∙◌, arith}
-use Rattle.nf_routes_links.proofs.Common.{length-map, map-append, err_from_is_err_and, Load, passes_Q, at_part, departures, Grown, loaded_of, entry, links_at}
-use Rattle.nf_routes_links.proofs.Common.{travel_along, AreTravels}
+use Rattle.nf_routes_links.proofs.Common.{length-map, map-append, err_from_is_err_and, Load, passes_Q, at_part, departures, Grown, loaded_of, entry}
+use Rattle.nf_routes_links.proofs.Common.{links_at, travel_along, AreTravels}
 use Rattle.nf_routes_links.proofs.Repeating.{AllTravels, travels_none, travels_stopped, travels_next, travels_all}
 use Rattle.nf_routes_links.proofs.composing.travels.Goals as goal
 

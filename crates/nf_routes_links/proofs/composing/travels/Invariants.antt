@@ -1,5 +1,5 @@
 use Rattle.std.proofs.Common.{map}
-use Rattle.nf_load.specs.Loadings.{loaded_of}
+use Rattle.nf_routes_links.proofs.Common.{loaded_of}
 use Rattle.nf_routes_links.proofs.Repeating.{AllTravels}
 use Rattle.nf_routes_links.proofs.composing.travels.Given as goal
 

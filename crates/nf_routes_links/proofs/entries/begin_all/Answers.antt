@@ -1,6 +1,6 @@
 use Rattle.std.proofs.Common.{◌<◌, length, get_or, refl, sym, subst, arith}
-use Rattle.nf_routes_links.proofs.Common.{slice_get-get_or, slice_get_read, err_from_is_err_and, ℚ, Load, passes_Q, Checked, Stops, at_part, slice_get-image}
-use Rattle.nf_routes_links.proofs.Common.{Route, NamedRoute, routes_of, begins_at, begin_if}
+use Rattle.nf_routes_links.proofs.Common.{slice_get-get_or, slice_get_read, err_from_is_err_and, ℚ, Load, passes_Q, Checked, Stops, at_part}
+use Rattle.nf_routes_links.proofs.Common.{slice_get-image, Route, NamedRoute, routes_of, begins_at, begin_if}
 use Rattle.nf_routes_links.proofs.Folds.{Sent, begin_all-is, steps_stop, steps_go}
 use Rattle.nf_routes_links.proofs.entries.begin_all.Goals as goal
 

@@ -1,5 +1,5 @@
 use Rattle.std.proofs.Common.{◌≡◌, ◌++◌, length, map, take, drop}
-use Rattle.nf_routes_links.specs.Keeping.{last_alone}
+use Rattle.nf_routes_links.proofs.Common.{last_alone}
 use Rattle.nf_routes_links.proofs.keeping.keep_last_all.Given as goal
 
 abbrev pub invariant-loop-i : goal.invariant-loop-i

@@ -1,8 +1,8 @@
 use Rattle.std.proofs.Common.{◌≡◌, List, [], ◌∷◌, length, set, sym, ap, subst, ◌∙◌, arith, ℕ, Option, Some, Result, Ok, slice_get}
-use Rattle.std.specs.Vec.{with_items}
 use Rattle.nf_routes_links.proofs.Common.{length-map, with_items_is, err_from_is_err_and, ℚ, 0ℚ, ◌≤ℚ◌, PassedAt, Load, passes_Q, Stops, at_part, Link}
-use Rattle.nf_routes_links.proofs.Common.{IsPositive-link, stops_on, Loaded, checked_loading, loaded_of, all_pairs, NamedRoute, routes_of, LoadedLink, SoFar}
-use Rattle.nf_routes_links.proofs.Common.{end_by, begin_all, sum_from, next_all, load_here, seen_so_far, ForEachRoute, MayBegin, Sends}
+use Rattle.nf_routes_links.proofs.Common.{IsPositive-link, stops_on, Loaded, checked_loading, loaded_of, all_pairs, NamedRoute, routes_of, LoadedLink}
+use Rattle.nf_routes_links.proofs.Common.{SoFar, end_by, begin_all, sum_from, next_all, load_here, seen_so_far, ForEachRoute, MayBegin, Sends}
+use Rattle.std.specs.Vec.{with_items}
 use Rattle.nf_routes_links.proofs.Folds.{Sent, along-count}
 use Rattle.nf_routes_links.proofs.Sound.{have_pieces}
 use Rattle.nf_routes_links.proofs.Here.{end_nn, all_send, inflow_is, exits_are, begin_stops, sum_stops, load_stops, send_stops, comes_to}

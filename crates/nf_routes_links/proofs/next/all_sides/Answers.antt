@@ -1,7 +1,6 @@
 use Rattle.std.proofs.Common.{◌≡◌, List, ◌∷◌, map, sym, ap, ◌∙◌}
 use Rattle.nf_routes_links.proofs.Common.{map_push, err_from_is_err_and, ℚ, passes_Q, Load, each, with_front, both_times, sides_at, sides_of, front_none}
-use Rattle.nf_routes_links.proofs.Common.{each_goes, each_stops, each_ends}
-use Rattle.nf_curve.specs.declared.lines.Sides.{Sides}
+use Rattle.nf_routes_links.proofs.Common.{each_goes, each_stops, each_ends, Sides}
 use Rattle.nf_curve.specs.Places.{times_after}
 use Rattle.nf_curve.proofs.Walking.{fewer_left}
 use Rattle.nf_routes_links.proofs.next.all_sides.Goals as goal

@@ -1,7 +1,6 @@
 use Rattle.std.proofs.Common.{◌≡◌, List, ◌∷◌, map, sym, ap, subst, ◌∙◌, Ok}
-use Rattle.nf_routes_links.proofs.Common.{err_from_is_err_and, ℚ, 0ℚ, Load, passes_Q, Stops, at_part, each, Point, IsCurve, checked_short, both_times, sides_at}
-use Rattle.nf_routes_links.proofs.Common.{sides_of, was_ok, stops_on, next_from, next_entry, IsAmountCurve, AreKnown, right_point}
-use Rattle.nf_curve.specs.declared.lines.Sides.{Sides}
+use Rattle.nf_routes_links.proofs.Common.{err_from_is_err_and, ℚ, 0ℚ, Load, passes_Q, Stops, at_part, each, Point, IsCurve, checked_short, both_times}
+use Rattle.nf_routes_links.proofs.Common.{sides_at, sides_of, was_ok, stops_on, next_from, next_entry, IsAmountCurve, AreKnown, right_point, Sides}
 use Rattle.nf_routes_laws.specs.Laws.{IsSentOn}
 use Rattle.nf_routes_laws.proofs.Next.{next_entry-is}
 use Rattle.nf_routes_links.proofs.Knowing.{known_next}

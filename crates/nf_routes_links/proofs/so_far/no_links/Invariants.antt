@@ -1,5 +1,5 @@
 use Rattle.std.proofs.Common.{◌≡◌, take}
-use Rattle.nf_routes_links.specs.Beginning.{nothing_loaded}
+use Rattle.nf_routes_links.proofs.Common.{nothing_loaded}
 use Rattle.nf_routes_links.proofs.so_far.no_links.Given as goal
 
 abbrev pub invariant-loop : goal.invariant-loop

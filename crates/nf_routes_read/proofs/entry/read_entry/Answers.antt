@@ -1,7 +1,5 @@
 use Rattle.std.proofs.Common.{length, Result, sym, subst, ◌∙◌}
-use Rattle.nf_routes_def.specs.declared.RoutesRule.{RoutesRule}
-use Rattle.nf_routes_def.specs.RoutesFile.{RoutesEntry, route_names}
-use Rattle.nf_routes_read.specs.Entries.{Says}
+use Rattle.nf_routes_read.proofs.Common.{RoutesRule, RoutesEntry, route_names, Says}
 use Rattle.nf_routes_read.proofs.RouteWords.{route_line_is, rate_line_is, end_line_is}
 use Rattle.nf_routes_read.proofs.entry.read_entry.Goals as goal
 

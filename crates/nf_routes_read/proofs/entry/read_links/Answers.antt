@@ -1,6 +1,5 @@
 use Rattle.std.proofs.Common.{◌<◌, ◌≤◌, ◌+◌, ℕ, List, length, refl, sym, ap, subst, ◌∙◌, arith}
-use Rattle.nf_net_def.specs.Names.{has_name}
-use Rattle.nf_side.specs.NameAt.{IsNameAt}
+use Rattle.nf_routes_read.proofs.Common.{has_name, IsNameAt}
 use Rattle.nf_routes_read.proofs.RouteLinks.{AreRead, all_read, none_there, one_more}
 use Rattle.nf_routes_read.proofs.entry.read_links.Goals as goal
 

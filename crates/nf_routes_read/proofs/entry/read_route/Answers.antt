@@ -1,5 +1,5 @@
 use Rattle.std.proofs.Common.{◌<◌, length, All, sym, ap, subst}
-use Rattle.nf_routes_def.specs.RoutesFile.{NamedRoute}
+use Rattle.nf_routes_read.proofs.Common.{NamedRoute}
 use Rattle.nf_routes_read.proofs.entry.read_route.Goals as goal
 
 pub returns-clause-fits : goal.returns-clause-fits

@@ -1,7 +1,6 @@
 use Rattle.std.proofs.Common.{List, ℕ, ◌+◌, [], sym, ap, subst, ◌∙◌, arith}
-use Rattle.std.specs.List.{range_with_len}
-use Rattle.nf_routes_def.specs.Routes.{all_pairs, first_free, order_from, loading_order}
-use Rattle.nf_routes_def.specs.RoutesFile.{routes_of}
+use Rattle.nf_routes_read.proofs.Common.{range_with_len, all_pairs, first_free, order_from, routes_of}
+use Rattle.nf_routes_def.specs.Routes.{loading_order}
 use Rattle.nf_routes_read.proofs.Taking.{Ordered, order_ends, order_goes, order_last}
 use Rattle.nf_routes_read.proofs.order.loading_order.Goals as goal
 

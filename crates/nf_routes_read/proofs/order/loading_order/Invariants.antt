@@ -1,6 +1,5 @@
 use Rattle.std.proofs.Common.{[]}
-use Rattle.nf_routes_def.specs.Routes.{all_pairs, order_from}
-use Rattle.nf_routes_def.specs.RoutesFile.{routes_of}
+use Rattle.nf_routes_read.proofs.Common.{all_pairs, order_from, routes_of}
 use Rattle.nf_routes_read.proofs.Taking.{Ordered}
 use Rattle.nf_routes_read.proofs.order.loading_order.Given as goal
 

@@ -1,6 +1,5 @@
 use Rattle.std.proofs.Common.{◌-◌, ◌<◌, ◌≤◌, length, refl, sym, ◌∙◌, arith}
-use Rattle.std.proofs.lemmas.Option.{slice_get_read}
-use Rattle.nf_rational_laws.proofs.Entries.{entry}
+use Rattle.nf_routes_read.proofs.Common.{slice_get_read, entry}
 use Rattle.nf_routes_read.proofs.Pairs.{pairs_end, pairs_taken, pairs_other}
 use Rattle.nf_routes_read.proofs.order.may_follow.Goals.{else-eq-via-then-eq+else-not-is_taken, else-eq-via-else-eq}
 use Rattle.nf_routes_read.proofs.order.may_follow.Goals as goal

@@ -1,6 +1,5 @@
 use Rattle.std.proofs.Common.{◌≡◌, ℕ, ◌-◌, ◌<◌, drop, not, ◌||◌, eqb}
-use Rattle.std.specs.List.{list_all}
-use Rattle.nf_routes_def.specs.Routes.{pairs_of, is_taken}
+use Rattle.nf_routes_read.proofs.Common.{list_all, pairs_of, is_taken}
 use Rattle.nf_routes_read.proofs.order.may_follow.Given as goal
 
 -- the pairs from the one before on are left to be tested

@@ -1,7 +1,5 @@
 use Rattle.std.proofs.Common.{◌≡◌, ℕ, drop, not, ◌||◌, eqb}
-use Rattle.std.specs.List.{list_all}
-use Rattle.nf_routes_def.specs.Routes.{all_pairs, is_taken}
-use Rattle.nf_routes_def.specs.RoutesFile.{routes_of}
+use Rattle.nf_routes_read.proofs.Common.{list_all, all_pairs, is_taken, routes_of}
 use Rattle.nf_routes_read.proofs.order.may_follow_all.Given as goal
 
 abbrev pub invariant-loop-route : goal.invariant-loop-route

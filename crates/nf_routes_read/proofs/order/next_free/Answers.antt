@@ -1,6 +1,5 @@
 use Rattle.std.proofs.Common.{sym, ◌∙◌, arith}
-use Rattle.nf_routes_def.specs.Routes.{all_pairs}
-use Rattle.nf_routes_def.specs.RoutesFile.{routes_of}
+use Rattle.nf_routes_read.proofs.Common.{all_pairs, routes_of}
 use Rattle.nf_routes_read.proofs.Taking.{free-on}
 use Rattle.nf_routes_read.proofs.order.next_free.Goals as goal
 

@@ -1,7 +1,5 @@
 use Rattle.std.proofs.Common.{◌≡◌, ◌-◌}
-use Rattle.std.specs.List.{range_with_len}
-use Rattle.nf_routes_def.specs.Routes.{all_pairs, first_free}
-use Rattle.nf_routes_def.specs.RoutesFile.{routes_of}
+use Rattle.nf_routes_read.proofs.Common.{range_with_len, all_pairs, first_free, routes_of}
 use Rattle.nf_routes_read.proofs.order.next_free.Given as goal
 
 abbrev pub invariant-loop-number : goal.invariant-loop-number

@@ -1,6 +1,6 @@
 use Rattle.std.proofs.Common.{List, ℕ, sym, ap, ◌∙◌, arith}
-use Rattle.std.specs.List.{list_all, range_with_len}
-use Rattle.nf_routes_def.specs.Routes.{is_taken, takes_all}
+use Rattle.nf_routes_read.proofs.Common.{list_all, range_with_len, is_taken}
+use Rattle.nf_routes_def.specs.Routes.{takes_all}
 use Rattle.nf_routes_read.proofs.Taking.{all-on, all-off, all-end}
 use Rattle.nf_routes_read.proofs.order.takes_all.Goals as goal
 

@@ -1,6 +1,5 @@
 use Rattle.std.proofs.Common.{◌≡◌, ℕ, ◌-◌}
-use Rattle.std.specs.List.{list_all, range_with_len}
-use Rattle.nf_routes_def.specs.Routes.{is_taken}
+use Rattle.nf_routes_read.proofs.Common.{list_all, range_with_len, is_taken}
 use Rattle.nf_routes_read.proofs.order.takes_all.Given as goal
 
 abbrev pub invariant-loop-number : goal.invariant-loop-number

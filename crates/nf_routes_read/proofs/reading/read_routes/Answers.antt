@@ -1,9 +1,7 @@
 use Rattle.std.proofs.Common.{Ok, Err, ◌∙◌}
+use Rattle.nf_routes_read.proofs.Common.{◌>>=◌, broken_more, same_read, drafted_lines, routes_ended, routes_frame, unless_circle, routes_in}
 use Rattle.std.proofs.lemmas.Result.{err_from_is_err_and}
-use Rattle.nf_frac_def.specs.Checked.{◌>>=◌}
 use Rattle.nf_text_def.specs.Words.{read_lines, content_lines}
-use Rattle.nf_side.proofs.Frame.{broken_more, same_read, drafted_lines}
-use Rattle.nf_routes_def.specs.RoutesFile.{routes_ended, routes_frame, unless_circle, routes_in}
 use Rattle.nf_routes_laws.proofs.FileKept.{draft_sound}
 use Rattle.nf_routes_read.proofs.RoutesRead.{routes_read}
 use Rattle.nf_routes_read.proofs.reading.read_routes.Goals as goal

@@ -1,6 +1,5 @@
 use Rattle.std.proofs.Common.{rules, sym, ap, ◌∙◌}
-use Rattle.std.proofs.lemmas.List.{drop_all}
-use Rattle.nf_model.specs.Network.{Link}
+use Rattle.nf_routes_read.proofs.Common.{drop_all, Link}
 use Rattle.nf_routes_read.proofs.RouteLinks.{walk_goes, walk_breaks}
 use Rattle.nf_routes_read.proofs.walk.is_walk.Goals as goal
 

@@ -1,5 +1,5 @@
 use Rattle.std.proofs.Common.{◌≡◌, drop}
-use Rattle.nf_routes_def.specs.RoutesFile.{is_walk}
+use Rattle.nf_routes_read.proofs.Common.{is_walk}
 use Rattle.nf_routes_read.proofs.walk.is_walk.Given as goal
 
 abbrev pub invariant-loop-link : goal.invariant-loop-link

@@ -1,6 +1,5 @@
 use Rattle.std.proofs.Common.{◌≡◌, ◌++◌, length, map}
-use Rattle.nf_text_def.specs.Words.{read_line, read_lines, content_lines}
-use Rattle.nf_text_def.specs.Faults.{first_fault, first_fault_of}
+use Rattle.nf_text.proofs.Common.{read_line, read_lines, content_lines, first_fault, first_fault_of}
 use Rattle.nf_text.proofs.content.contents.Given as goal
 
 abbrev pub invariant-loop-line : goal.invariant-loop-line

@@ -1,5 +1,5 @@
 use Rattle.std.proofs.Common.{◌≡◌, ◌==◌, ◌≤◌, ◌+◌, ◌-◌, length, drop}
-use Rattle.std.specs.List.{position_or_len}
+use Rattle.nf_text.proofs.Common.{position_or_len}
 use Rattle.nf_text.proofs.places.far_place_of.Given as goal
 
 abbrev pub invariant-loop-at : goal.invariant-loop-at

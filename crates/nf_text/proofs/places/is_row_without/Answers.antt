@@ -1,6 +1,5 @@
-use Rattle.std.proofs.Common.{◌≡◌, ◌==◌, ◌+◌, ◌-◌, take, drop, arith, sym, ap, ◌∙◌}
-use Rattle.std.specs.Prelude.{not}
-use Rattle.std.specs.List.{list_all}
+use Rattle.std.proofs.Common.{◌≡◌, ◌==◌, ◌+◌, ◌-◌, take, drop, arith, sym, ap, ◌∙◌, not}
+use Rattle.nf_text.proofs.Common.{list_all}
 use Rattle.nf_text.proofs.places.is_row_without.Goals as goal
 
 pub returns : goal.returns

@@ -1,7 +1,5 @@
-use Rattle.std.proofs.Common.{◌&&◌, ◌==◌, sym, ap, ◌∙◌, take}
-use Rattle.std.specs.Prelude.{not}
-use Rattle.std.specs.List.{list_all}
-use Rattle.std.proofs.lemmas.List.Folds.{list_all_more}
+use Rattle.std.proofs.Common.{◌&&◌, ◌==◌, sym, ap, ◌∙◌, take, not}
+use Rattle.nf_text.proofs.Common.{list_all, list_all_more}
 use Rattle.nf_text.proofs.places.is_without.Goals as goal
 
 pub loop-byte-preserved : goal.loop-byte-preserved

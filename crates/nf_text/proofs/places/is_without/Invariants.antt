@@ -1,6 +1,5 @@
-use Rattle.std.proofs.Common.{◌≡◌, ◌==◌, take}
-use Rattle.std.specs.Prelude.{not}
-use Rattle.std.specs.List.{list_all}
+use Rattle.std.proofs.Common.{◌≡◌, ◌==◌, take, not}
+use Rattle.nf_text.proofs.Common.{list_all}
 use Rattle.nf_text.proofs.places.is_without.Given as goal
 
 abbrev pub invariant-loop-byte : goal.invariant-loop-byte

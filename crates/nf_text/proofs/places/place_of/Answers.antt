@@ -1,7 +1,6 @@
-use Rattle.std.proofs.Common.{◌==◌}
+use Rattle.std.proofs.Common.{◌==◌, arith, eq-eqb, refl}
 use Rattle.nf_text.proofs.Positions.{first_there, none_there}
 use Rattle.nf_text.proofs.places.place_of.Goals as goal
-use Rattle.std.proofs.Common.{arith, eq-eqb, refl}
 
 pub returns-then-byte-wanted-clause-place : goal.returns-then-byte-wanted-clause-place
 returns-then-byte-wanted-clause-place c =

@@ -1,7 +1,7 @@
-use Rattle.nf_text_def.specs.Words.{is_blank}
+use Rattle.std.proofs.Common.{arith, refl, sym, ◌∙◌}
+use Rattle.nf_text.proofs.Common.{is_blank}
 use Rattle.nf_text.proofs.Positions.{first_there, none_there}
 use Rattle.nf_text.proofs.places.word_len.Goals as goal
-use Rattle.std.proofs.Common.{arith, refl, sym, ◌∙◌}
 
 pub returns-then-is_gap-clause-place : goal.returns-then-is_gap-clause-place
 returns-then-is_gap-clause-place c =

@@ -1,5 +1,5 @@
 use Rattle.std.proofs.Common.{◌≡◌, ◌<◌, ℕ, false, get_or}
-use Rattle.nf_text_def.specs.Words.{is_blank}
+use Rattle.nf_text.proofs.Common.{is_blank}
 use Rattle.nf_text.proofs.places.word_len.Given as goal
 
 abbrev pub invariant-loop-place : goal.invariant-loop-place

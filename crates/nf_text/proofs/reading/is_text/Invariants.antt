@@ -1,6 +1,5 @@
 use Rattle.std.proofs.Common.{◌≡◌, take}
-use Rattle.std.specs.List.{list_all}
-use Rattle.nf_text_def.specs.Faults.{is_allowed}
+use Rattle.nf_text.proofs.Common.{list_all, is_allowed}
 use Rattle.nf_text.proofs.reading.is_text.Given as goal
 
 abbrev pub invariant-loop-byte : goal.invariant-loop-byte

@@ -1,11 +1,5 @@
 use Rattle.std.proofs.Common.{arith, ◌+◌, ◌-◌, ◌≤◌, ◌∙◌, ℕ, List, sym, ap, subst, length, length-drop, take, drop, map}
-use Rattle.std.specs.Str.{bytes_eq}
-use Rattle.nf_text_def.specs.Faults.{fault_of}
-use Rattle.nf_text_def.specs.Words.{line_of_words}
-use Rattle.std.proofs.lemmas.List.{take_rest}
-use Rattle.std.proofs.lemmas.Result.{err_from_is_err_and}
-use Rattle.nf_text.specs.Spans.{text_of}
-use Rattle.nf_text.specs.Reading.{bytes_len, whole_len, MatchesFault}
+use Rattle.nf_text.proofs.Common.{bytes_eq, fault_of, line_of_words, take_rest, err_from_is_err_and, text_of, bytes_len, whole_len, MatchesFault}
 use Rattle.nf_text.proofs.Parts.{Rise_within, Rise_higher}
 use Rattle.nf_text.proofs.Extents.{line_bytes, next_after, next_within}
 use Rattle.nf_text.proofs.LineWords.{words_of_line, line_is_read, comment_within}

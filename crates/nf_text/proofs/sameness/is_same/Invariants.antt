@@ -1,5 +1,5 @@
 use Rattle.std.proofs.Common.{◌≡◌, drop}
-use Rattle.std.specs.Str.{bytes_eq}
+use Rattle.nf_text.proofs.Common.{bytes_eq}
 use Rattle.nf_text.proofs.sameness.is_same.Given as goal
 
 abbrev pub invariant-loop-place : goal.invariant-loop-place

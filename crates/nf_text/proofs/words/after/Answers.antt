@@ -1,5 +1,5 @@
 use Rattle.std.proofs.Common.{sym, ◌∙◌, ap, ◌+◌}
-use Rattle.nf_text.specs.Spans.{text_of, between}
+use Rattle.nf_text.proofs.Common.{text_of, between}
 use Rattle.nf_text.proofs.Plain.{begins, begins_not, text_of-length}
 use Rattle.nf_text.proofs.words.after.Goals as goal
 

@@ -1,9 +1,6 @@
 use Rattle.std.proofs.Common.{◌<◌, ◌≤◌, ◌∙◌, sym, arith, length, map, get_or}
-use Rattle.std.specs.Str.{bytes_eq}
-use Rattle.std.proofs.lemmas.List.{length-map}
+use Rattle.nf_text.proofs.Common.{bytes_eq, length-map, line_of_words, text_of, between}
 use Rattle.std.proofs.Math.ListN.{get_or-map}
-use Rattle.nf_text_def.specs.Words.{line_of_words}
-use Rattle.nf_text.specs.Spans.{text_of, between}
 use Rattle.nf_text.proofs.Plain.{plain_step, plain_stop, plain_end}
 use Rattle.nf_text.proofs.words.is_plain.Goals as goal
 

@@ -1,6 +1,5 @@
 use Rattle.std.proofs.Common.{◌≡◌, ◌≤◌, ◌++◌, [], ◌∷◌, map}
-use Rattle.std.specs.Str.{bytes_eq}
-use Rattle.nf_text.specs.Spans.{text_of, between}
+use Rattle.nf_text.proofs.Common.{bytes_eq, text_of, between}
 use Rattle.nf_text.proofs.Plain.{words_left}
 use Rattle.nf_text.proofs.words.is_plain.Given as goal
 

@@ -1,5 +1,5 @@
 use Rattle.std.proofs.Common.{◌-◌, ◌≡◌, ◌≤◌, ◌++◌, map, min}
-use Rattle.nf_text.specs.Spans.{text_of, Rise}
+use Rattle.nf_text.proofs.Common.{text_of, Rise}
 use Rattle.nf_text.proofs.Parts.{words_between}
 use Rattle.nf_text.proofs.words.spans.Given as goal
 

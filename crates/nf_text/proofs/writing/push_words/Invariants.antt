@@ -1,5 +1,4 @@
-use Rattle.std.proofs.Common.{◌≡◌, ◌∷◌, ◌++◌, drop}
-use Rattle.std.specs.Prelude.{flat_map}
+use Rattle.std.proofs.Common.{◌≡◌, ◌∷◌, ◌++◌, drop, flat_map}
 use Rattle.nf_text.proofs.writing.push_words.Given as goal
 
 abbrev pub invariant-loop-word : goal.invariant-loop-word

@@ -1,5 +1,4 @@
-use Rattle.std.proofs.Common.{◌≡◌}
-use Rattle.std.specs.Prelude.{take}
+use Rattle.std.proofs.Common.{◌≡◌, take}
 use Rattle.nf_thin.proofs.cycles.active_flags.Given as goal
 
 -- the flags of the links so far

@@ -1,6 +1,5 @@
 use Rattle.std.proofs.Common.{List, Bool, length, sym, ap, ◌∙◌}
-use Rattle.nf_model.specs.Walk.{Hop}
-use Rattle.nf_graph.proofs.NetworkHops.{hops_length, below_nodes}
+use Rattle.nf_thin.proofs.Common.{Hop, hops_length, below_nodes}
 use Rattle.nf_net.proofs.Limits.{few_hops}
 use Rattle.nf_thin.proofs.NoCycle.{ordered_round}
 use Rattle.nf_thin.proofs.cycles.hold_no_cycle.Goals as goal

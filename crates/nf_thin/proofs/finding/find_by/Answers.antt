@@ -1,8 +1,5 @@
 use Rattle.std.proofs.Common.{List, length, ap, ◌∙◌}
-use Rattle.nf_rational.specs.Rational.{ℚ}
-use Rattle.nf_frac_def.specs.Passing.{passes_Q}
-use Rattle.nf_thin_laws.specs.Forcing.{forced_by}
-use Rattle.nf_thin_rank.proofs.Posed.{posed_question}
+use Rattle.nf_thin.proofs.Common.{ℚ, passes_Q, forced_by, posed_question}
 use Rattle.nf_thin.proofs.FoundBy.{forcing_by, allowed_by, by_result}
 use Rattle.nf_thin.proofs.finding.find_by.Goals as goal
 

@@ -1,8 +1,6 @@
-use Rattle.std.proofs.Common.{subst}
-use Rattle.std.specs.Prelude.{Option, IfSome}
-use Rattle.nf_frac_def.specs.Passing.{passes_Q}
+use Rattle.std.proofs.Common.{subst, Option, IfSome}
+use Rattle.nf_thin.proofs.Common.{passes_Q, Guides}
 use Rattle.nf_thin.specs.declared.sifting.Guide.{Guide}
-use Rattle.nf_thin.specs.Sifting.{Guides}
 use Rattle.nf_thin.proofs.finding.find_by_slopes.Goals as goal
 
 pub find_by-requires-clause-guide : goal.find_by-requires-clause-guide

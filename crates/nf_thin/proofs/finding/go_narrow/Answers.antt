@@ -1,4 +1,4 @@
-use Rattle.std.proofs.lemmas.Result.{err_from_is_err_and}
+use Rattle.nf_thin.proofs.Common.{err_from_is_err_and}
 use Rattle.nf_thin.proofs.finding.go_narrow.Goals as goal
 
 pub returns-in_err-whole : goal.returns-in_err-whole

@@ -1,7 +1,5 @@
-use Rattle.std.proofs.Common.{subst}
-use Rattle.std.specs.Prelude.{Option, IfSome}
-use Rattle.nf_model.specs.Pattern.{Pattern, IsListedIn}
-use Rattle.nf_thin_rank.proofs.Posed.{posed_pattern}
+use Rattle.std.proofs.Common.{subst, Option, IfSome}
+use Rattle.nf_thin.proofs.Common.{Pattern, IsListedIn, posed_pattern}
 use Rattle.nf_thin.proofs.finding.guide_from_base.Goals as goal
 
 pub guide_of-requires-clause-first : goal.guide_of-requires-clause-first

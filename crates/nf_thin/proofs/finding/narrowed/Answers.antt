@@ -1,7 +1,5 @@
 use Rattle.std.proofs.Common.{List, Bool, length, ◌∙◌, ap, sym, subst}
-use Rattle.nf_model.specs.Pattern.{IsPattern}
-use Rattle.nf_thin_laws.specs.Forcing.{IsForcing}
-use Rattle.nf_graph.proofs.NetworkHops.{unbounded_length, below_nodes}
+use Rattle.nf_thin.proofs.Common.{IsPattern, IsForcing, unbounded_length, below_nodes}
 use Rattle.nf_thin.proofs.finding.narrowed.Goals as goal
 
 pub narrow_listing-requires-clause-ends : goal.narrow_listing-requires-clause-ends

@@ -1,17 +1,11 @@
-use Rattle.std.proofs.Common.{List, length, true, false, refl, sym, ap, subst, ◌∙◌, arith}
-use Rattle.std.specs.Prelude.{Option, Some, None, option_copied, Ok, Err}
-use Rattle.std.proofs.lemmas.Option.{none-some}
-use Rattle.std.proofs.lemmas.Result.{err_from_is_err_and}
-use Rattle.nf_frac_def.specs.Passing.{passes_Q}
+use Rattle.std.proofs.Common.{List, length, true, false, refl, sym, ap, subst, ◌∙◌, arith, Option, Some, None, option_copied, Ok, Err}
+use Rattle.nf_thin.proofs.Common.{none-some, err_from_is_err_and, passes_Q, Pattern, IsListedIn, Given, Enumerates, StandsWithin, SiftsNext, TellsStanding}
+use Rattle.nf_thin.proofs.Common.{IsInStep, StaysBehind}
 use Rattle.nf_model.specs.declared.State.{State}
-use Rattle.nf_model.specs.Pattern.{Pattern, IsListedIn}
-use Rattle.nf_pattern.specs.Given.{Given, Enumerates}
-use Rattle.nf_thin_narrow.specs.Asking.{StandsWithin}
 use Rattle.nf_thin_rank.specs.declared.standing.Standing.{Standing}
 use Rattle.nf_thin_rank.specs.Posing.{question_in}
-use Rattle.nf_thin.specs.Sifting.{SiftsNext}
-use Rattle.nf_thin_rank.specs.Keeping.{TellsStanding, IsInStep, StaysBehind}
-use Rattle.nf_thin.proofs.Narrowing.{none_yet, whole_listed, part_count, whole_count, next_later, next_kept, narrow_found, narrow_beyond, narrow_failed, narrow_on}
+use Rattle.nf_thin.proofs.Narrowing.{none_yet, whole_listed, part_count, whole_count, next_later, next_kept, narrow_found, narrow_beyond, narrow_failed}
+use Rattle.nf_thin.proofs.Narrowing.{narrow_on}
 use Rattle.nf_thin.proofs.finding.try_narrow.Goals as goal
 
 pub loop-part-init : goal.loop-part-init

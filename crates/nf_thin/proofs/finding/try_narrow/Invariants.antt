@@ -1,5 +1,5 @@
 use Rattle.std.proofs.Common.{◌≡◌, ◌≤◌, ◌-◌, length}
-use Rattle.nf_frac_def.specs.Passing.{passes_Q}
+use Rattle.nf_thin.proofs.Common.{passes_Q}
 use Rattle.nf_thin.proofs.Narrowing.{NarrowVainly, KeepsUp}
 use Rattle.nf_thin.proofs.finding.try_narrow.Given as goal
 

@@ -1,5 +1,5 @@
-use Rattle.std.specs.Prelude.{Ok}
-use Rattle.nf_frac_def.specs.Passing.{passes_Q}
+use Rattle.std.proofs.Common.{Ok}
+use Rattle.nf_thin.proofs.Common.{passes_Q}
 use Rattle.nf_thin_one.proofs.Outcomes.{values_count, tried_values}
 use Rattle.nf_thin.proofs.LedSlopes.{judged_known, judged_thin}
 use Rattle.nf_thin.proofs.known.known_by.Goals as goal

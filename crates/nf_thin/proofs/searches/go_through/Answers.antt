@@ -1,9 +1,5 @@
-use Rattle.std.proofs.Common.{refl, subst}
-use Rattle.std.specs.Prelude.{option_copied, Ok}
-use Rattle.std.proofs.lemmas.Result.{err_from_is_err_and}
-use Rattle.nf_frac_def.specs.Passing.{passes_Q}
-use Rattle.nf_pattern.specs.Given.{Enumerates}
-use Rattle.nf_thin.specs.Searching.{TriesNext}
+use Rattle.std.proofs.Common.{refl, subst, option_copied, Ok}
+use Rattle.nf_thin.proofs.Common.{err_from_is_err_and, passes_Q, Enumerates, TriesNext}
 use Rattle.nf_thin.proofs.Looping.{fewer_left, loop_starts, loop_pattern, loop_finds, loop_fails, loop_goes_on, loop_ends}
 use Rattle.nf_thin.proofs.searches.go_through.Goals as goal
 

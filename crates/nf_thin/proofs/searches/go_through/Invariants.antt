@@ -1,5 +1,5 @@
 use Rattle.std.proofs.Common.{◌-◌}
-use Rattle.nf_frac_def.specs.Passing.{passes_Q}
+use Rattle.nf_thin.proofs.Common.{passes_Q}
 use Rattle.nf_thin.proofs.Looping.{InLoop}
 use Rattle.nf_thin.proofs.searches.go_through.Given as goal
 

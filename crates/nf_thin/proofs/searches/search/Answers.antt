@@ -1,5 +1,5 @@
 use Rattle.std.proofs.Common.{arith}
-use Rattle.nf_frac_def.specs.Passing.{passes_Q}
+use Rattle.nf_thin.proofs.Common.{passes_Q}
 use Rattle.nf_thin.proofs.FoundThin.{found_is_thin, found_is_only}
 use Rattle.nf_thin.proofs.searches.search.Goals as goal
 

@@ -1,13 +1,7 @@
-use Rattle.std.proofs.Common.{List, length, subst, ap, ◌∙◌}
-use Rattle.std.specs.Prelude.{Option, IfSome}
-use Rattle.nf_rational.specs.Rational.{ℚ}
-use Rattle.nf_frac_def.specs.Passing.{passes_Q}
+use Rattle.std.proofs.Common.{List, length, subst, ap, ◌∙◌, Option, IfSome}
+use Rattle.nf_thin.proofs.Common.{ℚ, passes_Q, ThinFlow, AreThinSlopes, IsKnown, IsScaled}
 use Rattle.nf_thin_guess.specs.declared.guessing.SolvedPattern.{SolvedPattern}
 use Rattle.nf_thin_guess.specs.Guessing.{IsSolved}
-use Rattle.nf_thin_one.specs.declared.thin.ThinFlow.{ThinFlow}
-use Rattle.nf_thin.specs.Slopes.{AreThinSlopes}
-use Rattle.nf_thin.specs.Knowing.{IsKnown}
-use Rattle.nf_thin_balance.specs.Scaled.{IsScaled}
 use Rattle.nf_thin.proofs.Refusing.{slopes_of_listed}
 use Rattle.nf_thin.proofs.sifting.guide_of.Goals as goal
 

@@ -1,8 +1,6 @@
 use Rattle.std.proofs.Common.{sym, ◌∙◌, add-one, arith}
-use Rattle.std.proofs.lemmas.Option.{none-some}
-use Rattle.nf_frac_def.specs.Passing.{passes_Q}
+use Rattle.nf_thin.proofs.Common.{none-some, passes_Q, posed_pattern}
 use Rattle.nf_thin.proofs.FoundThin.{found_known}
-use Rattle.nf_thin_rank.proofs.Posed.{posed_pattern}
 use Rattle.nf_thin.proofs.Refusing.{scaled_at, tried_counts}
 use Rattle.nf_thin.proofs.sifting.sift_next.Goals as goal
 

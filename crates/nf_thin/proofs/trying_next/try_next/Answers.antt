@@ -1,8 +1,5 @@
-use Rattle.std.proofs.Common.{◌≡◌, ℕ, suc, ◌+◌, refl, ◌∙◌, ap, subst, add-one, arith, inr}
-use Rattle.std.specs.Prelude.{Err}
-use Rattle.nf_frac_def.specs.Passing.{passes_Q}
-use Rattle.nf_thin_one.specs.Trying.{TriesOne}
-use Rattle.nf_thin.specs.FirstPassing.{or_first}
+use Rattle.std.proofs.Common.{◌≡◌, ℕ, suc, ◌+◌, refl, ◌∙◌, ap, subst, add-one, arith, inr, Err}
+use Rattle.nf_thin.proofs.Common.{passes_Q, TriesOne, or_first}
 use Rattle.nf_thin.proofs.Searched.{passing_not_accepted, tried}
 use Rattle.nf_thin.proofs.trying_next.try_next.Goals as goal
 

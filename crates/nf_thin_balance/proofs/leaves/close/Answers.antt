@@ -1,13 +1,5 @@
-use Rattle.std.proofs.Common.{◌≡◌, ◌<◌, List, length, refl, sym, ap, subst, ◌∙◌, arith}
-use Rattle.std.specs.Prelude.{slice_get, slice_set, Some}
-use Rattle.std.proofs.lemmas.List.{length-map}
-use Rattle.nf_rational.specs.Operations.{0ℚ}
-use Rattle.nf_model.specs.Walk.{Hop}
-use Rattle.nf_model.specs.Network.{hop_of}
-use Rattle.nf_thin_balance.specs.declared.ranges.Range.{Range}
-use Rattle.nf_thin_narrow.proofs.Entries.{length_set}
-use Rattle.nf_thin_balance.specs.Ranges.{IsInRange}
-use Rattle.nf_thin_balance.specs.Conserving.{AreFlowsWithin, needed_at}
+use Rattle.std.proofs.Common.{◌≡◌, ◌<◌, List, length, refl, sym, ap, subst, ◌∙◌, arith, slice_get, slice_set, Some}
+use Rattle.nf_thin_balance.proofs.Common.{length-map, 0ℚ, Hop, hop_of, Range, length_set, IsInRange, AreFlowsWithin, needed_at}
 use Rattle.nf_thin_balance.proofs.Conserving.{link_read, end_test}
 use Rattle.nf_thin_balance.proofs.Closing.{but, needs_link, within_but, within_again}
 use Rattle.nf_thin_balance.proofs.leaves.close.Goals as goal

@@ -1,6 +1,5 @@
-use Rattle.std.proofs.Common.{ℕ, ◌<◌, length, refl, sym, subst, ◌∙◌}
-use Rattle.std.proofs.lemmas.Bool.{true≢false}
-use Rattle.std.specs.Prelude.{Option, IfSome}
+use Rattle.std.proofs.Common.{ℕ, ◌<◌, length, refl, sym, subst, ◌∙◌, Option, IfSome}
+use Rattle.nf_thin_balance.proofs.Common.{true≢false}
 use Rattle.nf_thin_balance.proofs.leaves.close_from.Goals as goal
 
 pub loop-init : goal.loop-init

@@ -1,8 +1,5 @@
 use Rattle.std.proofs.Common.{List, length, sym, ap, subst, ◌∙◌}
-use Rattle.std.proofs.lemmas.Bool.{true≢false}
-use Rattle.std.proofs.lemmas.Option.{none-some}
-use Rattle.nf_thin_balance.specs.declared.ranges.Range.{Range}
-use Rattle.nf_thin_balance.specs.Conserving.{AreFlowsWithin}
+use Rattle.nf_thin_balance.proofs.Common.{true≢false, none-some, Range, AreFlowsWithin}
 use Rattle.nf_thin_balance.proofs.leaves.comes_out.Goals as goal
 
 pub loop-v-init : goal.loop-v-init

@@ -1,6 +1,5 @@
 use Rattle.std.proofs.Common.{◌≡◌, ℕ, length}
-use Rattle.nf_rational.specs.Rational.{ℚ}
-use Rattle.nf_thin_balance.specs.Conserving.{AreFlowsWithin, IsConserved}
+use Rattle.nf_thin_balance.proofs.Common.{ℚ, AreFlowsWithin, IsConserved}
 use Rattle.nf_thin_balance.proofs.leaves.comes_out.Given as goal
 
 -- Each possible flow is within the ranges so far.

@@ -1,7 +1,5 @@
-use Rattle.std.proofs.Common.{◌≡◌, Bool, subst}
-use Rattle.std.specs.Prelude.{MatchBool}
-use Rattle.nf_rational.specs.Operations.{◌+ℚ◌, ◌-ℚ◌}
-use Rattle.nf_thin_balance.specs.Ranges.{IsInRange}
+use Rattle.std.proofs.Common.{◌≡◌, Bool, subst, MatchBool}
+use Rattle.nf_thin_balance.proofs.Common.{◌+ℚ◌, ◌-ℚ◌, IsInRange}
 use Rattle.nf_thin_balance.proofs.Closing.{left_leaving, left_entering}
 use Rattle.nf_thin_balance.proofs.leaves.left_for.Goals as goal
 

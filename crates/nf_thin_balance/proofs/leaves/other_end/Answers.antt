@@ -1,7 +1,5 @@
 use Rattle.std.proofs.Common.{◌≡◌, ◌<◌, ℕ, List, length, sym, ap, subst, ◌∙◌, arith}
-use Rattle.std.proofs.lemmas.List.{length-map}
-use Rattle.nf_model.specs.Walk.{Hop}
-use Rattle.nf_model.specs.Network.{hop_of}
+use Rattle.nf_thin_balance.proofs.Common.{length-map, Hop, hop_of}
 use Rattle.nf_thin_balance.proofs.Conserving.{link_read}
 use Rattle.nf_thin_balance.proofs.leaves.other_end.Goals as goal
 

@@ -1,7 +1,5 @@
-use Rattle.std.proofs.Common.{◌≡◌, ℕ, ◌<◌, length, refl, sym, ap, ◌∙◌, arith}
-use Rattle.std.specs.Prelude.{slice_set}
-use Rattle.std.proofs.lemmas.Option.{slice_get_read}
-use Rattle.nf_model.specs.Walk.{Hop}
+use Rattle.std.proofs.Common.{◌≡◌, ℕ, ◌<◌, length, refl, sym, ap, ◌∙◌, arith, slice_set}
+use Rattle.nf_thin_balance.proofs.Common.{slice_get_read, Hop}
 use Rattle.nf_thin_balance.proofs.Conserving.{link_read}
 use Rattle.nf_thin_balance.proofs.LinksAt.{one_added}
 use Rattle.nf_thin_balance.proofs.links_at.add_first.Goals as goal

@@ -1,7 +1,5 @@
 use Rattle.std.proofs.Common.{◌≡◌, List, length, ap, ◌∙◌, arith}
-use Rattle.std.proofs.lemmas.List.{length-map}
-use Rattle.nf_model.specs.Walk.{Hop}
-use Rattle.nf_model.specs.Network.{hop_of}
+use Rattle.nf_thin_balance.proofs.Common.{length-map, Hop, hop_of}
 use Rattle.nf_thin_balance.proofs.Conserving.{link_read, end_test, bounds_still, bounds_idle, bounds_sum, bounds_difference}
 use Rattle.nf_thin_balance.proofs.node_test.add_link.Goals as goal
 

@@ -1,10 +1,5 @@
-use Rattle.std.proofs.Common.{◌≡◌, List, length, ap, sym, ◌∙◌, arith}
-use Rattle.std.specs.Prelude.{slice_get}
-use Rattle.std.proofs.lemmas.List.{length-map}
-use Rattle.nf_model.specs.Walk.{Hop}
-use Rattle.nf_model.specs.Network.{hop_of}
-use Rattle.nf_thin_narrow.proofs.Entries.{length_set}
-use Rattle.nf_thin_balance.specs.declared.ranges.Range.{Range}
+use Rattle.std.proofs.Common.{◌≡◌, List, length, ap, sym, ◌∙◌, arith, slice_get}
+use Rattle.nf_thin_balance.proofs.Common.{length-map, Hop, hop_of, length_set, Range}
 use Rattle.nf_thin_balance.proofs.Conserving.{link_read}
 use Rattle.nf_thin_balance.proofs.Balances.{test_same, test_other, each_looped, each_idle, each_more}
 use Rattle.nf_thin_balance.proofs.node_test.add_to_ends.Goals as goal

@@ -1,5 +1,5 @@
 use Rattle.std.proofs.Common.{sym, ◌∙◌}
-use Rattle.std.proofs.lemmas.Bool.{true≢false}
+use Rattle.nf_thin_balance.proofs.Common.{true≢false}
 use Rattle.nf_thin_balance.proofs.node_test.first_failing.Goals as goal
 
 pub returns-then-not-is_balanced : goal.returns-then-not-is_balanced

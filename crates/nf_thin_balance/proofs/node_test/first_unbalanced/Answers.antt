@@ -1,6 +1,5 @@
 use Rattle.std.proofs.Common.{List, length, sym, ap, subst, ◌∙◌}
-use Rattle.nf_thin_balance.specs.declared.ranges.Range.{Range}
-use Rattle.nf_thin_balance.specs.Conserving.{AreSurpluses}
+use Rattle.nf_thin_balance.proofs.Common.{Range, AreSurpluses}
 use Rattle.nf_thin_balance.proofs.node_test.first_unbalanced.Goals as goal
 
 pub first_failing-requires : goal.first_failing-requires

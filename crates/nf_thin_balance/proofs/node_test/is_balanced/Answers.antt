@@ -1,6 +1,5 @@
 use Rattle.std.proofs.Common.{sym, subst}
-use Rattle.nf_thin_balance.specs.Ranges.{IsInRange}
-use Rattle.nf_thin_balance.specs.Conserving.{surplus_by}
+use Rattle.nf_thin_balance.proofs.Common.{IsInRange, surplus_by}
 use Rattle.nf_thin_balance.proofs.node_test.is_balanced.Goals as goal
 
 pub returns : goal.returns

@@ -1,6 +1,5 @@
 use Rattle.std.proofs.Common.{subst}
-use Rattle.nf_rational.specs.Operations.{0ℚ}
-use Rattle.nf_thin_balance.specs.Ranges.{IsInRange}
+use Rattle.nf_thin_balance.proofs.Common.{0ℚ, IsInRange}
 use Rattle.nf_thin_balance.proofs.Conserving.{needed_sink, needed_source, needed_none}
 use Rattle.nf_thin_balance.proofs.node_test.needed.Goals as goal
 

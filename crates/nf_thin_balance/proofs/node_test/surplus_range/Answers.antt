@@ -1,5 +1,5 @@
 use Rattle.std.proofs.Common.{◌<◌, ◌≤◌, suc, length, subst, arith}
-use Rattle.nf_thin_balance.specs.Ranges.{IsInRange}
+use Rattle.nf_thin_balance.proofs.Common.{IsInRange}
 use Rattle.nf_thin_balance.proofs.Conserving.{none_sent, surplus_of_all}
 use Rattle.nf_thin_balance.proofs.LinksAt.{passed}
 use Rattle.nf_thin_balance.proofs.node_test.surplus_range.Goals as goal

@@ -1,5 +1,5 @@
 use Rattle.std.proofs.Common.{◌≤◌, ◌-◌, length}
-use Rattle.nf_thin_balance.specs.Conserving.{BoundsFirst}
+use Rattle.nf_thin_balance.proofs.Common.{BoundsFirst}
 use Rattle.nf_thin_balance.proofs.node_test.surplus_range.Given as goal
 
 -- The surplus on the links before this one is in the range.

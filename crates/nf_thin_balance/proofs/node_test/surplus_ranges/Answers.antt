@@ -1,7 +1,5 @@
 use Rattle.std.proofs.Common.{List, length, ap, subst, ◌∙◌, add-one, arith}
-use Rattle.std.proofs.lemmas.List.{length-replicate}
-use Rattle.nf_thin_balance.specs.declared.ranges.Range.{Range}
-use Rattle.nf_thin_balance.specs.Ranges.{IsInRange}
+use Rattle.nf_thin_balance.proofs.Common.{length-replicate, Range, IsInRange}
 use Rattle.nf_thin_balance.proofs.Conserving.{none_sent}
 use Rattle.nf_thin_balance.proofs.Balances.{each_first, each_last}
 use Rattle.nf_thin_balance.proofs.node_test.surplus_ranges.Goals as goal

@@ -1,5 +1,5 @@
 use Rattle.std.proofs.Common.{◌≡◌, length}
-use Rattle.nf_thin_balance.specs.Conserving.{BoundEach}
+use Rattle.nf_thin_balance.proofs.Common.{BoundEach}
 use Rattle.nf_thin_balance.proofs.node_test.surplus_ranges.Given as goal
 
 -- The surplus of each node on the links so far is within its range.

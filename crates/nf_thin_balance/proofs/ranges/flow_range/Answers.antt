@@ -1,5 +1,5 @@
 use Rattle.std.proofs.Common.{subst, sym}
-use Rattle.nf_thin_balance.specs.Ranges.{IsInRange}
+use Rattle.nf_thin_balance.proofs.Common.{IsInRange}
 use Rattle.nf_thin_balance.proofs.Within.{resetting_within, idle_flow}
 use Rattle.nf_thin_balance.proofs.ranges.flow_range.Goals as goal
 

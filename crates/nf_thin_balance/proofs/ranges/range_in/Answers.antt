@@ -1,7 +1,5 @@
-use Rattle.std.proofs.Common.{ap, subst, sym}
-use Rattle.std.specs.Prelude.{Some}
-use Rattle.nf_model.specs.declared.State.{State}
-use Rattle.nf_thin_balance.specs.Ranges.{IsInRange}
+use Rattle.std.proofs.Common.{ap, subst, sym, Some}
+use Rattle.nf_thin_balance.proofs.Common.{State, IsInRange}
 use Rattle.nf_thin_balance.proofs.Within.{tight_up_to, from_none, full_within, zero_flow}
 use Rattle.nf_thin_balance.proofs.ranges.range_in.Goals as goal
 

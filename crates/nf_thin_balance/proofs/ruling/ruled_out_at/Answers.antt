@@ -1,8 +1,5 @@
 use Rattle.std.proofs.Common.{List, length, sym, subst, ap, ◌∙◌}
-use Rattle.std.proofs.lemmas.Bool.{true≢false}
-use Rattle.std.proofs.lemmas.Option.{none-some}
-use Rattle.nf_thin_balance.specs.declared.ranges.Range.{Range}
-use Rattle.nf_thin_balance.specs.Conserving.{AreFlowsWithin, scaled_flow}
+use Rattle.nf_thin_balance.proofs.Common.{true≢false, none-some, Range, AreFlowsWithin, scaled_flow}
 use Rattle.nf_thin_balance.proofs.Solutions.{can_flow, conserved}
 use Rattle.nf_thin_balance.proofs.ruling.ruled_out_at.Goals as goal
 

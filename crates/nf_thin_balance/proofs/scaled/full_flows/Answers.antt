@@ -1,11 +1,6 @@
 use Rattle.std.proofs.Common.{◌≡◌, ℕ, ◌<◌, List, length, sym, ap, subst, ◌∙◌, arith, rules}
-use Rattle.nf_model.specs.Entries.{number_at}
-use Rattle.nf_model.specs.Network.{Link, IsLink}
-use Rattle.nf_pattern.proofs.Each.{each_none, each_pushed, length_pushed}
+use Rattle.nf_thin_balance.proofs.Common.{number_at, Link, IsLink, each_none, each_pushed, length_pushed, Range, IsFull, AreFull}
 use Rattle.nf_thin_narrow.proofs.Reading.{number_read}
-use Rattle.nf_thin_balance.specs.declared.ranges.Range.{Range}
-use Rattle.nf_thin_balance.specs.Ranges.{IsFull}
-use Rattle.nf_thin_balance.specs.Conserving.{AreFull}
 use Rattle.nf_thin_balance.proofs.Conserving.{full_at}
 use Rattle.nf_thin_balance.proofs.scaled.full_flows.Goals as goal
 

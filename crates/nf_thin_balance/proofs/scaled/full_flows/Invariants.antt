@@ -1,5 +1,5 @@
 use Rattle.std.proofs.Common.{◌≡◌, length}
-use Rattle.nf_thin_balance.specs.Conserving.{AreFull}
+use Rattle.nf_thin_balance.proofs.Common.{AreFull}
 use Rattle.nf_thin_balance.proofs.scaled.full_flows.Given as goal
 
 -- the ranges of the links so far

@@ -1,5 +1,5 @@
 use Rattle.std.proofs.Common.{sym, ◌∙◌}
-use Rattle.nf_frac_def.specs.Passing.{passes_Q}
+use Rattle.nf_thin_balance.proofs.Common.{passes_Q}
 use Rattle.nf_thin_balance.proofs.Conserving.{full_known, full_unknown}
 use Rattle.nf_thin_balance.proofs.scaled.full_range.Goals as goal
 

@@ -1,5 +1,5 @@
 use Rattle.std.proofs.Common.{sym, ◌∙◌}
-use Rattle.std.proofs.lemmas.Option.{none-some}
+use Rattle.nf_thin_balance.proofs.Common.{none-some}
 use Rattle.nf_thin_balance.proofs.Within.{scaled_within}
 use Rattle.nf_thin_balance.proofs.scaling.scaled_range.Goals as goal
 

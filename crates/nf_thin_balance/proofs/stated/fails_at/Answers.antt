@@ -1,7 +1,5 @@
 use Rattle.std.proofs.Common.{sym, subst, arith}
-use Rattle.nf_model.specs.Entries.{number_at}
-use Rattle.nf_thin_balance.specs.Ranges.{IsInRange, scaled}
-use Rattle.nf_thin_balance.specs.Conserving.{surplus_by, scaled_flow}
+use Rattle.nf_thin_balance.proofs.Common.{number_at, IsInRange, scaled, surplus_by, scaled_flow}
 use Rattle.nf_thin_balance.proofs.Conserving.{conserves, scaled_conserves, failing}
 use Rattle.nf_thin_balance.proofs.stated.fails_at.Goals as goal
 

@@ -1,8 +1,5 @@
 use Rattle.std.proofs.Common.{ℕ, List, length, sym, ap, subst, ◌∙◌, arith}
-use Rattle.nf_pattern.proofs.Each.{each_none, each_pushed, length_pushed}
-use Rattle.nf_thin_balance.specs.declared.ranges.Range.{Range}
-use Rattle.nf_thin_balance.specs.Ranges.{IsInRange}
-use Rattle.nf_thin_balance.specs.Conserving.{AreFlowsWithin, scaled_flow}
+use Rattle.nf_thin_balance.proofs.Common.{each_none, each_pushed, length_pushed, Range, IsInRange, AreFlowsWithin, scaled_flow}
 use Rattle.nf_thin_balance.proofs.stated.link_ranges.Goals as goal
 
 pub range_of-requires-clause-link : goal.range_of-requires-clause-link

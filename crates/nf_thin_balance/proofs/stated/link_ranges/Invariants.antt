@@ -1,7 +1,5 @@
 use Rattle.std.proofs.Common.{◌≡◌, ℕ, List, length}
-use Rattle.nf_rational.specs.Rational.{ℚ}
-use Rattle.nf_thin_balance.specs.Conserving.{AreFlowsWithin, scaled_flow}
-use Rattle.nf_thin_balance.specs.Stating.{CanCarryFlows}
+use Rattle.nf_thin_balance.proofs.Common.{ℚ, AreFlowsWithin, scaled_flow, CanCarryFlows}
 use Rattle.nf_thin_balance.proofs.stated.link_ranges.Given as goal
 
 -- the ranges of the links so far

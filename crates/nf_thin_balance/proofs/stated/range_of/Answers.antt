@@ -1,6 +1,5 @@
 use Rattle.std.proofs.Common.{arith}
-use Rattle.nf_rational_laws.proofs.Entries.{entry}
-use Rattle.nf_model.specs.Entries.{number_at}
+use Rattle.nf_thin_balance.proofs.Common.{entry, number_at}
 use Rattle.nf_thin_balance.proofs.Conserving.{meets_state}
 use Rattle.nf_thin_balance.proofs.stated.range_of.Goals as goal
 

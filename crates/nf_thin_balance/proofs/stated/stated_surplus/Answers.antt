@@ -1,6 +1,5 @@
 use Rattle.std.proofs.Common.{subst, add-one, arith}
-use Rattle.nf_thin_balance.specs.Ranges.{IsInRange}
-use Rattle.nf_thin_balance.specs.Conserving.{scaled_flow}
+use Rattle.nf_thin_balance.proofs.Common.{IsInRange, scaled_flow}
 use Rattle.nf_thin_balance.proofs.Conserving.{none_sent, surplus_of_all}
 use Rattle.nf_thin_balance.proofs.stated.stated_surplus.Goals as goal
 

@@ -1,8 +1,5 @@
 use Rattle.std.proofs.Common.{ℕ, List}
-use Rattle.nf_rational.specs.Rational.{ℚ}
-use Rattle.nf_thin_balance.specs.Ranges.{IsInRange}
-use Rattle.nf_thin_balance.specs.Conserving.{surplus_of_first, scaled_flow}
-use Rattle.nf_thin_balance.specs.Stating.{CanCarryFlows}
+use Rattle.nf_thin_balance.proofs.Common.{ℚ, IsInRange, surplus_of_first, scaled_flow, CanCarryFlows}
 use Rattle.nf_thin_balance.proofs.stated.stated_surplus.Given as goal
 
 -- The surplus on the links so far is in the range.

@@ -1,8 +1,5 @@
 use Rattle.std.proofs.Common.{◌≡◌, List, length, ap, ◌∙◌, arith}
-use Rattle.std.proofs.lemmas.List.{length-map}
-use Rattle.nf_model.specs.Walk.{Hop}
-use Rattle.nf_model.specs.Network.{hop_of}
-use Rattle.nf_thin_balance.specs.Conserving.{scaled_flow}
+use Rattle.nf_thin_balance.proofs.Common.{length-map, Hop, hop_of, scaled_flow}
 use Rattle.nf_thin_balance.proofs.Conserving.{link_read, end_test, one_still, one_sum, one_difference}
 use Rattle.nf_thin_balance.proofs.stated.with_link.Goals as goal
 

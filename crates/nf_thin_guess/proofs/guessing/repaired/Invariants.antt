@@ -1,5 +1,5 @@
 use Rattle.std.proofs.Common.{◌≡◌, length}
-use Rattle.nf_thin_equation_laws.specs.Equations.{IsPatternIn}
+use Rattle.nf_thin_guess.proofs.Common.{IsPatternIn}
 use Rattle.nf_thin_guess.proofs.guessing.repaired.Given as goal
 
 -- The pattern is still a pattern, as is the one that the repairs have met.

@@ -1,5 +1,4 @@
-use Rattle.std.specs.Prelude.{IfSome}
-use Rattle.std.proofs.Common.{subst}
+use Rattle.std.proofs.Common.{IfSome, subst}
 use Rattle.nf_frac_def.specs.Passing.{passes_Q}
 use Rattle.nf_thin_one.specs.Trying.{AreValuesOf}
 use Rattle.nf_thin_guess.proofs.guessing.solved_pattern.Goals as goal

@@ -1,5 +1,4 @@
-use Rattle.nf_model.specs.ThinFlow.{Sets}
-use Rattle.nf_thin_equation_laws.specs.Equations.{IsPatternIn}
+use Rattle.nf_thin_guess.proofs.Common.{Sets, IsPatternIn}
 use Rattle.nf_thin_guess.proofs.mending.cut_cycles.Given as goal
 
 -- The pattern is still one of each of its sets.

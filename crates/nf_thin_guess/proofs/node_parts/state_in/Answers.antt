@@ -1,6 +1,5 @@
-use Rattle.std.proofs.Common.{Bool, ap, ◌∙◌}
-use Rattle.std.specs.Prelude.{Option, Some}
-use Rattle.nf_model.specs.declared.State.{State}
+use Rattle.std.proofs.Common.{Bool, ap, ◌∙◌, Option, Some}
+use Rattle.nf_thin_guess.proofs.Common.{State}
 use Rattle.nf_thin_guess.proofs.Capacities.{full_bounded, stateless_bounded}
 use Rattle.nf_thin_guess.proofs.node_parts.state_in.Goals as goal
 

@@ -1,5 +1,5 @@
 use Rattle.std.proofs.Common.{refl, length, ap, ◌∙◌}
-use Rattle.std.proofs.lemmas.List.{length-set}
+use Rattle.nf_thin_guess.proofs.Common.{length-set}
 use Rattle.nf_thin_guess.proofs.part_slopes.set_right.Goals as goal
 
 pub returns : goal.returns

@@ -1,5 +1,5 @@
 use Rattle.std.proofs.Common.{length, ap, ◌∙◌}
-use Rattle.std.proofs.lemmas.List.{length-replicate}
+use Rattle.nf_thin_guess.proofs.Common.{length-replicate}
 use Rattle.nf_thin_guess.proofs.part_slopes.slope_table.Goals as goal
 
 pub loop-i-init : goal.loop-i-init

@@ -1,6 +1,5 @@
 use Rattle.std.proofs.Common.{subst, sym}
-use Rattle.nf_model.specs.Pattern.{Pattern}
-use Rattle.nf_thin_equation_laws.specs.Equations.{IsPatternIn}
+use Rattle.nf_thin_guess.proofs.Common.{Pattern, IsPatternIn}
 use Rattle.nf_thin_guess.proofs.repairs.change.Goals as goal
 
 pub returns-then-not-may_have : goal.returns-then-not-may_have

@@ -1,7 +1,5 @@
-use Rattle.std.proofs.Common.{refl, ap, subst, ◌∙◌}
-use Rattle.std.specs.Prelude.{Option, IsSome}
-use Rattle.nf_rational.specs.Rational.{ℚ}
-use Rattle.nf_model.specs.Network.{Link}
+use Rattle.std.proofs.Common.{refl, ap, subst, ◌∙◌, Option, IsSome}
+use Rattle.nf_thin_guess.proofs.Common.{ℚ, Link}
 use Rattle.nf_thin_guess.proofs.Flags.{none_flag}
 use Rattle.nf_thin_guess.proofs.Changing.{IsPatternIn-changed}
 use Rattle.nf_thin_guess.proofs.repairs.may_have.Goals as goal

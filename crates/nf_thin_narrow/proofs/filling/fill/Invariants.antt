@@ -1,5 +1,5 @@
 use Rattle.std.proofs.Common.{◌≡◌, length}
-use Rattle.nf_thin_laws.specs.Forcing.{filled}
+use Rattle.nf_thin_narrow.proofs.Common.{filled}
 use Rattle.nf_thin_narrow.proofs.Entries.{AreFilled}
 use Rattle.nf_thin_narrow.proofs.filling.fill.Given as goal
 

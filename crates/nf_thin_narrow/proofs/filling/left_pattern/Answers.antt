@@ -1,9 +1,5 @@
-use Rattle.std.proofs.Common.{◌+◌, List, length, refl, sym, ap, subst, ◌∙◌, arith}
-use Rattle.std.specs.Prelude.{Option, Some}
-use Rattle.nf_model.specs.declared.State.{State}
-use Rattle.nf_thin_laws.proofs.Bases.{same_entries}
-use Rattle.nf_thin_laws.specs.Forcing.{free_state, unforced_of}
-use Rattle.nf_thin_laws.proofs.Entrywise.{entrywise-length, entrywise-at}
+use Rattle.std.proofs.Common.{◌+◌, List, length, refl, sym, ap, subst, ◌∙◌, arith, Option, Some}
+use Rattle.nf_thin_narrow.proofs.Common.{State, same_entries, free_state, unforced_of, entrywise-length, entrywise-at}
 use Rattle.nf_thin_narrow.proofs.Entries.{AreFilled, filled_more, length_set}
 use Rattle.nf_thin_narrow.proofs.filling.left_pattern.Goals as goal
 

@@ -1,5 +1,5 @@
 use Rattle.std.proofs.Common.{◌≡◌, length}
-use Rattle.nf_thin_laws.specs.Forcing.{unforced_of}
+use Rattle.nf_thin_narrow.proofs.Common.{unforced_of}
 use Rattle.nf_thin_narrow.proofs.Entries.{AreFilled}
 use Rattle.nf_thin_narrow.proofs.filling.left_pattern.Given as goal
 

@@ -1,12 +1,7 @@
-use Rattle.std.proofs.Common.{◌≡◌, ℕ, ◌≤◌, List, Bool, length, take, sym, ap, subst, ◌∙◌, arith}
-use Rattle.std.specs.Prelude.{Some, IfOk}
-use Rattle.std.proofs.lemmas.List.{take_all}
-use Rattle.nf_model.specs.ThinFlow.{Sets}
+use Rattle.std.proofs.Common.{◌≡◌, ℕ, ◌≤◌, List, Bool, length, take, sym, ap, subst, ◌∙◌, arith, Some, IfOk}
+use Rattle.nf_thin_narrow.proofs.Common.{take_all, Sets, take_pushed, entrywise, still_active, now_resetting, sets_left, entrywise-length, entrywise-at}
+use Rattle.nf_thin_narrow.proofs.Common.{left_active, sets_count, flags_count}
 use Rattle.nf_graph.specs.Sets.{AreLinkSets}
-use Rattle.nf_pattern.proofs.Each.{take_pushed}
-use Rattle.nf_thin_laws.specs.Forcing.{entrywise, still_active, now_resetting, sets_left}
-use Rattle.nf_thin_laws.proofs.Entrywise.{entrywise-length, entrywise-at}
-use Rattle.nf_thin_laws.proofs.Forced.{left_active, sets_count, flags_count}
 use Rattle.nf_thin_narrow.proofs.filling.left_sets.Goals as goal
 
 -- The flags of all links.

@@ -1,5 +1,5 @@
 use Rattle.std.proofs.Common.{◌≡◌, take}
-use Rattle.nf_thin_laws.specs.Forcing.{entrywise, still_active, now_resetting}
+use Rattle.nf_thin_narrow.proofs.Common.{entrywise, still_active, now_resetting}
 use Rattle.nf_thin_narrow.proofs.filling.left_sets.Given as goal
 
 -- The flags so far.

@@ -1,7 +1,5 @@
 use Rattle.std.proofs.Common.{◌≡◌, ◌<◌, ◌≤◌, ℕ, min, length}
-use Rattle.nf_thin_laws.specs.Ways.{ways_by}
-use Rattle.nf_thin_narrow.specs.Rows.{most, count_at}
-use Rattle.nf_thin_narrow.specs.Firming.{states_of_firm}
+use Rattle.nf_thin_narrow.proofs.Common.{ways_by, most, count_at, states_of_firm}
 use Rattle.nf_thin_narrow.proofs.firm.add_firm.Given as goal
 
 -- entries from this one on are those with the link, and the others are as before

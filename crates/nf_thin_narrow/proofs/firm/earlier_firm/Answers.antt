@@ -1,13 +1,5 @@
-use Rattle.std.proofs.Common.{◌≡◌, ◌+◌, ◌-◌, ◌<◌, ℕ, suc, Bool, false, length, get_or, drop, refl, ap, subst, ◌∙◌, arith}
-use Rattle.std.specs.Prelude.{Some, slice_get, if◌then◌else◌}
-use Rattle.std.proofs.lemmas.Option.{slice_get-get_or}
-use Rattle.nf_model.specs.Pattern.{changes}
-use Rattle.nf_pattern.proofs.Counting.{few_changes}
-use Rattle.nf_thin_laws.specs.Forcing.{change}
-use Rattle.nf_thin_laws.specs.Firm.{is_in}
-use Rattle.nf_thin_narrow.specs.declared.firm.Firm.{Firm}
-use Rattle.nf_thin_narrow.specs.Firming.{states_of_firm}
-use Rattle.nf_thin_narrow.specs.Rows.{CountsCapped}
+use Rattle.std.proofs.Common.{◌≡◌, ◌+◌, ◌-◌, ◌<◌, ℕ, suc, Bool, false, length, get_or, drop, refl, ap, subst, ◌∙◌, arith, Some, slice_get, if◌then◌else◌}
+use Rattle.nf_thin_narrow.proofs.Common.{slice_get-get_or, changes, few_changes, change, is_in, Firm, states_of_firm, CountsCapped}
 use Rattle.nf_thin_narrow.proofs.Stepping.{changes_behind, changes_step_at, row_more, earlier_more, earlier_at}
 use Rattle.nf_thin_narrow.proofs.FirmStepping.{ways_from, earlier_from, ways_step, earlier_step}
 use Rattle.nf_thin_narrow.proofs.firm.earlier_firm.Goals as goal

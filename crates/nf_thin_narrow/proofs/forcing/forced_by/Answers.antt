@@ -1,10 +1,6 @@
-use Rattle.std.proofs.Common.{◌≡◌, ◌+◌, ◌<◌, ℕ, List, length, refl, sym, ap, subst, ◌∙◌, arith, rules}
-use Rattle.std.specs.Prelude.{Option, Some}
-use Rattle.nf_model.specs.declared.State.{State}
+use Rattle.std.proofs.Common.{◌≡◌, ◌+◌, ◌<◌, ℕ, List, length, refl, sym, ap, subst, ◌∙◌, arith, rules, Option, Some}
+use Rattle.nf_thin_narrow.proofs.Common.{State, same_entries, forced_state, forced_at, forced_by, entrywise-length, entrywise-at}
 use Rattle.nf_model.specs.Network.{Link}
-use Rattle.nf_thin_laws.proofs.Bases.{same_entries}
-use Rattle.nf_thin_laws.specs.Forcing.{forced_state, forced_at, forced_by}
-use Rattle.nf_thin_laws.proofs.Entrywise.{entrywise-length, entrywise-at}
 use Rattle.nf_thin_narrow.proofs.Entries.{AreFilled, filled_more, length_set}
 use Rattle.nf_thin_narrow.proofs.Reading.{number_read}
 use Rattle.nf_thin_narrow.proofs.forcing.forced_by.Goals as goal

@@ -1,5 +1,5 @@
 use Rattle.std.proofs.Common.{◌≡◌, length}
-use Rattle.nf_thin_laws.specs.Forcing.{forced_by}
+use Rattle.nf_thin_narrow.proofs.Common.{forced_by}
 use Rattle.nf_thin_narrow.proofs.Entries.{AreFilled}
 use Rattle.nf_thin_narrow.proofs.forcing.forced_by.Given as goal
 

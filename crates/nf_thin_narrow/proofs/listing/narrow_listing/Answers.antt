@@ -1,10 +1,6 @@
 use Rattle.std.proofs.Common.{List, length, sym, ap, subst, ◌∙◌, arith}
-use Rattle.nf_model.specs.Walk.{Hop}
-use Rattle.nf_model.specs.ThinFlow.{Sets}
-use Rattle.nf_model.specs.Pattern.{Pattern, IsPattern}
+use Rattle.nf_thin_narrow.proofs.Common.{Hop, Sets, Pattern, IsPattern, sets_left, left_pattern, sets_count, flags_count}
 use Rattle.nf_net.proofs.Limits.{few_links}
-use Rattle.nf_thin_laws.specs.Forcing.{sets_left}
-use Rattle.nf_thin_laws.proofs.Forced.{left_pattern, sets_count, flags_count}
 use Rattle.nf_graph.proofs.NetworkHops.{hops_length}
 use Rattle.nf_thin_narrow.proofs.listing.narrow_listing.Goals as goal
 

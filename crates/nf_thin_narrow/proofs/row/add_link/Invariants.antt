@@ -1,6 +1,5 @@
 use Rattle.std.proofs.Common.{◌≡◌, ◌<◌, ◌≤◌, ℕ, min, length}
-use Rattle.nf_thin_laws.specs.Ways.{ways_by, states_of}
-use Rattle.nf_thin_narrow.specs.Rows.{most, count_at}
+use Rattle.nf_thin_narrow.proofs.Common.{ways_by, states_of, most, count_at}
 use Rattle.nf_thin_narrow.proofs.row.add_link.Given as goal
 
 -- entries from this one on are those with the link, and the others are as before

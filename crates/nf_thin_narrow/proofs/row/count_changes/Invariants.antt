@@ -1,5 +1,5 @@
 use Rattle.std.proofs.Common.{◌≡◌, ◌≤◌, ◌+◌, drop}
-use Rattle.nf_model.specs.Pattern.{changes}
+use Rattle.nf_thin_narrow.proofs.Common.{changes}
 use Rattle.nf_thin_narrow.proofs.row.count_changes.Given as goal
 
 -- the links so far are counted

@@ -1,12 +1,7 @@
-use Rattle.std.proofs.Common.{◌≡◌, ◌+◌, ◌-◌, ◌<◌, ℕ, suc, Bool, true, false, length, get_or, drop, refl, subst, ◌∙◌, arith}
-use Rattle.std.specs.Prelude.{Some, slice_get}
-use Rattle.std.proofs.lemmas.Option.{slice_get-get_or}
-use Rattle.nf_model.specs.Pattern.{changes}
-use Rattle.nf_thin_laws.specs.Forcing.{change}
-use Rattle.nf_thin_laws.specs.Ways.{states_of}
-use Rattle.nf_pattern.proofs.Counting.{few_changes}
-use Rattle.nf_thin_narrow.specs.Rows.{CountsCapped}
-use Rattle.nf_thin_narrow.proofs.Stepping.{changes_behind, changes_step_at, row_more, earlier_more, earlier_at, ways_from, earlier_from, ways_step, earlier_step}
+use Rattle.std.proofs.Common.{◌≡◌, ◌+◌, ◌-◌, ◌<◌, ℕ, suc, Bool, true, false, length, get_or, drop, refl, subst, ◌∙◌, arith, Some, slice_get}
+use Rattle.nf_thin_narrow.proofs.Common.{slice_get-get_or, changes, change, states_of, few_changes, CountsCapped}
+use Rattle.nf_thin_narrow.proofs.Stepping.{changes_behind, changes_step_at, row_more, earlier_more, earlier_at, ways_from, earlier_from, ways_step}
+use Rattle.nf_thin_narrow.proofs.Stepping.{earlier_step}
 use Rattle.nf_thin_narrow.proofs.row.count_earlier.Goals as goal
 
 pub overflow_add-made : goal.overflow_add-made

@@ -1,6 +1,5 @@
 use Rattle.std.proofs.Common.{◌≡◌, ◌≤◌, suc, min, length, drop}
-use Rattle.nf_model.specs.Pattern.{changes}
-use Rattle.nf_thin_narrow.specs.Rows.{most, CountsCapped}
+use Rattle.nf_thin_narrow.proofs.Common.{changes, most, CountsCapped}
 use Rattle.nf_thin_narrow.proofs.Stepping.{ways_from, earlier_from}
 use Rattle.nf_thin_narrow.proofs.row.count_earlier.Given as goal
 

@@ -1,5 +1,5 @@
 use Rattle.std.proofs.Common.{◌≡◌, ℕ, min}
-use Rattle.nf_thin_narrow.specs.Rows.{most, CountsCapped, first_ways}
+use Rattle.nf_thin_narrow.proofs.Common.{most, CountsCapped, first_ways}
 use Rattle.nf_thin_narrow.proofs.row.sum_of.Given as goal
 
 -- those so far are summed

@@ -1,7 +1,5 @@
 use Rattle.std.proofs.Common.{◌≡◌, ℕ, List, length, sym, ap, subst, ◌∙◌, arith}
-use Rattle.nf_model.specs.Pattern.{changes}
-use Rattle.nf_thin_laws.specs.Ways.{ways, ways_fewer, choices_of}
-use Rattle.nf_thin_narrow.specs.Rows.{CountsCapped, first_ways}
+use Rattle.nf_thin_narrow.proofs.Common.{changes, ways, ways_fewer, choices_of, CountsCapped, first_ways}
 use Rattle.nf_thin_narrow.proofs.Capping.{first_fewer}
 use Rattle.nf_thin_narrow.proofs.Stepping.{refilled}
 use Rattle.nf_thin_narrow.proofs.row.ways_before.Goals as goal

@@ -1,6 +1,5 @@
 use Rattle.std.proofs.Common.{ap, sym, ◌∙◌, arith}
-use Rattle.std.proofs.lemmas.Option.{slice_get_within}
-use Rattle.nf_model.specs.Walk.{Hop, IsHop}
+use Rattle.nf_thin_narrow.proofs.Common.{slice_get_within, Hop, IsHop}
 use Rattle.nf_graph.proofs.Walks.{apart_from_test}
 use Rattle.nf_pattern.proofs.Entries.{hop_there}
 use Rattle.nf_thin_narrow.proofs.sole.is_sole.Goals as goal

@@ -1,6 +1,5 @@
 use Rattle.std.proofs.Common.{◌≡◌, ◌<◌, ℕ}
-use Rattle.nf_model.specs.Entries.{Has}
-use Rattle.nf_model.specs.Walk.{Hop, IsHop}
+use Rattle.nf_thin_narrow.proofs.Common.{Has, Hop, IsHop}
 use Rattle.nf_thin_narrow.proofs.sole.is_sole.Given as goal
 
 -- None of the links so far is another active link to the node.

@@ -1,8 +1,5 @@
-use Rattle.std.proofs.Common.{◌≡◌, ⊎_elim, Bool, true, List, length, sym, ap, subst, ◌∙◌}
-use Rattle.std.specs.Prelude.{Some, slice_get}
-use Rattle.nf_model.specs.Entries.{Has}
-use Rattle.nf_pattern.proofs.Each.{entry_pushed, length_pushed}
-use Rattle.nf_thin_laws.specs.Ways.{IsSole}
+use Rattle.std.proofs.Common.{◌≡◌, ⊎_elim, Bool, true, List, length, sym, ap, subst, ◌∙◌, Some, slice_get}
+use Rattle.nf_thin_narrow.proofs.Common.{Has, entry_pushed, length_pushed, IsSole}
 use Rattle.nf_thin_narrow.proofs.sole.sole_flags.Goals as goal
 
 pub loop-e-preserved : goal.loop-e-preserved

@@ -1,5 +1,5 @@
 use Rattle.std.proofs.Common.{◌≡◌, length}
-use Rattle.nf_thin_laws.specs.Ways.{AreSole}
+use Rattle.nf_thin_narrow.proofs.Common.{AreSole}
 use Rattle.nf_thin_narrow.proofs.sole.sole_flags.Given as goal
 
 -- the flags so far

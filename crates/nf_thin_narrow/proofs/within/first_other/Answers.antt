@@ -1,8 +1,5 @@
-use Rattle.std.proofs.Common.{ap, sym, ◌∙◌, arith}
-use Rattle.std.proofs.lemmas.Option.{same_Some}
-use Rattle.std.specs.Prelude.{slice_get}
-use Rattle.nf_model.specs.Pattern.{Pattern}
-use Rattle.nf_thin_laws.proofs.Bases.{same_entries}
+use Rattle.std.proofs.Common.{ap, sym, ◌∙◌, arith, slice_get}
+use Rattle.nf_thin_narrow.proofs.Common.{same_Some, Pattern, same_entries}
 use Rattle.nf_thin_narrow.proofs.within.first_other.Goals as goal
 
 pub returns : goal.returns

@@ -1,6 +1,5 @@
-use Rattle.std.proofs.Common.{subst, arith}
-use Rattle.std.specs.Prelude.{option_copied}
-use Rattle.nf_pattern.specs.Given.{Enumerates}
+use Rattle.std.proofs.Common.{subst, arith, option_copied}
+use Rattle.nf_thin_narrow.proofs.Common.{Enumerates}
 use Rattle.nf_thin_narrow.proofs.Going.{ahead, stands_here, place_here, still_ahead, no_more, not_listed}
 use Rattle.nf_thin_narrow.proofs.within.goes_on_to.Goals as goal
 

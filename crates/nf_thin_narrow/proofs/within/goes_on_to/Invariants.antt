@@ -1,6 +1,5 @@
-use Rattle.std.proofs.Common.{◌-◌, ◌<◌}
-use Rattle.std.specs.Prelude.{IfSome}
-use Rattle.nf_thin_narrow.specs.Asking.{GoesThrough}
+use Rattle.std.proofs.Common.{◌-◌, ◌<◌, IfSome}
+use Rattle.nf_thin_narrow.proofs.Common.{GoesThrough}
 use Rattle.nf_thin_narrow.proofs.Going.{IsAhead}
 use Rattle.nf_thin_narrow.proofs.within.goes_on_to.Given as goal
 

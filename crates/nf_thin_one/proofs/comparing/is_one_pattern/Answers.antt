@@ -1,6 +1,5 @@
-use Rattle.std.proofs.Common.{length, ap, sym, ◌∙◌, arith}
-use Rattle.std.specs.Prelude.{Option, Some}
-use Rattle.nf_model.specs.declared.State.{State}
+use Rattle.std.proofs.Common.{length, ap, sym, ◌∙◌, arith, Option, Some}
+use Rattle.nf_thin_one.proofs.Common.{State}
 use Rattle.nf_thin_laws.proofs.Bases.{same_entries}
 use Rattle.nf_thin_one.proofs.Alike.{alike_more}
 use Rattle.nf_thin_one.proofs.comparing.is_one_pattern.Goals as goal

@@ -1,6 +1,5 @@
 use Rattle.std.proofs.Common.{ℕ, length, set, ap, ◌∙◌}
-use Rattle.nf_rational.specs.Rational.{ℚ}
-use Rattle.nf_linear_def.specs.Table.{row_at}
+use Rattle.nf_thin_one.proofs.Common.{ℚ, row_at}
 use Rattle.nf_thin_one.proofs.SourceRow.{source_inside, source_filled, source_long}
 use Rattle.nf_thin_one.proofs.Held.{held_as}
 use Rattle.nf_thin_one.proofs.filling.fill.Goals as goal

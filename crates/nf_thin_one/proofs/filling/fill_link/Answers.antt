@@ -1,8 +1,5 @@
 use Rattle.std.proofs.Common.{◌≡◌, rules, Option, Some, subst}
-use Rattle.nf_model.specs.declared.State.{State}
-use Rattle.nf_model.specs.declared.State.TheVariants.{Zero}
-use Rattle.nf_linear_def.specs.Table.{row_at}
-use Rattle.nf_thin_one.specs.Filling.{ChangesRow, with_entries, link_entries}
+use Rattle.nf_thin_one.proofs.Common.{State, Zero, row_at, ChangesRow, with_entries, link_entries}
 use Rattle.nf_thin_one.proofs.LinkChanges.{zero_changes}
 use Rattle.nf_thin_one.proofs.Held.{held_as}
 use Rattle.nf_thin_one.proofs.filling.fill_link.Goals as goal

@@ -1,5 +1,5 @@
 use Rattle.std.proofs.Common.{◌≤◌, arith}
-use Rattle.nf_linear.specs.Limits.{most_unknowns}
+use Rattle.nf_thin_one.proofs.Common.{most_unknowns}
 use Rattle.nf_thin_one.proofs.LinkRows.{links_first, next_inside, end_inside, link_more, idle_skipped, links_done}
 use Rattle.nf_thin_one.proofs.Sizes.{few_columns}
 use Rattle.nf_thin_one.proofs.filling.fill_links.Goals as goal

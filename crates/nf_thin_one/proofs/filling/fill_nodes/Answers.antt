@@ -1,6 +1,5 @@
 use Rattle.std.proofs.Common.{◌≤◌, ℕ, sym, subst, arith}
-use Rattle.nf_linear.specs.Limits.{most_unknowns}
-use Rattle.nf_thin_one.specs.Filling.{IsRowOf, AddsFlow}
+use Rattle.nf_thin_one.proofs.Common.{most_unknowns, IsRowOf, AddsFlow}
 use Rattle.nf_thin_one.proofs.NodeRows.{node_inside, flows_first, end_inside, column_inside, flow_more, flow_same, nodes_done, size_kept}
 use Rattle.nf_thin_one.proofs.Sizes.{few_columns}
 use Rattle.nf_thin_one.proofs.filling.fill_nodes.Goals as goal

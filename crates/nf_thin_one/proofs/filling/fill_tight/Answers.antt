@@ -1,6 +1,5 @@
 use Rattle.std.proofs.Common.{rules, not, eqb, sym, ap, ◌∙◌}
-use Rattle.nf_rational.specs.Operations.{neg_ℚ}
-use Rattle.nf_model.specs.Network.{Link}
+use Rattle.nf_thin_one.proofs.Common.{neg_ℚ, Link}
 use Rattle.nf_thin_one.proofs.Cells.{still_inside}
 use Rattle.nf_thin_one.proofs.LinkChanges.{tight_changes}
 use Rattle.nf_thin_one.proofs.Held.{held_as}

@@ -1,8 +1,5 @@
-use Rattle.std.proofs.Common.{sym, ap, ◌∙◌}
-use Rattle.std.specs.Prelude.{Option, unwrap_or}
-use Rattle.nf_rational.specs.Rational.{ℚ}
-use Rattle.nf_rational.specs.Operations.{0ℚ, neg_ℚ}
-use Rattle.nf_model.specs.Network.{Link}
+use Rattle.std.proofs.Common.{sym, ap, ◌∙◌, Option, unwrap_or}
+use Rattle.nf_thin_one.proofs.Common.{ℚ, 0ℚ, neg_ℚ, Link}
 use Rattle.nf_thin_one.proofs.LinkEntries.{minus_zero}
 use Rattle.nf_thin_one.proofs.filling.full_factor.Goals as goal
 

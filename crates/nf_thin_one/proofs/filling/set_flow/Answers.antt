@@ -1,7 +1,5 @@
 use Rattle.std.proofs.Common.{not, eqb, sym, ap, subst, ◌∙◌}
-use Rattle.nf_rational.specs.Operations.{neg_ℚ}
-use Rattle.nf_model.specs.Network.{Link}
-use Rattle.nf_thin_one.specs.Filling.{SetsAt}
+use Rattle.nf_thin_one.proofs.Common.{neg_ℚ, Link, SetsAt}
 use Rattle.nf_thin_one.proofs.NodeRows.{flow_added, none_added}
 use Rattle.nf_thin_one.proofs.filling.set_flow.Goals as goal
 

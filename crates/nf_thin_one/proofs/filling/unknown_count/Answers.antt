@@ -1,6 +1,5 @@
 use Rattle.std.proofs.Common.{◌≡◌, ◌<◌, ◌≤◌, length, arith}
-use Rattle.nf_net.proofs.Limits.{few_links}
-use Rattle.nf_linear.specs.Limits.{most_unknowns}
+use Rattle.nf_thin_one.proofs.Common.{few_links, most_unknowns}
 use Rattle.nf_thin_one.proofs.ActivePlaces.{none_before, one_more_before, none_more_before}
 use Rattle.nf_thin_one.proofs.Sizes.{few_columns, as_many_hops, counted}
 use Rattle.nf_thin_one.proofs.filling.unknown_count.Goals as goal

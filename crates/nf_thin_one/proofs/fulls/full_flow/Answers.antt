@@ -1,6 +1,5 @@
 use Rattle.std.proofs.Common.{Option, sym, ap, ◌∙◌}
-use Rattle.nf_rational.specs.Rational.{ℚ}
-use Rattle.nf_frac_def.specs.Passing.{passes_Q}
+use Rattle.nf_thin_one.proofs.Common.{ℚ, passes_Q}
 use Rattle.std.specs.Result.{result_ok}
 use Rattle.nf_thin_one.specs.Fulls.{full_of}
 use Rattle.nf_thin_one.proofs.fulls.full_flow.Goals as goal

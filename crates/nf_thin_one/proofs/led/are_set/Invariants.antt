@@ -1,5 +1,5 @@
 use Rattle.std.proofs.Common.{ℕ, ◌<◌}
-use Rattle.nf_model.specs.Entries.{Has}
+use Rattle.nf_thin_one.proofs.Common.{Has}
 use Rattle.nf_thin_one.proofs.led.are_set.Given as goal
 
 -- the flags so far are set

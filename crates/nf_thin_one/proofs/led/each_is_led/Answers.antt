@@ -1,5 +1,5 @@
 use Rattle.std.proofs.Common.{◌≡◌, ⊎_elim, false, replicate, refl, ◌∙◌, arith}
-use Rattle.nf_thin_one.specs.Leading.{IsLed}
+use Rattle.nf_thin_one.proofs.Common.{IsLed}
 use Rattle.nf_thin_one.proofs.Leading.{source_led}
 use Rattle.nf_thin_one.proofs.led.each_is_led.Goals as goal
 

@@ -1,6 +1,5 @@
 use Rattle.std.proofs.Common.{ℕ, sym, ap, subst, ◌∙◌}
-use Rattle.nf_model.specs.Network.{Link}
-use Rattle.nf_thin_one.specs.Leading.{IsLed}
+use Rattle.nf_thin_one.proofs.Common.{Link, IsLed}
 use Rattle.nf_thin_one.proofs.Leading.{led_by, one_more_led}
 use Rattle.nf_thin_one.proofs.led.flag_led.Goals.{then-may_carry, else-may_carry}
 use Rattle.nf_thin_one.proofs.led.flag_led.Goals as goal

@@ -1,4 +1,4 @@
-use Rattle.nf_thin_one.specs.Leading.{AreLed}
+use Rattle.nf_thin_one.proofs.Common.{AreLed}
 use Rattle.nf_thin_one.proofs.led.flag_led.Given as goal
 
 abbrev pub invariant-loop-e : goal.invariant-loop-e

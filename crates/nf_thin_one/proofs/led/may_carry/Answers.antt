@@ -1,6 +1,5 @@
 use Rattle.std.proofs.Common.{Bool, Option, Some, inl, inr, ap, ◌∙◌}
-use Rattle.std.proofs.lemmas.Bool.{false≢true}
-use Rattle.nf_model.specs.declared.State.{State}
+use Rattle.nf_thin_one.proofs.Common.{false≢true, State}
 use Rattle.nf_thin_one.proofs.led.may_carry.Goals as goal
 
 pub returns-in-Some-Tight : goal.returns-in-Some-Tight

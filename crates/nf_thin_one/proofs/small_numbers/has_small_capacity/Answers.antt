@@ -1,5 +1,5 @@
 use Rattle.std.proofs.Common.{sym, ap, ◌∙◌}
-use Rattle.nf_model.specs.Network.{Link}
+use Rattle.nf_thin_one.proofs.Common.{Link}
 use Rattle.nf_thin_one.proofs.Held.{capacity_held, no_capacity_held}
 use Rattle.nf_thin_one.proofs.small_numbers.has_small_capacity.Goals as goal
 

@@ -1,5 +1,5 @@
 use Rattle.std.proofs.Common.{rules, List, length, sym, ap, ◌∙◌}
-use Rattle.nf_linear_def.specs.Table.{Row}
+use Rattle.nf_thin_one.proofs.Common.{Row}
 use Rattle.nf_thin_one.proofs.EquationRows.{as_many_rows}
 use Rattle.nf_thin_one.proofs.Held.{all_held}
 use Rattle.nf_thin_one.proofs.solving.solve_on.Goals as goal

@@ -1,5 +1,5 @@
 use Rattle.std.proofs.Common.{sym, ◌∙◌, arith}
-use Rattle.std.proofs.lemmas.List.{length-take-le}
+use Rattle.nf_thin_one.proofs.Common.{length-take-le}
 use Rattle.nf_thin_one.proofs.trying.judge_into.Goals as goal
 
 pub returns-clause-flows : goal.returns-clause-flows

@@ -1,8 +1,5 @@
 use Rattle.std.proofs.Common.{ℕ, List, take, ◌∙◌, ap, length, arith}
-use Rattle.std.proofs.lemmas.List.{length-take-le}
-use Rattle.nf_rational.specs.Rational.{ℚ}
-use Rattle.nf_thin_def.specs.Equations.{link_flows_in}
-use Rattle.nf_thin_equation_laws.proofs.Packed.{onto-length}
+use Rattle.nf_thin_one.proofs.Common.{length-take-le, ℚ, link_flows_in, onto-length}
 use Rattle.nf_thin_one.proofs.Outcomes.{judged_so}
 use Rattle.nf_thin_one.proofs.Patterns.{node_fails, link_fails}
 use Rattle.nf_thin_one.proofs.trying.judge_values.Goals as goal

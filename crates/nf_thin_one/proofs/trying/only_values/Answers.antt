@@ -1,7 +1,5 @@
 use Rattle.std.proofs.Common.{Some, sym, ap, ◌∙◌, map-id}
-use Rattle.nf_rational.specs.Rational.{ℚ}
-use Rattle.nf_linear.specs.declared.solution.Solved.{Solved}
-use Rattle.nf_linear.specs.Solved.{values_of}
+use Rattle.nf_thin_one.proofs.Common.{ℚ, Solved, values_of}
 use Rattle.nf_thin_one.proofs.trying.only_values.Goals as goal
 
 pub returns-in-One : goal.returns-in-One

@@ -1,5 +1,5 @@
 use Rattle.std.proofs.Common.{ap, ◌∙◌}
-use Rattle.nf_thin_one.specs.Filling.{all_zero}
+use Rattle.nf_thin_one.proofs.Common.{all_zero}
 use Rattle.nf_thin_one.proofs.SmallTables.{small_found}
 use Rattle.nf_thin_one.proofs.trying.small_solution.Goals as goal
 

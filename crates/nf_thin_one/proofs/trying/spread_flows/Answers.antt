@@ -1,6 +1,5 @@
 use Rattle.std.proofs.Common.{List, take, refl, sym, subst, ◌+◌, arith}
-use Rattle.std.proofs.lemmas.Option.{slice_get_read}
-use Rattle.nf_rational.specs.Rational.{ℚ}
+use Rattle.nf_thin_one.proofs.Common.{slice_get_read, ℚ}
 use Rattle.nf_thin_one.proofs.Spreading.{AreFlows, has_value, active_more, inactive_more}
 use Rattle.nf_thin_one.proofs.Slices.{take_more}
 use Rattle.nf_thin_one.proofs.trying.spread_flows.Goals.{then-active, else-active}

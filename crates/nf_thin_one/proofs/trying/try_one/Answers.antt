@@ -1,7 +1,5 @@
-use Rattle.std.proofs.Common.{◌∙◌, ap}
-use Rattle.std.specs.Prelude.{Ok, option_map}
-use Rattle.std.proofs.lemmas.Result.{err_from_is_err_and}
-use Rattle.nf_frac_def.specs.Passing.{passes_Q}
+use Rattle.std.proofs.Common.{◌∙◌, ap, Ok, option_map}
+use Rattle.nf_thin_one.proofs.Common.{err_from_is_err_and, passes_Q}
 use Rattle.nf_thin_one.proofs.Outcomes.{tried_err, tried_none, values_count, tried_values}
 use Rattle.nf_thin_one.proofs.trying.try_one.Goals as goal
 

@@ -1,6 +1,5 @@
 use Rattle.std.proofs.Common.{Ok, sym, ap, ◌∙◌}
-use Rattle.std.proofs.lemmas.Result.{err_from_is_err_and}
-use Rattle.nf_frac_def.specs.Passing.{passes_Q}
+use Rattle.nf_thin_one.proofs.Common.{err_from_is_err_and, passes_Q}
 use Rattle.nf_linear.specs.Grids.{values_if}
 use Rattle.nf_thin_one.proofs.Outcomes.{into_err, into_values, tried_none, values_count}
 use Rattle.nf_thin_one.proofs.PatternIn.{pattern_in}

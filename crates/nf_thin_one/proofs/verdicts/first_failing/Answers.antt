@@ -1,6 +1,5 @@
 use Rattle.std.proofs.Common.{arith}
-use Rattle.std.proofs.lemmas.Result.{err_from_is_err_and}
-use Rattle.nf_frac_def.specs.Passing.{passes_Q}
+use Rattle.nf_thin_one.proofs.Common.{err_from_is_err_and, passes_Q}
 use Rattle.nf_thin_one.proofs.Concluding.{loop_goes_on, loop_stops, loop_ends}
 use Rattle.nf_thin_one.proofs.verdicts.first_failing.Goals as goal
 

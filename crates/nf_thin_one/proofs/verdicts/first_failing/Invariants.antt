@@ -1,9 +1,5 @@
-use Rattle.std.proofs.Common.{◌≡◌, drop}
-use Rattle.std.specs.Prelude.{None}
-use Rattle.std.specs.List.{enumerate_from}
-use Rattle.nf_frac_def.specs.Passing.{passes_Q}
-use Rattle.nf_frac_def.specs.Checked.{fold_checked}
-use Rattle.nf_thin_one.specs.Judging.{broken_after}
+use Rattle.std.proofs.Common.{◌≡◌, drop, None}
+use Rattle.nf_thin_one.proofs.Common.{enumerate_from, passes_Q, fold_checked, broken_after}
 use Rattle.nf_thin_one.proofs.verdicts.first_failing.Given as goal
 
 -- what is found so far goes on over the links that are left

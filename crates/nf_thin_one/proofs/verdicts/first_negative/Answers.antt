@@ -1,5 +1,4 @@
-use Rattle.nf_model.specs.Entries.{number_at}
-use Rattle.nf_rational_laws.proofs.Tests.{negative_of, not_negative_of}
+use Rattle.nf_thin_one.proofs.Common.{number_at, negative_of, not_negative_of}
 use Rattle.nf_thin_one.proofs.Inequalities.{one_more_not_negative}
 use Rattle.nf_thin_one.proofs.verdicts.first_negative.Goals as goal
 

@@ -1,4 +1,4 @@
-use Rattle.nf_thin_one.specs.Judging.{NoneNegativeBefore}
+use Rattle.nf_thin_one.proofs.Common.{NoneNegativeBefore}
 use Rattle.nf_thin_one.proofs.verdicts.first_negative.Given as goal
 
 abbrev pub invariant-loop-v : goal.invariant-loop-v

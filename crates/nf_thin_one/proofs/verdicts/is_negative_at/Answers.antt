@@ -1,8 +1,5 @@
 use Rattle.std.proofs.Common.{Option, not, unwrap_or, refl, sym, ap, ◌∙◌}
-use Rattle.std.proofs.lemmas.Option.{slice_get_read}
-use Rattle.nf_rational.specs.Rational.{ℚ}
-use Rattle.nf_rational.specs.Operations.{0ℚ}
-use Rattle.nf_rational.specs.Order.{le_ℚ}
+use Rattle.nf_thin_one.proofs.Common.{slice_get_read, ℚ, 0ℚ, le_ℚ}
 use Rattle.nf_thin_one.proofs.verdicts.is_negative_at.Goals as goal
 
 pub returns : goal.returns

@@ -1,17 +1,5 @@
-use Rattle.std.proofs.Common.{◌≡◌, ◌<◌, length, Bool, Option, None, Result, refl, sym, ap, ◌∙◌, arith}
-use Rattle.std.specs.Prelude.{ℕ, unwrap_or}
-use Rattle.std.specs.List.{slice_get}
-use Rattle.std.proofs.lemmas.Option.{slice_get_read}
-use Rattle.nf_rational.specs.Rational.{ℚ}
-use Rattle.nf_rational.specs.Operations.{0ℚ}
-use Rattle.nf_frac_def.specs.declared.PassedAt.{PassedAt}
-use Rattle.nf_frac_def.specs.declared.Part.TheVariants.{Verdict}
-use Rattle.nf_frac_def.specs.Passing.{passes_Q}
-use Rattle.nf_frac_def.specs.Checked.{at_part}
-use Rattle.nf_model.specs.declared.State.{State}
-use Rattle.nf_model.specs.Entries.{number_at}
-use Rattle.nf_model.specs.Network.{Link}
-use Rattle.nf_thin_one.specs.Judging.{link_verdict}
+use Rattle.std.proofs.Common.{◌≡◌, ◌<◌, length, Bool, Option, None, Result, refl, sym, ap, ◌∙◌, arith, ℕ, unwrap_or}
+use Rattle.nf_thin_one.proofs.Common.{slice_get, slice_get_read, ℚ, 0ℚ, PassedAt, Verdict, passes_Q, at_part, State, number_at, Link, link_verdict}
 use Rattle.nf_thin_one.proofs.verdicts.judge.Goals as goal
 
 pub link-here-requires : goal.link-here-requires

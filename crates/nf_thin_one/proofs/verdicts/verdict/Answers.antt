@@ -1,5 +1,4 @@
-use Rattle.std.proofs.lemmas.Result.{err_from_is_err_and}
-use Rattle.nf_frac_def.specs.Passing.{passes_Q}
+use Rattle.nf_thin_one.proofs.Common.{err_from_is_err_and, passes_Q}
 use Rattle.nf_thin_one.proofs.Concluding.{judged_err, none_passes, first_fails, all_meet}
 use Rattle.nf_thin_one.proofs.verdicts.verdict.Goals as goal
 

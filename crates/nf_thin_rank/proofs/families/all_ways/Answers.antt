@@ -1,8 +1,5 @@
 use Rattle.std.proofs.Common.{List, length, sym, ap, subst, arith}
-use Rattle.nf_thin_narrow.specs.declared.firm.Firm.{Firm}
-use Rattle.nf_thin_rank.specs.Firming.{AreFirmBy}
-use Rattle.nf_graph.proofs.NetworkHops.{hops_length}
-use Rattle.nf_net.proofs.Limits.{few_hops}
+use Rattle.nf_thin_rank.proofs.Common.{Firm, AreFirmBy, hops_length, few_hops}
 use Rattle.nf_thin_rank.proofs.Covers.{first_covers, covers_more, covers_before}
 use Rattle.nf_thin_rank.proofs.families.all_ways.Goals as goal
 

@@ -1,6 +1,5 @@
-use Rattle.std.proofs.Common.{sym, ap, ◌∙◌}
-use Rattle.std.specs.Prelude.{Option, Some}
-use Rattle.nf_model.specs.declared.State.{State}
+use Rattle.std.proofs.Common.{sym, ap, ◌∙◌, Option, Some}
+use Rattle.nf_thin_rank.proofs.Common.{State}
 use Rattle.nf_thin_rank.proofs.Keepers.{some_state}
 use Rattle.nf_thin_rank.proofs.families.has_state.Goals as goal
 

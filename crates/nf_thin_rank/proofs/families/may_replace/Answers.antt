@@ -1,5 +1,5 @@
 use Rattle.std.proofs.Common.{sym, ap, ◌∙◌}
-use Rattle.nf_model.specs.Network.{Link}
+use Rattle.nf_thin_rank.proofs.Common.{Link}
 use Rattle.nf_thin_rank.proofs.Keepers.{may_keep_by}
 use Rattle.nf_thin_rank.proofs.families.may_replace.Goals as goal
 

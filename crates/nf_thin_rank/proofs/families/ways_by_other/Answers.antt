@@ -1,12 +1,6 @@
-use Rattle.std.proofs.Common.{inr, ℕ, List, length, sym, ap, subst, ◌∙◌, arith}
-use Rattle.std.specs.Prelude.{Option, Some, IfSome, slice_set}
-use Rattle.std.proofs.lemmas.Result.{IfOk-weaker}
-use Rattle.nf_thin_narrow.specs.declared.firm.Firm.{Firm}
+use Rattle.std.proofs.Common.{inr, ℕ, List, length, sym, ap, subst, ◌∙◌, arith, Option, Some, IfSome, slice_set}
+use Rattle.nf_thin_rank.proofs.Common.{IfOk-weaker, Firm, AreKeepers, AreFirmBy, IsSpare, IsByOther, hops_length, few_hops}
 use Rattle.nf_thin_rank.specs.declared.families.Spare.{Spare}
-use Rattle.nf_thin_rank.specs.Firming.{AreKeepers, AreFirmBy}
-use Rattle.nf_thin_rank.specs.Families.{IsSpare, IsByOther}
-use Rattle.nf_graph.proofs.NetworkHops.{hops_length}
-use Rattle.nf_net.proofs.Limits.{few_hops}
 use Rattle.nf_thin_rank.proofs.Covers.{other_keeps}
 use Rattle.nf_thin_rank.proofs.families.ways_by_other.Goals as goal
 

@@ -1,7 +1,5 @@
 use Rattle.std.proofs.Common.{List, length, not, sym, ap, subst, ◌∙◌, arith}
-use Rattle.nf_model.specs.Network.{Link}
-use Rattle.nf_pattern.proofs.Each.{EachEntry, each_pushed, length_pushed}
-use Rattle.nf_thin_narrow.specs.declared.firm.Firm.{Firm}
+use Rattle.nf_thin_rank.proofs.Common.{Link, EachEntry, each_pushed, length_pushed, Firm}
 use Rattle.nf_thin_rank.proofs.Keepers.{IsFirmBy, firm_by, firm_of, none_some}
 use Rattle.nf_thin_rank.proofs.firming.firm_states.Goals as goal
 

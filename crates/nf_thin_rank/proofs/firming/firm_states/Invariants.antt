@@ -1,5 +1,5 @@
 use Rattle.std.proofs.Common.{◌≡◌, length}
-use Rattle.nf_pattern.proofs.Each.{EachEntry}
+use Rattle.nf_thin_rank.proofs.Common.{EachEntry}
 use Rattle.nf_thin_rank.proofs.Keepers.{IsFirmBy}
 use Rattle.nf_thin_rank.proofs.firming.firm_states.Given as goal
 

@@ -1,9 +1,5 @@
-use Rattle.std.proofs.Common.{ℕ, ◌+◌, List, length, sym, ap, subst, ◌∙◌, arith, rules}
-use Rattle.std.specs.Prelude.{Option}
-use Rattle.nf_model.specs.Network.{Link, hop_of}
-use Rattle.nf_rational_laws.proofs.Entries.{slice_get-image}
-use Rattle.nf_thin_rank.specs.Firming.{AreKeepers}
-use Rattle.nf_pattern.proofs.Each.{take_front}
+use Rattle.std.proofs.Common.{ℕ, ◌+◌, List, length, sym, ap, subst, ◌∙◌, arith, rules, Option}
+use Rattle.nf_thin_rank.proofs.Common.{Link, hop_of, slice_get-image, AreKeepers, take_front}
 use Rattle.nf_thin_rank.proofs.Keepers.{none_kept, one_more}
 use Rattle.nf_thin_rank.proofs.firming.keepers.Goals as goal
 

@@ -1,4 +1,4 @@
-use Rattle.nf_thin_rank.specs.Firming.{AreKeepers}
+use Rattle.nf_thin_rank.proofs.Common.{AreKeepers}
 use Rattle.nf_thin_rank.proofs.firming.keepers.Given as goal
 
 abbrev pub invariant-loop-e : goal.invariant-loop-e

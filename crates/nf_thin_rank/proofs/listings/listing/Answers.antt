@@ -1,10 +1,5 @@
 use Rattle.std.proofs.Common.{List, Bool, length, ◌∙◌, ap, sym, subst, ◌≡◌}
-use Rattle.nf_model.specs.Walk.{Hop}
-use Rattle.nf_graph.proofs.NetworkHops.{hops_length, unbounded_length, below_nodes}
-use Rattle.nf_net.proofs.Limits.{few_hops}
-use Rattle.std.proofs.lemmas.Result.{IfOk-weaker}
-use Rattle.nf_model.specs.Pattern.{IsPattern}
-use Rattle.nf_pattern.specs.Given.{Given}
+use Rattle.nf_thin_rank.proofs.Common.{Hop, hops_length, unbounded_length, below_nodes, few_hops, IfOk-weaker, IsPattern, Given}
 use Rattle.nf_thin_rank.proofs.listings.listing.Goals as goal
 
 pub new-requires-clause-ends : goal.new-requires-clause-ends

@@ -1,12 +1,7 @@
-use Rattle.std.proofs.Common.{◌≡◌, ℕ, ◌∙◌, ap, Bool, length, take, arith}
+use Rattle.std.proofs.Common.{◌≡◌, ℕ, ◌∙◌, ap, Bool, length, take, arith, Some, is_none}
+use Rattle.nf_thin_rank.proofs.Common.{slice_get-map, Link, unbounded, take_pushed, none_flag, unbounded_length}
 use Rattle.std.proofs.Math.Seq.{take-length}
-use Rattle.std.specs.Prelude.{Some, is_none}
 use Rattle.std.specs.Option.{option_map}
-use Rattle.std.proofs.lemmas.Option.{slice_get-map}
-use Rattle.nf_model.specs.Network.{Link, unbounded}
-use Rattle.nf_pattern.proofs.Each.{take_pushed}
-use Rattle.nf_thin_guess.proofs.Flags.{none_flag}
-use Rattle.nf_graph.proofs.NetworkHops.{unbounded_length}
 use Rattle.nf_thin_rank.proofs.listings.unbounded_flags.Goals as goal
 
 pub loop-e-preserved : goal.loop-e-preserved

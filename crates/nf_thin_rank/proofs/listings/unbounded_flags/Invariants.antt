@@ -1,6 +1,5 @@
-use Rattle.std.proofs.Common.{◌≡◌}
-use Rattle.std.specs.Prelude.{take}
-use Rattle.nf_model.specs.Network.{unbounded}
+use Rattle.std.proofs.Common.{◌≡◌, take}
+use Rattle.nf_thin_rank.proofs.Common.{unbounded}
 use Rattle.nf_thin_rank.proofs.listings.unbounded_flags.Given as goal
 
 abbrev pub invariant-loop-e : goal.invariant-loop-e

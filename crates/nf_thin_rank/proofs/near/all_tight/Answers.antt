@@ -1,6 +1,5 @@
 use Rattle.std.proofs.Common.{sym, subst, arith}
-use Rattle.nf_model.specs.Network.{unbounded}
-use Rattle.nf_model.specs.Pattern.{Pattern, IsPattern}
+use Rattle.nf_thin_rank.proofs.Common.{unbounded, Pattern, IsPattern}
 use Rattle.nf_thin_rank.proofs.near.all_tight.Goals as goal
 
 pub loop-e-init : goal.loop-e-init

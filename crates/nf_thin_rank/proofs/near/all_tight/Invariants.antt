@@ -1,5 +1,4 @@
-use Rattle.nf_model.specs.Network.{unbounded}
-use Rattle.nf_model.specs.Pattern.{IsPattern}
+use Rattle.nf_thin_rank.proofs.Common.{unbounded, IsPattern}
 use Rattle.nf_thin_rank.proofs.near.all_tight.Given as goal
 
 -- The pattern is still a pattern.

@@ -1,7 +1,5 @@
-use Rattle.std.proofs.Common.{sym, subst}
-use Rattle.std.specs.Prelude.{option_copied, Some}
-use Rattle.nf_model.specs.Pattern.{Pattern}
-use Rattle.nf_pattern.specs.Given.{Enumerates}
+use Rattle.std.proofs.Common.{sym, subst, option_copied, Some}
+use Rattle.nf_thin_rank.proofs.Common.{Pattern, Enumerates}
 use Rattle.nf_thin_rank.proofs.near.copy_next.Goals as goal
 
 pub returns-in_ok-pattern-in-Some : goal.returns-in_ok-pattern-in-Some

@@ -1,6 +1,5 @@
-use Rattle.std.proofs.lemmas.Result.{IfOk-weaker}
-use Rattle.std.specs.Prelude.{IfSome}
-use Rattle.nf_model.specs.Pattern.{IsListedIn}
+use Rattle.std.proofs.Common.{IfSome}
+use Rattle.nf_thin_rank.proofs.Common.{IfOk-weaker, IsListedIn}
 use Rattle.nf_thin_rank.proofs.Asking.{first_asked}
 use Rattle.nf_thin_rank.proofs.Posed.{posed_pattern}
 use Rattle.nf_thin_rank.proofs.near.near_listed.Goals as goal

@@ -1,6 +1,5 @@
 use Rattle.std.proofs.Common.{refl, sym, subst, ◌∙◌}
-use Rattle.nf_model.specs.Pattern.{Pattern, IsPattern}
-use Rattle.nf_thin_guess.proofs.Flags.{none_flag}
+use Rattle.nf_thin_rank.proofs.Common.{Pattern, IsPattern, none_flag}
 use Rattle.nf_thin_rank.proofs.Keepers.{still_so}
 use Rattle.nf_thin_rank.proofs.near.tighten.Goals as goal
 

@@ -1,9 +1,5 @@
 use Rattle.std.proofs.Common.{ℕ, List, Bool, length, sym, ap, subst, ◌∙◌, arith}
-use Rattle.nf_model.specs.Walk.{Hop}
-use Rattle.nf_model.specs.Network.{hops}
-use Rattle.nf_thin_laws.specs.Ways.{AreSole}
-use Rattle.nf_graph.proofs.NetworkHops.{hops_length}
-use Rattle.nf_net.proofs.Limits.{few_hops}
+use Rattle.nf_thin_rank.proofs.Common.{Hop, hops, AreSole, hops_length, few_hops}
 use Rattle.nf_thin_rank.proofs.Early.{early, from_test}
 use Rattle.nf_thin_rank.proofs.standing.is_early.Goals as goal
 

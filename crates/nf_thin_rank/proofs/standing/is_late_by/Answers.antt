@@ -1,6 +1,5 @@
-use Rattle.std.proofs.Common.{leb-true, arith, subst}
-use Rattle.std.specs.Prelude.{Option, IfSome}
-use Rattle.nf_model.specs.Pattern.{Pattern, IsListedIn}
+use Rattle.std.proofs.Common.{leb-true, arith, subst, Option, IfSome}
+use Rattle.nf_thin_rank.proofs.Common.{Pattern, IsListedIn}
 use Rattle.nf_thin_rank.proofs.standing.is_late_by.Goals as goal
 
 pub listed_before-requires-clause-listed : goal.listed_before-requires-clause-listed

@@ -1,9 +1,5 @@
 use Rattle.std.proofs.Common.{length, refl, sym, ap, subst, ◌∙◌}
-use Rattle.nf_pattern.specs.Given.{Question}
-use Rattle.nf_thin_narrow.specs.Asking.{StandsWithin}
-use Rattle.nf_thin_narrow.proofs.Going.{from_start}
-use Rattle.nf_thin_rank.specs.Questions.{question_of}
-use Rattle.nf_graph.proofs.NetworkHops.{hops_length}
+use Rattle.nf_thin_rank.proofs.Common.{Question, StandsWithin, from_start, question_of, hops_length}
 use Rattle.nf_thin_rank.proofs.standing.is_within.Goals as goal
 
 pub goes_on_to-requires-clause-question : goal.goes_on_to-requires-clause-question

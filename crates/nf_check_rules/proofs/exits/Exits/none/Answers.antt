@@ -1,7 +1,5 @@
 use Rattle.std.proofs.Common.{◌≡◌, ℕ, List, [], ◌∷◌, ◌++◌, length, replicate, Option, None, ap, ◌∙◌, arith}
-use Rattle.std.proofs.lemmas.List.{replicate_more}
-use Rattle.std.proofs.lemmas.Result.{IfOk-from_err}
-use Rattle.nf_curve.specs.Points.{Grown}
+use Rattle.nf_check_rules.proofs.Common.{replicate_more, IfOk-from_err, Grown}
 use Rattle.nf_check_rules.proofs.exits.Exits.none.Goals as goal
 
 pub returns-in_err-kept : goal.returns-in_err-kept

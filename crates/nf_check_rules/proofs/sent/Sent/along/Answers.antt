@@ -1,11 +1,5 @@
-use Rattle.std.proofs.Common.{◌≡◌, Option, subst}
-use Rattle.std.specs.Prelude.{Ok, IfSome}
-use Rattle.nf_rational.specs.Rational.{ℚ}
-use Rattle.nf_frac_def.specs.Passing.{passes_Q}
-use Rattle.nf_frac_def.specs.declared.Part.TheVariants.{Check}
-use Rattle.nf_frac_def.specs.Checked.{Checked, Gives, at_part}
-use Rattle.nf_curve.specs.Points.{Grown}
-use Rattle.nf_check_rules.specs.Sent.{points_in, exits_of}
+use Rattle.std.proofs.Common.{◌≡◌, Option, subst, Ok, IfSome}
+use Rattle.nf_check_rules.proofs.Common.{ℚ, passes_Q, Check, Checked, Gives, at_part, Grown, points_in, exits_of}
 use Rattle.nf_check_rules.proofs.Keeping.{Three, sent_known}
 use Rattle.nf_check_rules.proofs.sent.Sent.along.Goals as goal
 

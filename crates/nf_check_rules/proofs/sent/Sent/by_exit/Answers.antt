@@ -1,12 +1,7 @@
-use Rattle.std.proofs.lemmas.Result.{err_from_is_err_and}
 use Rattle.std.proofs.Common.{◌∙◌}
-use Rattle.nf_frac_def.specs.Passing.{passes_Q}
-use Rattle.nf_frac_def.specs.Checked.{at_part}
-use Rattle.nf_frac_def.specs.declared.Part.TheVariants.{Check}
-use Rattle.nf_curve_def.specs.Composed.{checked_composed}
-use Rattle.nf_curve_def.specs.Short.{checked_short}
-use Rattle.nf_curve.proofs.Exits.{after_err, after_ok, stops_on}
-use Rattle.nf_check_rules.specs.Sent.{sent_list, sent_on_link}
+use Rattle.nf_check_rules.proofs.Common.{err_from_is_err_and, passes_Q, at_part, Check, checked_composed, checked_short, after_err, after_ok, stops_on}
+use Rattle.nf_check_rules.proofs.Common.{sent_on_link}
+use Rattle.nf_check_rules.specs.Sent.{sent_list}
 use Rattle.nf_check_rules.proofs.sent.Sent.by_exit.Goals as goal
 
 pub returns-in_err-all_taken-clause-list : goal.returns-in_err-all_taken-clause-list

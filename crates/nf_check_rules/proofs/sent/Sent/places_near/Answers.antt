@@ -1,5 +1,5 @@
 use Rattle.std.proofs.Common.{arith}
-use Rattle.nf_curve.proofs.Placing.{place_within}
+use Rattle.nf_check_rules.proofs.Common.{place_within}
 use Rattle.nf_check_rules.proofs.sent.Sent.places_near.Goals as goal
 
 pub returns-clause-within : goal.returns-clause-within

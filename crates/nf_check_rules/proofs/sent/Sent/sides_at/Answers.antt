@@ -1,9 +1,5 @@
-use Rattle.std.proofs.lemmas.Result.{err_from_is_err_and}
 use Rattle.std.proofs.Common.{sym, ◌∙◌}
-use Rattle.nf_frac_def.specs.Passing.{passes_Q}
-use Rattle.nf_frac_def.specs.declared.Part.TheVariants.{Check}
-use Rattle.nf_curve_def.specs.Values.{checked_value}
-use Rattle.nf_curve.proofs.Exits.{after_err, after_ok}
+use Rattle.nf_check_rules.proofs.Common.{err_from_is_err_and, passes_Q, Check, checked_value, after_err, after_ok}
 use Rattle.nf_check_rules.proofs.sent.Sent.sides_at.Goals as goal
 
 pub returns-in_err-left : goal.returns-in_err-left

@@ -1,15 +1,8 @@
-use Rattle.std.proofs.Common.{◌≡◌, Bool, true, false, List, length, set, Option, Some, Result, Ok, Err, refl, sym, ap, subst, ◌∙◌, arith}
-use Rattle.std.specs.Prelude.{ℕ, if◌then◌else◌}
-use Rattle.nf_frac_def.specs.Checked.{◌>>=◌}
-use Rattle.std.proofs.lemmas.Result.{err_from_is_err_and}
-use Rattle.nf_rational.specs.Rational.{ℚ}
-use Rattle.nf_net_def.specs.Named.{Named}
-use Rattle.nf_complete_def.specs.declared.FlowsRule.{FlowsRule}
-use Rattle.nf_complete_def.specs.declared.FlowsRule.TheVariants.{S4, S10}
-use Rattle.nf_complete_def.specs.FlowsFile.{FlowsEntry, FlowOf, SlopeOf, End, FlowsDraft, flows_entry, is_given, with_entry, add_flows}
+use Rattle.std.proofs.Common.{◌≡◌, Bool, true, false, List, length, set, Option, Some, Result, Ok, Err, refl, sym, ap, subst, ◌∙◌, arith, ℕ, if◌then◌else◌}
+use Rattle.nf_complete_read.proofs.Common.{◌>>=◌, err_from_is_err_and, ℚ, Named, FlowsRule, S4, S10, FlowsEntry, FlowOf, SlopeOf, End, FlowsDraft}
+use Rattle.nf_complete_read.proofs.Common.{flows_entry, is_given, with_entry, add_flows, seen_entry, IsOf}
 use Rattle.nf_complete_read.specs.declared.entry.Entry.{Entry}
 use Rattle.nf_side.specs.Said.{said_by}
-use Rattle.nf_complete_read.specs.Entries.{seen_entry, IsOf}
 use Rattle.nf_complete_read.proofs.draft.Draft.add.Goals as goal
 
 -- a draft with an `end` line takes no more, and another one what the line says

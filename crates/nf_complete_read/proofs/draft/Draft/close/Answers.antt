@@ -1,5 +1,5 @@
 use Rattle.std.proofs.Common.{length, sym, ap, ◌∙◌}
-use Rattle.nf_complete_def.specs.FlowsFile.{FlowsDraft, or_nothing, if_ended}
+use Rattle.nf_complete_read.proofs.Common.{FlowsDraft, or_nothing, if_ended}
 use Rattle.nf_complete_read.proofs.Giving.{as_many, ended_gives}
 use Rattle.nf_complete_read.proofs.draft.Draft.close.Goals as goal
 

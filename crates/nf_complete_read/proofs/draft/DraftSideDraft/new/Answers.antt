@@ -1,5 +1,5 @@
 use Rattle.std.proofs.Common.{rules, ℕ, replicate, Option, None, ap, ◌∙◌}
-use Rattle.nf_rational.specs.Rational.{ℚ}
+use Rattle.nf_complete_read.proofs.Common.{ℚ}
 use Rattle.nf_complete_read.proofs.Nothing.{nothing_given}
 use Rattle.nf_complete_read.proofs.draft.DraftSideDraft.new.Goals as goal
 

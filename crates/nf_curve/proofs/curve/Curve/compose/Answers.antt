@@ -1,7 +1,5 @@
 use Rattle.std.proofs.Common.{◌≡◌}
-use Rattle.nf_frac_def.specs.Passing.{passes_Q}
-use Rattle.nf_curve_def.specs.Composed.{checked_composed}
-use Rattle.nf_curve_laws.proofs.Composed.{checked_composed-is}
+use Rattle.nf_curve.proofs.Common.{passes_Q, checked_composed, checked_composed-is}
 use Rattle.nf_curve.proofs.Exits.{was_ok}
 use Rattle.nf_curve.proofs.Points.{points_seen, curve_seen}
 use Rattle.nf_curve.proofs.curve.Curve.compose.Goals as goal

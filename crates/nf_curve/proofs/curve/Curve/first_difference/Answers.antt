@@ -1,14 +1,8 @@
-use Rattle.std.proofs.Common.{◌≡◌, Some, sym, ap, subst, ◌∙◌}
-use Rattle.std.specs.Prelude.{Option, None, Result, Ok, option_map}
-use Rattle.nf_rational.specs.Rational.{ℚ}
-use Rattle.nf_frac_def.specs.Passing.{passes_Q}
-use Rattle.nf_frac_def.specs.declared.PassedAt.{PassedAt}
-use Rattle.nf_frac_def.specs.Checked.{at_part}
+use Rattle.std.proofs.Common.{◌≡◌, Some, sym, ap, subst, ◌∙◌, Option, None, Result, Ok, option_map}
+use Rattle.nf_curve.proofs.Common.{ℚ, passes_Q, PassedAt, at_part, checked_difference, sides_of}
 use Rattle.nf_curve_def.specs.Lines as lists
-use Rattle.nf_curve_def.specs.Differences.{checked_difference}
 use Rattle.nf_curve_def.specs.Meanings.{DifferFirst}
 use Rattle.nf_curve_laws.proofs.Differences.{checked_difference-is}
-use Rattle.nf_curve.specs.Sides.{sides_of}
 use Rattle.nf_curve.specs.declared.lines.Sides.{Sides}
 use Rattle.nf_curve.proofs.Exits.{was_ok}
 use Rattle.nf_curve.proofs.Points.{points_seen, curve_seen}

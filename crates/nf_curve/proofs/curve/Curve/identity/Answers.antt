@@ -1,8 +1,5 @@
-use Rattle.std.proofs.Common.{◌≡◌, Bool, false, List, sym, subst}
-use Rattle.std.specs.Prelude.{IsTrue}
-use Rattle.nf_rational.specs.Rational.{ℚ}
-use Rattle.nf_rational.specs.Order.{◌<ℚ◌}
-use Rattle.nf_curve.specs.Points.{last_time}
+use Rattle.std.proofs.Common.{◌≡◌, Bool, false, List, sym, subst, IsTrue}
+use Rattle.nf_curve.proofs.Common.{ℚ, ◌<ℚ◌, last_time}
 use Rattle.nf_curve.proofs.Points.{positive}
 use Rattle.nf_curve.proofs.curve.Curve.identity.Goals as goal
 

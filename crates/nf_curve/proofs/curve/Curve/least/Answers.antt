@@ -1,7 +1,5 @@
 use Rattle.std.proofs.Common.{◌≡◌}
-use Rattle.nf_frac_def.specs.Passing.{passes_Q}
-use Rattle.nf_curve_def.specs.Least.{checked_least}
-use Rattle.nf_curve_laws.proofs.Least.{checked_least-is}
+use Rattle.nf_curve.proofs.Common.{passes_Q, checked_least, checked_least-is}
 use Rattle.nf_curve.proofs.Exits.{was_ok}
 use Rattle.nf_curve.proofs.Points.{points_seen, curve_seen, curve_read}
 use Rattle.nf_curve.proofs.curve.Curve.least.Goals as goal

@@ -1,7 +1,5 @@
-use Rattle.std.proofs.Common.{◌<◌, length, refl, sym, ap, subst, ◌∙◌}
-use Rattle.std.specs.Prelude.{slice_get}
-use Rattle.std.proofs.lemmas.Option.{slice_get_read}
-use Rattle.nf_curve.specs.Points.{Grown}
+use Rattle.std.proofs.Common.{◌<◌, length, refl, sym, ap, subst, ◌∙◌, slice_get}
+use Rattle.nf_curve.proofs.Common.{slice_get_read, Grown}
 use Rattle.nf_curve.proofs.curve.Curve.point.Goals as goal
 
 pub returns : goal.returns

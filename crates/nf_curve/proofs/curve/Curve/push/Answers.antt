@@ -1,6 +1,5 @@
 use Rattle.std.proofs.Common.{subst, sym}
-use Rattle.nf_rational.specs.Order.{◌<ℚ◌}
-use Rattle.nf_curve.specs.Points.{Grown, last_time}
+use Rattle.nf_curve.proofs.Common.{◌<ℚ◌, Grown, last_time}
 use Rattle.nf_curve.proofs.Points.{IsCurve-append}
 use Rattle.nf_curve.proofs.curve.Curve.push.Goals as goal
 

@@ -1,6 +1,5 @@
 use Rattle.std.proofs.Common.{◌≡◌}
-use Rattle.nf_frac_def.specs.Passing.{passes_Q}
-use Rattle.nf_curve_def.specs.Sums.{checked_sum}
+use Rattle.nf_curve.proofs.Common.{passes_Q, checked_sum}
 use Rattle.nf_curve_laws.proofs.Sums.{checked_sum-is}
 use Rattle.nf_curve.proofs.Exits.{was_ok}
 use Rattle.nf_curve.proofs.Points.{points_seen, curve_seen, curve_read}

@@ -1,10 +1,5 @@
 use Rattle.std.proofs.Common.{◌≡◌, List, ap, ◌∙◌}
-use Rattle.nf_rational.specs.Rational.{ℚ}
-use Rattle.nf_frac_def.specs.Passing.{passes_Q}
-use Rattle.nf_frac_def.specs.Checked.{at_part}
-use Rattle.nf_model.specs.Curve.{value}
-use Rattle.nf_curve_def.specs.Values.{checked_value}
-use Rattle.nf_curve_laws.proofs.Values.{checked_value-is}
+use Rattle.nf_curve.proofs.Common.{ℚ, passes_Q, at_part, value, checked_value, checked_value-is}
 use Rattle.nf_curve.proofs.Exits.{if_ok}
 use Rattle.nf_curve.proofs.Points.{points_seen, curve_seen}
 use Rattle.nf_curve.proofs.curve.Curve.value.Goals as goal

@@ -1,4 +1,4 @@
-use Rattle.nf_frac_def.specs.Passing.{bound_of}
+use Rattle.nf_frac.proofs.Common.{bound_of}
 use Rattle.nf_frac.proofs.Passing.{difference_done, sum_within, within_along}
 use Rattle.nf_frac.proofs.SmallPassing.{small_difference}
 use Rattle.nf_frac.proofs.fraction.Frac.difference.Goals as goal

@@ -1,9 +1,5 @@
 use Rattle.std.proofs.Common.{◌≡◌, Bool, sym, ◌∙◌, ap, subst}
-use Rattle.std.specs.Bool.{Decides}
-use Rattle.nf_rational.specs.Rational.{ℚ}
-use Rattle.nf_rational.specs.Operations.{0ℚ}
-use Rattle.nf_frac.specs.Order.{same_ℚ}
-use Rattle.nf_frac.specs.Total.{same_decides}
+use Rattle.nf_frac.proofs.Common.{Decides, ℚ, 0ℚ, same_ℚ, same_decides}
 use Rattle.nf_frac.proofs.Comparisons.{same_by_order}
 use Rattle.nf_frac.proofs.fraction.Frac.is_zero.Goals as goal
 

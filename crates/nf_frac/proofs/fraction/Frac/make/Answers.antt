@@ -1,8 +1,8 @@
 use Rattle.std.proofs.Common.{ap}
+use Rattle.nf_frac.proofs.Common.{bound_of}
 use mir.Syntax.{w128}
 use mir.Val.{of_z}
 use mir.Facts.{to_z-of_z}
-use Rattle.nf_frac_def.specs.Passing.{bound_of}
 use Rattle.nf_frac.proofs.Form.{stops}
 use Rattle.nf_frac.proofs.Made.{made, not_made}
 use Rattle.nf_frac.proofs.Passing.{within_along}

@@ -1,4 +1,4 @@
-use Rattle.nf_frac_def.specs.Passing.{bound_of}
+use Rattle.nf_frac.proofs.Common.{bound_of}
 use Rattle.nf_frac.proofs.Passing.{within_along}
 use Rattle.nf_frac.proofs.Turned.{neg_within}
 use Rattle.nf_frac.proofs.fraction.Frac.negated.Goals as goal

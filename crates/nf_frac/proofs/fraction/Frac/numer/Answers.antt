@@ -1,6 +1,5 @@
 use Rattle.std.proofs.Common.{◌≤◌, ℤ, nat_abs, sym, ◌∙◌, ap, subst}
-use Rattle.nf_rational.specs.Rational.{ℚ}
-use Rattle.nf_frac_def.specs.Passing.{bound_of}
+use Rattle.nf_frac.proofs.Common.{ℚ, bound_of}
 use Rattle.nf_frac.proofs.Bits.{plain}
 use Rattle.nf_frac.proofs.fraction.Frac.numer.Goals as goal
 

@@ -1,4 +1,4 @@
-use Rattle.nf_frac_def.specs.Passing.{bound_of}
+use Rattle.nf_frac.proofs.Common.{bound_of}
 use Rattle.nf_frac.proofs.Passing.{product_done, within_along}
 use Rattle.nf_frac.proofs.SmallPassing.{small_product}
 use Rattle.nf_frac.proofs.fraction.Frac.product.Goals as goal

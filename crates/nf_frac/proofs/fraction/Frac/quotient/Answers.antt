@@ -1,4 +1,4 @@
-use Rattle.nf_frac_def.specs.Passing.{bound_of}
+use Rattle.nf_frac.proofs.Common.{bound_of}
 use Rattle.nf_frac.proofs.Passing.{quotient_done, within_along}
 use Rattle.nf_frac.proofs.SmallPassing.{small_quotient}
 use Rattle.nf_frac.proofs.fraction.Frac.quotient.Goals as goal

@@ -1,5 +1,4 @@
-use Rattle.std.proofs.Math.Nat.{le_trans}
-use Rattle.nf_frac_def.specs.Passing.{bound_of}
+use Rattle.nf_frac.proofs.Common.{le_trans, bound_of}
 use Rattle.nf_frac.proofs.Bits.{kept_within}
 use Rattle.nf_frac.proofs.Written.{read_within}
 use Rattle.nf_frac.proofs.fraction.Frac.read_decimal.Goals as goal

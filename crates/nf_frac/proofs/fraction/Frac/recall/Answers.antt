@@ -1,8 +1,5 @@
 use Rattle.std.proofs.Common.{subst}
-use Rattle.nf_rational.specs.Rational.{ℚ}
-use Rattle.nf_frac_def.specs.Passing.{bound_of}
-use Rattle.nf_frac.specs.Parts.{IsWithin}
-use Rattle.nf_frac.specs.Narrow.{narrow_in}
+use Rattle.nf_frac.proofs.Common.{ℚ, bound_of, IsWithin, narrow_in}
 use Rattle.nf_frac.proofs.fraction.Frac.recall.Goals as goal
 
 pub returns : goal.returns

@@ -1,4 +1,4 @@
-use Rattle.nf_frac_def.specs.Passing.{bound_of}
+use Rattle.nf_frac.proofs.Common.{bound_of}
 use Rattle.nf_frac.proofs.Passing.{product_done, product_passed, within_along}
 use Rattle.nf_frac.proofs.fraction.Frac.wide_product.Goals as goal
 

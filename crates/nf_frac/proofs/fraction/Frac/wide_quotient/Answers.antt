@@ -1,4 +1,4 @@
-use Rattle.nf_frac_def.specs.Passing.{bound_of}
+use Rattle.nf_frac.proofs.Common.{bound_of}
 use Rattle.nf_frac.proofs.Passing.{quotient_done, quotient_passed, within_along}
 use Rattle.nf_frac.proofs.fraction.Frac.wide_quotient.Goals as goal
 

@@ -1,6 +1,5 @@
 use Rattle.std.proofs.Common.{sym, ◌∙◌, ap}
-use Rattle.nf_frac_def.specs.Passing.{bound_of}
-use Rattle.nf_rational.specs.Rational.{ℚ}
+use Rattle.nf_frac.proofs.Common.{bound_of, ℚ}
 use Rattle.nf_frac.proofs.Bits.{kept_below}
 use Rattle.nf_frac.proofs.Passing.{within_along}
 use Rattle.nf_frac.proofs.Written.{written, written_read, written_read_as_decimal}

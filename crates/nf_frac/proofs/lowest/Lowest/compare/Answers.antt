@@ -1,6 +1,6 @@
 use Rattle.std.proofs.Common.{ℕ, pos, ◌*ℤ◌, ◌∙◌, sym, ap}
+use Rattle.nf_frac.proofs.Common.{int_cmp}
 use mathlib.Core.Path.{ap₂}
-use Rattle.std.specs.Ordering.{int_cmp}
 use Rattle.nf_frac.proofs.Compare.{over_same}
 use Rattle.nf_frac.proofs.Form.{parts_of}
 use Rattle.nf_frac.proofs.lowest.Lowest.compare.Goals as goal

@@ -1,6 +1,6 @@
 use Rattle.std.proofs.Common.{◌∙◌, ◌*◌, ℕ}
+use Rattle.nf_frac.proofs.Common.{nat_cmp}
 use mathlib.Core.Path.{ap₂}
-use Rattle.std.specs.Ordering.{nat_cmp}
 use Rattle.nf_frac.proofs.Compare.{both_not_negative, both_negative, left_negative, right_negative, cmp_is}
 use Rattle.nf_frac.proofs.Form.{parts_of, num_plain}
 use Rattle.nf_frac.proofs.lowest.Lowest.compare_wide.Goals as goal

@@ -1,6 +1,6 @@
+use Rattle.nf_frac.proofs.Common.{greatest}
 use Rattle.nf_frac.proofs.Form.{parts_of, num_plain, form_of, value_of, own_within}
 use Rattle.nf_frac.proofs.Turned.{inverse_num, inverse_den, inv_within}
-use Rattle.nf_frac.specs.Parts.{greatest}
 use Rattle.nf_frac.proofs.lowest.Lowest.inverted.Goals as goal
 
 pub invariant_of-result : goal.invariant_of-result

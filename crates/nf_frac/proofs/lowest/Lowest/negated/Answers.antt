@@ -1,7 +1,7 @@
 use Rattle.std.proofs.Common.{sym, ◌∙◌}
+use Rattle.nf_frac.proofs.Common.{greatest}
 use Rattle.nf_frac.proofs.Form.{parts_of, num_plain, form_of, value_of, own_within}
 use Rattle.nf_frac.proofs.Turned.{minus_is, den-neg, neg_within}
-use Rattle.nf_frac.specs.Parts.{greatest}
 use Rattle.nf_frac.proofs.lowest.Lowest.negated.Goals as goal
 
 pub returns : goal.returns

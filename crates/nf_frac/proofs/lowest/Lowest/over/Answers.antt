@@ -1,8 +1,8 @@
 use Rattle.std.proofs.Common.{ℤ, pos, nat_abs, ap, ◌∙◌}
+use Rattle.nf_frac.proofs.Common.{greatest}
 use lib.Signed.{quot_z}
 use mir.Facts.{to_z-of_z}
 use Rattle.nf_frac.proofs.Form.{num_over, den_over, form_of, value_of, ratio_within}
-use Rattle.nf_frac.specs.Parts.{greatest}
 use Rattle.nf_frac.proofs.lowest.Lowest.over.Goals as goal
 
 pub invariant_of-result : goal.invariant_of-result

@@ -1,5 +1,5 @@
 use Rattle.std.proofs.Common.{sym, refl, ◌∙◌, ◌/◌, ℕ}
-use Rattle.std.proofs.Math.Nat.{le_trans}
+use Rattle.nf_frac.proofs.Common.{le_trans}
 use mathlib.Core.Path.{ap₂}
 use Rattle.nf_frac.proofs.Form.{parts_of, num_plain, stops, form_of, value_of, within_more, own_within}
 use Rattle.nf_frac.proofs.Products.{factor_is, part_plain, no_num, no_den, num_of_product, den_of_product, product_within}

@@ -1,5 +1,4 @@
-use Rattle.std.proofs.Common.{ℤ, ◌*ℤ◌, nat_abs, ◌≤◌, subst}
-use Rattle.std.specs.Prelude.{SomeIff}
+use Rattle.std.proofs.Common.{ℤ, ◌*ℤ◌, nat_abs, ◌≤◌, subst, SomeIff}
 use mathlib.Core.Path.{ap₂}
 use Rattle.nf_frac.proofs.Bits.{cast_plain}
 use Rattle.nf_frac.proofs.Form.{num_plain}

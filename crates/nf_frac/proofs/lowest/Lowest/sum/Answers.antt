@@ -1,9 +1,6 @@
 use Rattle.std.proofs.Common.{◌≡◌, ◌≤◌, ◌∙◌, ℕ, ℤ, nat_abs, sym, ap, subst}
-use Rattle.std.proofs.Math.Nat.{le_trans}
+use Rattle.nf_frac.proofs.Common.{le_trans, gcd, ratio, greatest}
 use native.Mathlib.Nat.{div-le_self}
-use Rattle.nf_rational.specs.Gcd.{gcd}
-use Rattle.nf_rational.specs.Rational.{ratio}
-use Rattle.nf_frac.specs.Parts.{greatest}
 use Rattle.nf_frac.proofs.Bits.{bits_of, plain}
 use Rattle.nf_frac.proofs.Form.{parts_of, stops}
 use Rattle.nf_frac.proofs.Sums.{no_denominator, no_left, no_right, no_total, fits, value, den_positive, factor, n_plain, n_small}

@@ -1,7 +1,6 @@
 use Rattle.std.proofs.Common.{sym, ap, nat_abs, ◌∙◌}
-use Rattle.std.proofs.Math.Nat.{le_trans}
+use Rattle.nf_frac.proofs.Common.{le_trans, gcd}
 use mathlib.Core.Path.{ap₂}
-use Rattle.nf_rational.specs.Gcd.{gcd}
 use Rattle.nf_frac.proofs.SmallParts.{short_parts, short_num, own_factor}
 use Rattle.nf_frac.proofs.small.Small.common_with.Goals as goal
 

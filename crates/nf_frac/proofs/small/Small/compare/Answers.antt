@@ -1,6 +1,6 @@
 use Rattle.std.proofs.Common.{ℤ, ℕ, pos, ◌*ℤ◌, ◌∙◌, sym, ap}
+use Rattle.nf_frac.proofs.Common.{int_cmp}
 use mathlib.Core.Path.{ap₂}
-use Rattle.std.specs.Ordering.{int_cmp}
 use Rattle.nf_frac.proofs.Compare.{over_same}
 use Rattle.nf_frac.proofs.SmallParts.{short_parts, short_num, own_short, kept_short, times_plain}
 use Rattle.nf_frac.proofs.small.Small.compare.Goals as goal

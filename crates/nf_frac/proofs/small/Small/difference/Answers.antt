@@ -1,6 +1,6 @@
 use Rattle.std.proofs.Common.{◌∙◌, ap}
-use Rattle.nf_rational.specs.Rational.{ℚ}
-use Rattle.nf_rational.specs.Operations.{◌+ℚ◌, ◌-ℚ◌}
+use Rattle.nf_frac.proofs.Common.{ℚ, ◌+ℚ◌}
+use Rattle.nf_rational.specs.Operations.{◌-ℚ◌}
 use Rattle.nf_frac.proofs.small.Small.difference.Goals as goal
 
 pub returns : goal.returns

@@ -1,6 +1,6 @@
+use Rattle.nf_frac.proofs.Common.{short}
 use Rattle.nf_frac.proofs.SmallParts.{short_parts, short_num, short_form, short_value, own_short}
 use Rattle.nf_frac.proofs.Turned.{inverse_num, inverse_den, inv_within}
-use Rattle.nf_frac.specs.Short.{short}
 use Rattle.nf_frac.proofs.small.Small.inverted.Goals as goal
 
 pub invariant_of-result : goal.invariant_of-result

@@ -1,7 +1,5 @@
 use Rattle.std.proofs.Common.{sym, ◌∙◌, subst}
-use Rattle.nf_rational.specs.Rational.{ℚ}
-use Rattle.nf_frac.specs.Parts.{IsWithin}
-use Rattle.nf_frac.specs.Short.{short}
+use Rattle.nf_frac.proofs.Common.{ℚ, IsWithin, short}
 use Rattle.nf_frac.proofs.SmallParts.{short_parts, short_num, short_form, short_value, own_short}
 use Rattle.nf_frac.proofs.Turned.{minus_is, den-neg, neg_within}
 use Rattle.nf_frac.proofs.small.Small.negated.Goals as goal

@@ -1,7 +1,7 @@
 use Rattle.std.proofs.Common.{ℤ, pos, nat_abs, ap, ◌∙◌}
+use Rattle.nf_frac.proofs.Common.{short}
 use lib.Signed.{quot_z}
 use mir.Facts.{to_z-of_z}
-use Rattle.nf_frac.specs.Short.{short}
 use Rattle.nf_frac.proofs.Form.{num_over, den_over, ratio_within}
 use Rattle.nf_frac.proofs.SmallParts.{short_form, short_value}
 use Rattle.nf_frac.proofs.small.Small.over.Goals as goal

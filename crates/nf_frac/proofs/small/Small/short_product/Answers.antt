@@ -1,5 +1,5 @@
 use Rattle.std.proofs.Common.{refl, ◌∙◌}
-use Rattle.nf_frac.specs.Short.{short}
+use Rattle.nf_frac.proofs.Common.{short}
 use Rattle.nf_frac.proofs.Form.{stops}
 use Rattle.nf_frac.proofs.Products.{no_num, no_den, num_of_product, den_of_product, product_within}
 use Rattle.nf_frac.proofs.ShortProducts.{left_num, left_den}

@@ -1,5 +1,5 @@
 use Rattle.std.proofs.Common.{refl, ◌∙◌, arith}
-use Rattle.nf_frac.specs.Short.{short}
+use Rattle.nf_frac.proofs.Common.{short}
 use Rattle.nf_frac.proofs.Form.{stops}
 use Rattle.nf_frac.proofs.Products.{no_num, num_of_product, den_of_product, product_within}
 use Rattle.nf_frac.proofs.ShortProducts.{whole_num, whole_den}

@@ -1,5 +1,5 @@
-use Rattle.nf_frac.proofs.Made.{short_natural, short_natural_value}
 use Rattle.std.proofs.Common.{◌∙◌, arith}
+use Rattle.nf_frac.proofs.Made.{short_natural, short_natural_value}
 use Rattle.nf_frac.proofs.small_scalar.SmallScalar.one.Goals as goal
 
 pub of-requires : goal.of-requires

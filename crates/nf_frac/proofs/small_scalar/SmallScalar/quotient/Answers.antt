@@ -1,4 +1,4 @@
-use Rattle.nf_frac.specs.Short.{short}
+use Rattle.nf_frac.proofs.Common.{short}
 use Rattle.nf_frac.proofs.Passing.{quotient_done, quotient_passed}
 use Rattle.nf_frac.proofs.small_scalar.SmallScalar.quotient.Goals as goal
 

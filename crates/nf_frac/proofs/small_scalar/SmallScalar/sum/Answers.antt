@@ -1,4 +1,4 @@
-use Rattle.nf_frac.specs.Short.{short}
+use Rattle.nf_frac.proofs.Common.{short}
 use Rattle.nf_frac.proofs.Passing.{sum_done, sum_passed}
 use Rattle.nf_frac.proofs.small_scalar.SmallScalar.sum.Goals as goal
 

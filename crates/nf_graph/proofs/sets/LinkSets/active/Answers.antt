@@ -1,5 +1,5 @@
 use Rattle.std.proofs.Common.{ap}
-use Rattle.nf_model.specs.ThinFlow.{Sets}
+use Rattle.nf_graph.proofs.Common.{Sets}
 use Rattle.nf_graph.proofs.Flags.{flag_of}
 use Rattle.nf_graph.proofs.sets.LinkSets.active.Goals as goal
 

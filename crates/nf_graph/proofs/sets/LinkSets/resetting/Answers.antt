@@ -1,5 +1,5 @@
 use Rattle.std.proofs.Common.{◌<◌, ℕ, length, sym, ap, subst, ◌∙◌}
-use Rattle.nf_model.specs.ThinFlow.{Sets}
+use Rattle.nf_graph.proofs.Common.{Sets}
 use Rattle.nf_graph.proofs.Flags.{flag_of}
 use Rattle.nf_graph.proofs.sets.LinkSets.resetting.Goals as goal
 

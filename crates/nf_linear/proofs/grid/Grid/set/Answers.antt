@@ -1,5 +1,5 @@
 use Rattle.std.proofs.Common.{◌≡◌, ◌<◌, ◌≤◌, List, length, take, sym, subst, ap, arith}
-use Rattle.nf_linear_def.specs.Table.{Row}
+use Rattle.nf_linear.proofs.Common.{Row}
 use Rattle.nf_linear.proofs.Written.{set_seen, set_square}
 use Rattle.nf_linear.proofs.grid.Grid.set.Goals as goal
 

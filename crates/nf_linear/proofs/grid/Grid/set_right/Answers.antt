@@ -1,5 +1,5 @@
 use Rattle.std.proofs.Common.{◌≡◌, ℕ, ◌<◌, ◌≤◌, List, length, set, take, sym, subst, ap, ◌∙◌, arith}
-use Rattle.nf_linear_def.specs.Table.{Row, row_at}
+use Rattle.nf_linear.proofs.Common.{Row, row_at}
 use Rattle.nf_linear.proofs.Written.{seen_long, set_seen, set_square}
 use Rattle.nf_linear.proofs.grid.Grid.set_right.Goals as goal
 

@@ -1,5 +1,5 @@
 use Rattle.std.proofs.Common.{ℕ, ◌≤◌, List, set, take, sym, ap, subst, ◌∙◌, length-take-le}
-use Rattle.nf_rational.specs.Rational.{ℚ}
+use Rattle.nf_linear.proofs.Common.{ℚ}
 use Rattle.nf_linear.proofs.Grids.{row_set_cell, row_set_right, row_long, last_column}
 use Rattle.nf_linear.proofs.grid_cells.GridCellsCells.set.Goals as goal
 

@@ -1,5 +1,5 @@
 use Rattle.std.proofs.Common.{ℕ, subst, arith}
-use Rattle.nf_linear.specs.Marks.{IsFree}
+use Rattle.nf_linear.proofs.Common.{IsFree}
 use Rattle.nf_linear.proofs.Bits.{free_before}
 use Rattle.nf_linear.proofs.marks.Marks.next.Goals as goal
 

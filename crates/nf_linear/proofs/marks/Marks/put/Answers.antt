@@ -1,8 +1,5 @@
 use Rattle.std.proofs.Common.{ℕ, ◌%◌, ◌*◌, ◌^◌, subst, arith}
-use Rattle.std.specs.Int.{w64}
-use Rattle.std.specs.Int.RustNames.{bit_or}
-use Rattle.std.proofs.lemmas.Nat.Bits.{bit_at_set_same}
-use Rattle.nf_linear.specs.Marks.{IsSubset}
+use Rattle.nf_linear.proofs.Common.{w64, bit_or, bit_at_set_same, IsSubset}
 use Rattle.nf_linear.proofs.Bits.{within_left}
 use Rattle.nf_linear.proofs.marks.Marks.put.Goals as goal
 

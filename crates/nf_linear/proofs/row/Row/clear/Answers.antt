@@ -1,10 +1,5 @@
 use Rattle.std.proofs.Common.{◌≡◌, ℕ, ◌<◌, length, subst, sym, ap, ◌∙◌, length-set, rules}
-use Rattle.std.specs.List.{AllByRecursion}
-use Rattle.nf_rational.specs.Rational.{ℚ}
-use Rattle.nf_frac_def.specs.declared.Op.TheVariants.{Quotient}
-use Rattle.nf_frac_def.specs.Checked.{checked, seen}
-use Rattle.nf_model.specs.Entries.{number_at}
-use Rattle.nf_linear.specs.Rows.{meant}
+use Rattle.nf_linear.proofs.Common.{AllByRecursion, ℚ, Quotient, checked, seen, number_at, meant}
 use Rattle.nf_linear.proofs.row.Row.clear.Goals as goal
 
 pub subtract-requires : goal.subtract-requires

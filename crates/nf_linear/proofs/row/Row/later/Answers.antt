@@ -1,7 +1,5 @@
 use Rattle.std.proofs.Common.{◌≡◌, ℕ, suc, ◌+◌, ◌<◌, List, ◌++◌, length, take, drop, ap, refl, sym, ◌∙◌, arith}
-use Rattle.nf_rational.specs.Rational.{ℚ}
-use Rattle.nf_model.specs.Entries.{number_at}
-use Rattle.nf_linear.specs.Rows.{meant, some_from}
+use Rattle.nf_linear.proofs.Common.{ℚ, number_at, meant, some_from}
 use Rattle.nf_linear.proofs.Skips.{some_skipped}
 use Rattle.nf_linear.proofs.Taken.{some_more, all_some}
 use Rattle.nf_linear.proofs.row.Row.later.Goals as goal

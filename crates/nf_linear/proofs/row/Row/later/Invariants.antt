@@ -1,5 +1,5 @@
 use Rattle.std.proofs.Common.{◌≡◌, ◌+◌, ◌-◌, ◌≤◌, ◌++◌, take, drop, length}
-use Rattle.nf_linear.specs.Rows.{meant, some_from}
+use Rattle.nf_linear.proofs.Common.{meant, some_from}
 use Rattle.nf_linear.proofs.row.Row.later.Given as goal
 
 abbrev pub invariant-loop-at : goal.invariant-loop-at

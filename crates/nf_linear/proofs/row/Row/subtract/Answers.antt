@@ -1,7 +1,5 @@
 use Rattle.std.proofs.Common.{refl}
-use Rattle.std.proofs.lemmas.Result.{err_from_is_err_and}
-use Rattle.nf_frac_def.specs.Checked.{seen_passed_at}
-use Rattle.nf_linear.specs.Rows.{meant}
+use Rattle.nf_linear.proofs.Common.{err_from_is_err_and, seen_passed_at, meant}
 use Rattle.nf_linear.proofs.Taken.{takes_first, fits_next, takes_stops, takes_more, takes_all, meant_below, meant_read, meant_past}
 use Rattle.nf_linear.proofs.row.Row.subtract.Goals as goal
 

@@ -1,4 +1,4 @@
-use Rattle.nf_linear.specs.Rows.{meant}
+use Rattle.nf_linear.proofs.Common.{meant}
 use Rattle.nf_linear.proofs.Taken.{TakesOff}
 use Rattle.nf_linear.proofs.row.Row.subtract.Given as goal
 

@@ -1,8 +1,5 @@
 use Rattle.std.proofs.Common.{◌≡◌, ℕ, ◌+◌, List, [], ◌∷◌, ◌++◌, replicate, ap, sym, subst, ◌∙◌, add-one, arith}
-use Rattle.std.proofs.lemmas.Result.{IfOk-from_err}
-use Rattle.nf_rational.specs.Rational.{ℚ}
-use Rattle.nf_rational.specs.Operations.{0ℚ}
-use Rattle.nf_linear_laws.specs.Solution.{IsSquare}
+use Rattle.nf_linear.proofs.Common.{IfOk-from_err, ℚ, 0ℚ, IsSquare}
 use Rattle.nf_linear.proofs.Written.{zero_square}
 use Rattle.nf_linear.proofs.Taken.{replicate_more}
 use Rattle.nf_linear.proofs.table.Table.new.Goals as goal

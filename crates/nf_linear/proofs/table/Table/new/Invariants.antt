@@ -1,5 +1,5 @@
 use Rattle.std.proofs.Common.{◌≡◌, ◌+◌, replicate}
-use Rattle.nf_rational.specs.Operations.{0ℚ}
+use Rattle.nf_linear.proofs.Common.{0ℚ}
 use Rattle.nf_linear.proofs.table.Table.new.Given as goal
 
 abbrev pub invariant-loop : goal.invariant-loop

@@ -1,5 +1,5 @@
 use Rattle.std.proofs.Common.{◌≡◌, ℕ, ◌<◌, List, length, set, sym, subst, ap, ◌∙◌, arith}
-use Rattle.nf_linear_def.specs.Table.{Row, row_at}
+use Rattle.nf_linear.proofs.Common.{Row, row_at}
 use Rattle.nf_linear.proofs.Clearing.{row_read}
 use Rattle.nf_linear.proofs.Changed.{changed_row, still_square}
 use Rattle.nf_linear.proofs.table.Table.set_right.Goals as goal

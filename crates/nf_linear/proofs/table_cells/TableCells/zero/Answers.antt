@@ -1,8 +1,6 @@
 use Rattle.std.proofs.Common.{map, sym, ap, subst, ◌∙◌}
-use Rattle.nf_rational.specs.Operations.{0ℚ}
-use Rattle.nf_linear_def.specs.Table.{Row}
+use Rattle.nf_linear.proofs.Common.{0ℚ, Row, AreZeroUnless}
 use Rattle.nf_model.proofs.Entries.{number_at-zeros}
-use Rattle.nf_linear.specs.Marks.{AreZeroUnless}
 use Rattle.nf_linear.proofs.Filled.{copies_mapped}
 use Rattle.nf_linear.proofs.table_cells.TableCells.zero.Goals as goal
 

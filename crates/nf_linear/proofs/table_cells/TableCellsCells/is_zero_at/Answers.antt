@@ -1,7 +1,5 @@
 use Rattle.std.proofs.Common.{List, ap, ◌∙◌}
-use Rattle.nf_rational.specs.Rational.{ℚ}
-use Rattle.nf_model.specs.Entries.{number_at}
-use Rattle.nf_rational.specs.Signs.{is_zero}
+use Rattle.nf_linear.proofs.Common.{ℚ, number_at, is_zero}
 use Rattle.nf_linear.proofs.Changed.{cell_read, cells_below}
 use Rattle.nf_linear.proofs.table_cells.TableCellsCells.is_zero_at.Goals as goal
 

@@ -1,6 +1,5 @@
 use Rattle.std.proofs.Common.{List, ap, sym, ◌∙◌}
-use Rattle.nf_rational.specs.Rational.{ℚ}
-use Rattle.nf_model.specs.Entries.{number_at}
+use Rattle.nf_linear.proofs.Common.{ℚ, number_at}
 use Rattle.nf_linear.proofs.table_cells.TableCellsCells.next_some.Goals as goal
 
 pub returns : goal.returns

@@ -1,7 +1,5 @@
 use Rattle.std.proofs.Common.{map, set, sym, ap, subst, ◌∙◌}
-use Rattle.std.proofs.lemmas.List.{map-set}
-use Rattle.nf_linear_def.specs.Table.{Row}
-use Rattle.nf_linear.specs.Marks.{AreZeroUnless}
+use Rattle.nf_linear.proofs.Common.{map-set, Row, AreZeroUnless}
 use Rattle.nf_linear.proofs.Covering.{zero_kept}
 use Rattle.nf_linear.proofs.table_cells.TableCellsCells.set.Goals as goal
 

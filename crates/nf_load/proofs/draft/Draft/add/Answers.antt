@@ -1,8 +1,5 @@
 use Rattle.std.proofs.Common.{List, length, ◌<◌, sym, ap, subst, ◌∙◌}
-use Rattle.nf_model.specs.Network.{Piece}
-use Rattle.nf_report_def.specs.LoadsFile.{LoadsDraft, load_after}
-use Rattle.nf_load.specs.declared.entry.Entry.{Entry}
-use Rattle.nf_load.specs.Entries.{HasLink, seen_entry}
+use Rattle.nf_load.proofs.Common.{Piece, LoadsDraft, load_after, Entry, HasLink, seen_entry}
 use Rattle.nf_load.proofs.Pushed.{pushed_at}
 use Rattle.nf_load.proofs.draft.Draft.add.Goals as goal
 

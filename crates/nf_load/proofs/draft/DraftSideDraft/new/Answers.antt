@@ -1,9 +1,5 @@
 use Rattle.std.proofs.Common.{false, ◌≡◌, List, [], ◌∷◌, ◌++◌, length, replicate, ap, ◌∙◌, arith}
-use Rattle.std.proofs.lemmas.List.{length-replicate, replicate_more}
-use Rattle.std.proofs.lemmas.Simd.{splat_is_map}
-use Rattle.nf_model.specs.Network.{Piece}
-use Rattle.nf_report_def.specs.LoadsFile.{LoadsDraft}
-use Rattle.nf_net.proofs.Limits.{as_many_names}
+use Rattle.nf_load.proofs.Common.{length-replicate, replicate_more, splat_is_map, Piece, LoadsDraft, as_many_names}
 use Rattle.nf_load.proofs.draft.DraftSideDraft.new.Goals as goal
 
 abbrev made : List (List Piece) → LoadsDraft

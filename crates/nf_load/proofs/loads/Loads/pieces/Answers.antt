@@ -1,6 +1,5 @@
 use Rattle.std.proofs.Common.{◌<◌, List, length, sym, ap, subst, ◌∙◌}
-use Rattle.nf_model.specs.Network.{Piece, ArePieces}
-use Rattle.nf_report_def.specs.LoadsFile.{pieces_at}
+use Rattle.nf_load.proofs.Common.{Piece, ArePieces, pieces_at}
 use Rattle.nf_load.proofs.Pushed.{read_at}
 use Rattle.nf_load.proofs.loads.Loads.pieces.Goals as goal
 

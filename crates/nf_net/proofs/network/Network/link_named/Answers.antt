@@ -1,5 +1,5 @@
 use Rattle.std.proofs.Common.{◌≤◌, List, length, sym, subst}
-use Rattle.nf_net_def.specs.Names.{Name}
+use Rattle.nf_net.proofs.Common.{Name}
 use Rattle.nf_net.proofs.Limits.{few_link_names}
 use Rattle.nf_net.proofs.network.Network.link_named.Goals as goal
 

@@ -1,7 +1,5 @@
-use Rattle.std.proofs.Common.{◌≡◌, ℕ, suc, ap, subst, refl, ◌∙◌, add-one, arith}
-use Rattle.std.specs.Prelude.{Some, None}
-use Rattle.nf_model.specs.Pattern.{changes}
-use Rattle.nf_pattern.specs.Successor.{free, earliest}
+use Rattle.std.proofs.Common.{◌≡◌, ℕ, suc, ap, subst, refl, ◌∙◌, add-one, arith, Some, None}
+use Rattle.nf_pattern.proofs.Common.{changes, free, earliest}
 use Rattle.nf_pattern.proofs.Counting.{none_earliest, else_other, else_first}
 use Rattle.nf_pattern.proofs.assignments.Order.advance.Goals as goal
 

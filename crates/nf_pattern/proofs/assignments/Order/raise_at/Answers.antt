@@ -1,8 +1,7 @@
+use Rattle.std.proofs.Common.{◌≡◌, ◌+◌, ◌-◌, ℕ, suc, List, ◌++◌, Bool, length, set, take, drop, Some, ap, subst, refl, sym, ◌∙◌, add-one, length-drop}
+use Rattle.std.proofs.Common.{arith}
+use Rattle.nf_pattern.proofs.Common.{length-set, Pattern, earliest, IsQuiet}
 use borrow.Rule.Slice.PartMut.{put_mid}
-use Rattle.std.proofs.Common.{◌≡◌, ◌+◌, ◌-◌, ℕ, suc, List, ◌++◌, Bool, length, set, take, drop, Some, ap, subst, refl, sym, ◌∙◌, add-one, length-drop, arith}
-use Rattle.std.proofs.Math.ListN.{length-set}
-use Rattle.nf_model.specs.Pattern.{Pattern}
-use Rattle.nf_pattern.specs.Successor.{earliest, IsQuiet}
 use Rattle.nf_pattern.proofs.Raising.{from_one, put_end, valid_after, chosen_fits, raises, not_raised}
 use Rattle.nf_pattern.proofs.Each.{as_many_from}
 use Rattle.nf_pattern.proofs.Quiet.{quiet_behind}

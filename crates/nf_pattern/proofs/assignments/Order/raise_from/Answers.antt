@@ -1,6 +1,5 @@
 use Rattle.std.proofs.Common.{◌≡◌, suc, ◌<◌, ◌+◌, length, get_or, drop, None, ap, subst, refl, ◌∙◌, arith}
-use Rattle.nf_model.specs.Pattern.{Pattern}
-use Rattle.nf_pattern.specs.Successor.{change, RaisesAt, raised_at}
+use Rattle.nf_pattern.proofs.Common.{Pattern, change, RaisesAt, raised_at}
 use Rattle.nf_pattern.proofs.Counting.{few_changes}
 use Rattle.nf_pattern.proofs.Quiet.{free_few}
 use Rattle.nf_pattern.proofs.Raising.{last_from, free_behind, raised_later, raised_same, last_kept, last_stated, last_all}

@@ -1,6 +1,5 @@
 use Rattle.std.proofs.Common.{Bool, List, sym, subst, ◌∙◌, rules}
-use Rattle.nf_model.specs.Entries.{Has}
-use Rattle.nf_graph.proofs.Flags.{Has-replicate}
+use Rattle.nf_pattern.proofs.Common.{Has, Has-replicate}
 use Rattle.nf_pattern.proofs.firm.FirmLinks.none.Goals as goal
 
 pub returns-clause-count : goal.returns-clause-count

@@ -1,5 +1,5 @@
 use Rattle.std.proofs.Common.{◌<◌, length, slice_get, sym, ap, subst, ◌∙◌}
-use Rattle.nf_model.specs.Pattern.{Pattern}
+use Rattle.nf_pattern.proofs.Common.{Pattern}
 use Rattle.nf_pattern.proofs.Each.{entry_at}
 use Rattle.nf_pattern.proofs.pattern.Pattern.state.Goals as goal
 

@@ -1,6 +1,6 @@
 use Rattle.std.proofs.Common.{refl, subst}
+use Rattle.nf_pattern.proofs.Common.{IsQuestion}
 use Rattle.nf_pattern.proofs.Seeking.{standing_start}
-use Rattle.nf_pattern.specs.Given.{IsQuestion}
 use Rattle.nf_pattern.proofs.patterns.Patterns.new.Goals as goal
 
 pub invariant_of-result : goal.invariant_of-result

@@ -1,6 +1,5 @@
 use Rattle.std.proofs.Common.{◌≡◌, refl, sym, ap, subst, ◌∙◌}
-use Rattle.nf_model.specs.Pattern.{Pattern}
-use Rattle.nf_pattern.specs.Given.{Given, IsNext, UpTo, next_place}
+use Rattle.nf_pattern.proofs.Common.{Pattern, Given, IsNext, UpTo, next_place}
 use Rattle.nf_pattern.proofs.Seeking.{current_is}
 use Rattle.nf_pattern.proofs.patterns.Patterns.next.Goals as goal
 

@@ -1,9 +1,5 @@
 use Rattle.std.proofs.Common.{rules, sym, subst, ◌∙◌}
-use Rattle.std.proofs.lemmas.List.{with_items_is}
-use Rattle.nf_model.specs.Pattern.{Pattern}
-use Rattle.nf_pattern.specs.Given.{IsNext}
-use Rattle.nf_pattern.specs.declared.question.Stand.TheVariants.{Listed, End}
-use Rattle.nf_pattern.specs.Stands.{IsPlaced, IsStanding, last_of}
+use Rattle.nf_pattern.proofs.Common.{with_items_is, Pattern, IsNext, Listed, End, IsPlaced, IsStanding, last_of}
 use Rattle.nf_pattern.proofs.Seeking.{gives_next}
 use Rattle.nf_pattern.proofs.patterns.Patterns.step.Goals as goal
 

@@ -1,9 +1,5 @@
 use Rattle.std.proofs.Common.{Bool, List, ◌≤◌, length, sym, ap, subst, ◌∙◌}
-use Rattle.nf_model.specs.Pattern.{Pattern}
-use Rattle.nf_pattern.specs.Given.{Question, IsQuestion}
-use Rattle.nf_pattern.specs.Sole.{AreSpared}
-use Rattle.nf_pattern.specs.Successor.{IsAssignment, IsQuiet, next_assignment}
-use Rattle.nf_pattern.specs.Stated.{AreStated}
+use Rattle.nf_pattern.proofs.Common.{Pattern, Question, IsQuestion, AreSpared, IsAssignment, IsQuiet, next_assignment, AreStated}
 use Rattle.nf_pattern.proofs.OnTrail.{valid_base, unbounded_base, few_base, count_base}
 use Rattle.nf_pattern.proofs.Seeking.{spares_all, advances_by, none_advances_by}
 use Rattle.nf_pattern.proofs.question.Question.advance.Goals as goal

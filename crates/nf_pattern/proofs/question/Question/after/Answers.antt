@@ -1,9 +1,7 @@
 use Rattle.std.proofs.Common.{length, subst, sym, arith}
-use Rattle.nf_model.specs.Pattern.{Pattern}
-use Rattle.nf_pattern.specs.Successor.{IsAssignment}
+use Rattle.nf_pattern.proofs.Common.{Pattern, IsAssignment, IsTrailOf}
 use Rattle.nf_pattern.proofs.Choosing.{assigned_length}
 use Rattle.nf_pattern.proofs.Seeking.{none_after, match_after}
-use Rattle.nf_pattern.specs.Trail.{IsTrailOf}
 use Rattle.nf_pattern.proofs.question.Question.after.Goals as goal
 
 pub advance-requires-clause-same : goal.advance-requires-clause-same

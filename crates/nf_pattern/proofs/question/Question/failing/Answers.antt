@@ -1,9 +1,5 @@
 use Rattle.std.proofs.Common.{ℕ, ◌+◌, ◌≤◌, Bool, List, length, ap, sym, subst, ◌∙◌, arith}
-use Rattle.nf_model.specs.Walk.{Hop}
-use Rattle.nf_model.specs.Pattern.{Pattern}
-use Rattle.nf_pattern.specs.Given.{Question, IsBarren}
-use Rattle.nf_pattern.specs.Stated.{AreStated}
-use Rattle.nf_pattern.specs.Entered.{DoEndsCarry}
+use Rattle.nf_pattern.proofs.Common.{Hop, Pattern, Question, IsBarren, AreStated, DoEndsCarry}
 use Rattle.nf_pattern.proofs.Stating.{stated_too}
 use Rattle.nf_pattern.proofs.Passing.{ends_carry}
 use Rattle.nf_pattern.proofs.OnTrail.{gone_on, listed_on, barren_on, barren_from_start, follows_seen, follows_given, fails_seen, all_seen, count_links}

@@ -1,10 +1,5 @@
 use Rattle.std.proofs.Common.{Bool, List, length, ap, sym, subst, ◌∙◌, arith}
-use Rattle.nf_model.specs.Walk.{Hop}
-use Rattle.nf_model.specs.Pattern.{Pattern}
-use Rattle.nf_graph.specs.Graph.{AreBelow}
-use Rattle.nf_pattern.specs.Given.{Question, IsQuestion}
-use Rattle.nf_pattern.specs.Stated.{AreStated}
-use Rattle.nf_pattern.specs.Sole.{AllEnterAlone, AreSpared}
+use Rattle.nf_pattern.proofs.Common.{Hop, Pattern, AreBelow, Question, IsQuestion, AreStated, AllEnterAlone, AreSpared}
 use Rattle.nf_pattern.proofs.Sparing.{are_spared}
 use Rattle.nf_pattern.proofs.Seeking.{same_question}
 use Rattle.nf_pattern.proofs.question.Question.new.Goals as goal

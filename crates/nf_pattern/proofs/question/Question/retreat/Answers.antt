@@ -1,7 +1,5 @@
 use Rattle.std.proofs.Common.{ap, subst}
-use Rattle.nf_model.specs.Pattern.{Pattern}
-use Rattle.nf_pattern.specs.Given.{Question}
-use Rattle.nf_pattern.specs.Stated.{AreStated}
+use Rattle.nf_pattern.proofs.Common.{Pattern, Question, AreStated}
 use Rattle.nf_pattern.proofs.OnTrail.{come_back, follows_on, left_seen}
 use Rattle.nf_pattern.proofs.Stating.{stated_too}
 use Rattle.nf_pattern.proofs.question.Question.retreat.Goals as goal

@@ -1,8 +1,6 @@
 use Rattle.std.proofs.Common.{subst, sym}
-use Rattle.nf_model.specs.Pattern.{Pattern}
-use Rattle.nf_pattern.specs.Successor.{IsAssignment}
+use Rattle.nf_pattern.proofs.Common.{Pattern, IsAssignment, IsTrailOf}
 use Rattle.nf_pattern.proofs.Seeking.{sought_first, sought_found, sought_more, sought_none, step_fewer}
-use Rattle.nf_pattern.specs.Trail.{IsTrailOf}
 use Rattle.nf_pattern.proofs.question.Question.seek.Goals as goal
 
 pub loop-same-init : goal.loop-same-init

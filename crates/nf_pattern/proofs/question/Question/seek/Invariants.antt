@@ -1,5 +1,4 @@
-use Rattle.nf_pattern.specs.Successor.{IsQuiet}
-use Rattle.nf_pattern.specs.Trail.{IsTrailOf}
+use Rattle.nf_pattern.proofs.Common.{IsQuiet, IsTrailOf}
 use Rattle.nf_pattern.proofs.Ranging.{left_after}
 use Rattle.nf_pattern.proofs.Seeking.{IsSought}
 use Rattle.nf_pattern.proofs.question.Question.seek.Given as goal

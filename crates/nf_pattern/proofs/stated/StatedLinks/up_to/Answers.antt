@@ -1,5 +1,5 @@
 use Rattle.std.proofs.Common.{ℕ, Some, ap, sym, ◌∙◌, arith}
-use Rattle.std.proofs.lemmas.Option.{slice_get-get_or}
+use Rattle.nf_pattern.proofs.Common.{slice_get-get_or}
 use Rattle.nf_pattern.proofs.stated.StatedLinks.up_to.Goals as goal
 
 pub returns-then-link-len : goal.returns-then-link-len

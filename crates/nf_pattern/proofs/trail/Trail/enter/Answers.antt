@@ -1,8 +1,6 @@
 use Rattle.std.proofs.Common.{ℕ, refl, inl, inr, sym, subst, add-one, arith}
-use Rattle.nf_graph.specs.Graph.{AreBelow}
-use Rattle.nf_pattern.specs.declared.firm.FirmLinks.{FirmLinks}
+use Rattle.nf_pattern.proofs.Common.{AreBelow, FirmLinks, Follows}
 use Rattle.nf_pattern.specs.declared.walking.TightLinks.{TightLinks}
-use Rattle.nf_pattern.specs.Trail.{Follows}
 use Rattle.nf_pattern.proofs.Entries.{carries_keeps}
 use Rattle.nf_pattern.proofs.Holding.{holds_loose, clear_more}
 use Rattle.nf_pattern.proofs.Calming.{calm_loose}

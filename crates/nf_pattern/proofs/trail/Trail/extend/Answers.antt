@@ -1,5 +1,5 @@
 use Rattle.std.proofs.Common.{ℕ, ◌<◌, List, length, sym, ap, subst, arith}
-use Rattle.nf_pattern.specs.Entered.{DoEndsCarry}
+use Rattle.nf_pattern.proofs.Common.{DoEndsCarry}
 use Rattle.nf_pattern.proofs.Following.{way_same, way_on}
 use Rattle.nf_pattern.proofs.trail.Trail.extend.Goals as goal
 

@@ -1,6 +1,5 @@
 use Rattle.std.proofs.Common.{length, ◌-◌}
-use Rattle.nf_pattern.specs.Entered.{DoEndsCarry}
-use Rattle.nf_pattern.specs.Trail.{Follows, IsOnWay}
+use Rattle.nf_pattern.proofs.Common.{DoEndsCarry, Follows, IsOnWay}
 use Rattle.nf_pattern.proofs.trail.Trail.extend.Given as goal
 
 -- The links so far are examined.

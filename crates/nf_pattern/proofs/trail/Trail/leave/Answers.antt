@@ -1,5 +1,5 @@
 use Rattle.std.proofs.Common.{ℕ, refl, subst, arith}
-use Rattle.nf_pattern.specs.Walking.{IsTightStack}
+use Rattle.nf_pattern.proofs.Common.{IsTightStack}
 use Rattle.nf_pattern.proofs.Following.{left_back}
 use Rattle.nf_pattern.proofs.trail.Trail.leave.Goals as goal
 

@@ -1,5 +1,5 @@
 use Rattle.std.proofs.Common.{ℕ, List, length, refl, ap, subst, ◌∙◌, arith}
-use Rattle.nf_pattern.specs.Entered.{IsLost}
+use Rattle.nf_pattern.proofs.Common.{IsLost}
 use Rattle.nf_pattern.proofs.Following.{follows_none}
 use Rattle.nf_pattern.proofs.trail.Trail.new.Goals as goal
 

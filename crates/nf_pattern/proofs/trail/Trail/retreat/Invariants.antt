@@ -1,7 +1,5 @@
 use Rattle.std.proofs.Common.{◌-◌, ℕ, List, Bool}
-use Rattle.nf_model.specs.Pattern.{Pattern}
-use Rattle.nf_pattern.specs.Stated.{AreStated}
-use Rattle.nf_pattern.specs.Trail.{Follows, IsLeftBy, IsOnWay}
+use Rattle.nf_pattern.proofs.Common.{Pattern, AreStated, Follows, IsLeftBy, IsOnWay}
 use Rattle.nf_pattern.proofs.trail.Trail.retreat.Given as goal
 
 -- The trail is still an examined prefix of each pattern of which it was one.

@@ -1,8 +1,5 @@
-use Rattle.std.proofs.Common.{◌≡◌, ◌∙◌, ap, sym, subst, length, ◌<◌, ℕ, suc, List, Some}
-use Rattle.std.specs.Prelude.{Option, slice_get}
-use Rattle.nf_model.specs.Walk.{Hop, IsHop}
-use Rattle.nf_graph.proofs.Walks.{same_from_test, apart_from_test}
-use Rattle.nf_pattern.specs.Entered.{AreChained}
+use Rattle.std.proofs.Common.{◌≡◌, ◌∙◌, ap, sym, subst, length, ◌<◌, ℕ, suc, List, Some, Option, slice_get}
+use Rattle.nf_pattern.proofs.Common.{Hop, IsHop, same_from_test, apart_from_test, AreChained}
 use Rattle.nf_pattern.proofs.Entries.{hop_there, head_led, carries_keeps, source_keeps, later_keeps, strands_told}
 use Rattle.nf_pattern.proofs.trail.Trail.strands.Goals as goal
 

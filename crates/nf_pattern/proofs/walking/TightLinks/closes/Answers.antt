@@ -1,7 +1,5 @@
 use Rattle.std.proofs.Common.{ℕ, [], length, ◌<◌, sym, ap, subst, ◌∙◌}
-use Rattle.nf_model.specs.Walk.{Hop, IsHop}
-use Rattle.nf_graph.proofs.Walks.{same_from_test, apart_from_test}
-use Rattle.nf_pattern.specs.Forest.{AreJoined, TightBefore}
+use Rattle.nf_pattern.proofs.Common.{Hop, IsHop, same_from_test, apart_from_test, AreJoined, TightBefore}
 use Rattle.nf_pattern.proofs.Each.{under_len}
 use Rattle.nf_pattern.proofs.Entries.{hop_there}
 use Rattle.nf_pattern.proofs.Holding.{ends_joined, ends_led}

@@ -1,5 +1,5 @@
 use Rattle.std.proofs.Common.{eqb, sym, ap, ◌∙◌}
-use Rattle.nf_model.specs.Walk.{Hop, IsHop}
+use Rattle.nf_pattern.proofs.Common.{Hop, IsHop}
 use Rattle.nf_pattern.proofs.Entries.{hop_there}
 use Rattle.nf_pattern.proofs.Crossing.{to_head, to_tail, on_at_head, on_at_tail}
 use Rattle.nf_pattern.proofs.walking.TightLinks.cross.Goals as goal

@@ -1,5 +1,5 @@
 use Rattle.std.proofs.Common.{refl, arith}
-use Rattle.std.proofs.lemmas.Option.{slice_get_within}
+use Rattle.nf_pattern.proofs.Common.{slice_get_within}
 use Rattle.nf_pattern.proofs.Holding.{clear_more}
 use Rattle.nf_pattern.proofs.Calming.{calm_firm, calm_clear}
 use Rattle.nf_pattern.proofs.walking.TightLinks.enter.Goals as goal

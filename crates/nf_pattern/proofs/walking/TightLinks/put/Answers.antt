@@ -1,6 +1,5 @@
 use Rattle.std.proofs.Common.{Some, set, ap, ◌∙◌}
-use Rattle.std.proofs.Math.ListN.{length-set}
-use Rattle.nf_model.specs.Walk.{Hop, IsHop}
+use Rattle.nf_pattern.proofs.Common.{length-set, Hop, IsHop}
 use Rattle.nf_pattern.proofs.Each.{under_len}
 use Rattle.nf_pattern.proofs.Entries.{hop_there}
 use Rattle.nf_pattern.proofs.Steps.{read_last}

@@ -1,7 +1,5 @@
 use Rattle.std.proofs.Common.{◌<◌, ℕ, Option, Some, None, length, sym, ap, subst, refl, ◌∙◌, arith}
-use Rattle.std.proofs.lemmas.Option.{slice_get_within}
-use Rattle.nf_graph.proofs.Walks.{apart_from_test, same_from_test}
-use Rattle.nf_pattern.specs.Walking.{last_at, ends_at, IsPlace, GoesBy}
+use Rattle.nf_pattern.proofs.Common.{slice_get_within, apart_from_test, same_from_test, last_at, ends_at, IsPlace, GoesBy}
 use Rattle.nf_pattern.proofs.Steps.{place_link, place_within, goes_anew, read_last}
 use Rattle.nf_pattern.proofs.walking.TightLinks.step.Goals as goal
 

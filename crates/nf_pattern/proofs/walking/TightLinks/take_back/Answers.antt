@@ -1,5 +1,5 @@
 use Rattle.std.proofs.Common.{ℕ, get_or, set, ap, ◌∙◌, length-set, arith}
-use Rattle.nf_model.specs.Walk.{Hop, IsHop}
+use Rattle.nf_pattern.proofs.Common.{Hop, IsHop}
 use Rattle.nf_pattern.proofs.Entries.{hop_there}
 use Rattle.nf_pattern.proofs.Backing.{back_else, back_tight, tight_there, read_tails, read_heads}
 use Rattle.nf_pattern.proofs.walking.TightLinks.take_back.Goals as goal

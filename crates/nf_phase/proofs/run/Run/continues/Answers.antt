@@ -1,5 +1,5 @@
 use Rattle.std.proofs.Common.{◌≡◌, sym, ap, ◌∙◌, arith}
-use Rattle.nf_thin_def.specs.PhaseRun.{Standing}
+use Rattle.nf_phase.proofs.Common.{Standing}
 use Rattle.nf_phase.proofs.Opened.{continues_by}
 use Rattle.nf_phase.proofs.run.Run.continues.Goals as goal
 

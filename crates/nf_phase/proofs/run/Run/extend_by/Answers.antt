@@ -1,16 +1,9 @@
 use Rattle.std.proofs.Common.{◌≡◌, ◌+◌, List, length, suc, add-one, refl, sym, ap, ◌∙◌, arith}
+use Rattle.nf_phase.proofs.Common.{length-map, with_items_is, ℚ, passes_Q, number_at, LinkStep, GrowingCurve, LinkCurves, Standing, nothing_given}
+use Rattle.nf_phase.proofs.Common.{holds_anyway, Roomy, all_grown}
 use Rattle.std.specs.Vec.{with_items}
-use Rattle.std.proofs.lemmas.List.{length-map, with_items_is}
-use Rattle.nf_rational.specs.Rational.{ℚ}
-use Rattle.nf_frac_def.specs.Passing.{passes_Q}
-use Rattle.nf_model.specs.Entries.{number_at}
-use Rattle.nf_thin_def.specs.CurveList.{LinkStep}
-use Rattle.nf_thin_def.specs.ReportCurves.{GrowingCurve, LinkCurves}
-use Rattle.nf_thin_def.specs.PhaseRun.{Standing}
 use Rattle.nf_phase.specs.contracts.run.Run.{the_view}
-use Rattle.nf_phase_curves.proofs.Places.{nothing_given, holds_anyway}
 use Rattle.nf_phase.proofs.Standings.{same_standing}
-use Rattle.nf_phase_curves.specs.Growing.{Roomy, all_grown}
 use Rattle.nf_phase.proofs.Stepped.{curve_count, link_count, new_label_count, slope_count, step_count, source_next, labels_later, links_later, new_standing}
 use Rattle.nf_phase.proofs.run.Run.extend_by.Goals as goal
 

@@ -1,4 +1,4 @@
-use Rattle.std.proofs.lemmas.Result.{IfOk-equal}
+use Rattle.nf_phase.proofs.Common.{IfOk-equal}
 use Rattle.nf_phase.proofs.Rested.{phase_made}
 use Rattle.nf_phase.proofs.run.Run.extend_by_next.Goals as goal
 

@@ -1,12 +1,5 @@
 use Rattle.std.proofs.Common.{◌≡◌, suc, ap, ◌∙◌, rules}
-use Rattle.nf_rational.specs.Operations.{0ℚ}
-use Rattle.nf_frac_def.specs.Passing.{passes_Q}
-use Rattle.nf_thin_def.specs.PhaseRun.{Standing}
-use Rattle.nf_phase_laws.proofs.Standing.{label_count_at}
-use Rattle.nf_graph.proofs.NetworkHops.{below_nodes}
-use Rattle.nf_phase.specs.Faults.{of_halt, of_search}
-use Rattle.nf_phase.specs.Stepping.{IsFaultOf}
-use Rattle.nf_phase.specs.Finding.{FindsNone}
+use Rattle.nf_phase.proofs.Common.{0ℚ, passes_Q, Standing, label_count_at, below_nodes, of_halt, of_search, IsFaultOf, FindsNone}
 use Rattle.nf_phase.proofs.Reached.{Stands-reached}
 use Rattle.nf_phase.proofs.Found.{by_fault, search_cause, slacks_cause, slacks_made}
 use Rattle.nf_phase.proofs.PhaseFound.{found_here}

@@ -1,6 +1,5 @@
 use Rattle.std.proofs.Common.{refl}
-use Rattle.nf_frac_def.specs.Passing.{passes_Q}
-use Rattle.nf_phase.specs.Solution.{bounds_of}
+use Rattle.nf_phase.proofs.Common.{passes_Q, bounds_of}
 use Rattle.nf_phase.proofs.Ended.{finished}
 use Rattle.nf_phase.proofs.run.Run.finish.Goals as goal
 

@@ -1,7 +1,5 @@
 use Rattle.std.proofs.Common.{ap, ◌∙◌}
-use Rattle.std.proofs.lemmas.Result.{IfOk-weaker}
-use Rattle.nf_thin_def.specs.PhaseRun.{Standing, flow_of}
-use Rattle.nf_phase_curves.specs.Growing.{all_grown}
+use Rattle.nf_phase.proofs.Common.{IfOk-weaker, Standing, flow_of, all_grown}
 use Rattle.nf_phase_curves.specs.Flows.{flow_so_far}
 use Rattle.nf_phase.proofs.run.Run.flow.Goals as goal
 

@@ -1,7 +1,5 @@
 use Rattle.std.proofs.Common.{◌≡◌, ◌+◌, suc, add-one, ap, ◌∙◌, arith}
-use Rattle.nf_frac_def.specs.Passing.{passes_Q}
-use Rattle.nf_thin_def.specs.PhaseRun.{Standing}
-use Rattle.nf_phase.specs.Solution.{bounds_of}
+use Rattle.nf_phase.proofs.Common.{passes_Q, Standing, bounds_of}
 use Rattle.nf_phase.proofs.Going.{gone_nowhere, gone_further, ends_at_horizon, ends_after_all, ends_by_fault}
 use Rattle.nf_phase.proofs.run.Run.go.Goals as goal
 

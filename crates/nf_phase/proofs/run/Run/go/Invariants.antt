@@ -1,5 +1,4 @@
-use Rattle.nf_frac_def.specs.Passing.{passes_Q}
-use Rattle.nf_phase.specs.Solution.{bounds_of}
+use Rattle.nf_phase.proofs.Common.{passes_Q, bounds_of}
 use Rattle.nf_phase.proofs.Going.{GoneTo}
 use Rattle.nf_phase.proofs.run.Run.go.Given as goal
 

@@ -1,6 +1,5 @@
 use Rattle.std.proofs.Common.{ap, ◌∙◌}
-use Rattle.nf_rational.specs.Order.{lt_ℚ}
-use Rattle.nf_thin_def.specs.PhaseRun.{Standing}
+use Rattle.nf_phase.proofs.Common.{lt_ℚ, Standing}
 use Rattle.nf_phase.proofs.Going.{at_or_below}
 use Rattle.nf_phase.proofs.run.Run.is_at.Goals as goal
 

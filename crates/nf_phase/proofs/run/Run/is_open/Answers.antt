@@ -1,12 +1,5 @@
-use Rattle.std.proofs.Common.{List, length, sym, ap, subst, ◌∙◌}
-use Rattle.std.specs.Prelude.{Bool, MatchBool}
-use Rattle.nf_rational.specs.Rational.{ℚ}
-use Rattle.nf_frac_def.specs.Passing.{passes_Q}
-use Rattle.nf_model.specs.Network.{Piece}
-use Rattle.nf_model.specs.Pattern.{Pattern}
-use Rattle.nf_thin_def.specs.PhaseRun.{Standing}
-use Rattle.nf_phase_def.specs.Open.{IsOpen}
-use Rattle.nf_phase.specs.OpenRuns.{none_starts, HaveStateOrSlack}
+use Rattle.std.proofs.Common.{List, length, sym, ap, subst, ◌∙◌, Bool, MatchBool}
+use Rattle.nf_phase.proofs.Common.{ℚ, passes_Q, Piece, Pattern, Standing, IsOpen, none_starts, HaveStateOrSlack}
 use Rattle.nf_phase.proofs.Reached.{Stands-reached, slacks_count}
 use Rattle.nf_phase.proofs.Opened.{open_if, not_started}
 use Rattle.nf_phase.proofs.run.Run.is_open.Goals as goal

@@ -1,15 +1,9 @@
 use Rattle.std.proofs.Common.{List, length, Ok, refl, sym, ap, ◌∙◌}
-use Rattle.std.proofs.lemmas.Result.{IfOk-from_err}
-use Rattle.nf_rational.specs.Rational.{ℚ}
-use Rattle.nf_frac_def.specs.Passing.{passes_Q}
-use Rattle.nf_model.specs.ThinFlow.{Sets}
-use Rattle.nf_thin_def.specs.Advance.{Advanced}
-use Rattle.nf_thin_def.specs.PhaseRun.{Standing}
-use Rattle.nf_phase_curves.specs.Growing.{all_grown}
-use Rattle.nf_phase.specs.declared.fault.StepFault.{StepFault}
+use Rattle.nf_phase.proofs.Common.{IfOk-from_err, ℚ, passes_Q, Sets, Advanced, Standing, all_grown, StepFault}
 use Rattle.nf_phase.proofs.Found.{by_fault}
 use Rattle.nf_phase.proofs.Reached.{active_count}
-use Rattle.nf_phase.proofs.PhaseFound.{slack_count, thin_slope_count, thin_flow_count, pattern_count, counts_agree, amounts_count, extension_stops, advance_stops, end_count, curve_stops, lasts, lists_go, leads_on}
+use Rattle.nf_phase.proofs.PhaseFound.{slack_count, thin_slope_count, thin_flow_count, pattern_count, counts_agree, amounts_count, extension_stops}
+use Rattle.nf_phase.proofs.PhaseFound.{advance_stops, end_count, curve_stops, lasts, lists_go, leads_on}
 use Rattle.nf_phase.proofs.run.Run.phase.Goals as goal
 
 pub extension-requires-clause-slacks : goal.extension-requires-clause-slacks

@@ -1,20 +1,8 @@
-use Rattle.std.proofs.Common.{List, length, map, refl, sym, ap, subst, ◌∙◌}
-use Rattle.std.specs.Prelude.{Ok}
-use Rattle.std.proofs.lemmas.Result.{err_from_is_err_and, IfOk-from_err}
-use Rattle.nf_frac_def.specs.declared.Part.TheVariants.{Curve}
-use Rattle.nf_frac_def.specs.Passing.{passes_Q}
-use Rattle.nf_frac_def.specs.Checked.{each, at_part}
-use Rattle.nf_model.specs.Equilibrium.{HasSlopes}
-use Rattle.nf_thin_def.specs.PhaseRun.{Standing}
-use Rattle.nf_phase_def.specs.Restoring.{value_at_end, growing, restore_list}
-use Rattle.nf_curve.specs.Points.{Grown}
+use Rattle.std.proofs.Common.{List, length, map, refl, sym, ap, subst, ◌∙◌, Ok}
+use Rattle.nf_phase.proofs.Common.{err_from_is_err_and, IfOk-from_err, Curve, passes_Q, each, at_part, HasSlopes, Standing, value_at_end, growing}
+use Rattle.nf_phase.proofs.Common.{restore_list, Grown, was_ok, stops_on, all_grown, of_links, restored, flow_restored}
 use Rattle.nf_curve.specs.Flows.{seen_trace, seen_flow as flow_in}
 use Rattle.nf_curve.specs.declared.flow.Trace as code
-use Rattle.nf_curve.proofs.Exits.{was_ok, stops_on}
-use Rattle.nf_phase_curves.specs.Growing.{all_grown}
-use Rattle.nf_phase_curves.specs.Restoring.{of_links}
-use Rattle.nf_phase.specs.Stepping.{restored}
-use Rattle.nf_phase_equilibrium_laws.proofs.RestoredRun.{flow_restored}
 use Rattle.nf_phase.proofs.RestoreList.{labels_pass, links_pass, list_made, ends_same, flow_counts}
 use Rattle.nf_phase.proofs.Standings.{same_parts}
 use Rattle.nf_phase.proofs.RunStates.{state_reached}

@@ -1,5 +1,5 @@
 use Rattle.std.proofs.Common.{ap, ◌∙◌}
-use Rattle.nf_thin_def.specs.PhaseRun.{Standing, flow_of}
+use Rattle.nf_phase.proofs.Common.{Standing, flow_of}
 use Rattle.nf_phase.proofs.run.Run.solution.Goals as goal
 
 pub returns-clause-flow : goal.returns-clause-flow

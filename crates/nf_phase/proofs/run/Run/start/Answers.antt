@@ -1,9 +1,5 @@
-use Rattle.std.proofs.Common.{ℕ, List, map, refl, ap, ◌∙◌}
-use Rattle.std.specs.Prelude.{None, replicate}
-use Rattle.nf_rational.specs.Rational.{ℚ}
-use Rattle.nf_frac_def.specs.Passing.{passes_Q}
-use Rattle.nf_thin_def.specs.ReportCurves.{first_label_curve, first_curves}
-use Rattle.nf_phase.specs.Stepping.{starts}
+use Rattle.std.proofs.Common.{ℕ, List, map, refl, ap, ◌∙◌, None, replicate}
+use Rattle.nf_phase.proofs.Common.{ℚ, passes_Q, first_label_curve, first_curves, starts}
 use Rattle.nf_phase.proofs.RunStates.{state_reached}
 use Rattle.nf_phase.proofs.run.Run.start.Goals as goal
 

@@ -1,8 +1,5 @@
 use Rattle.std.proofs.Common.{suc, sym, subst, ◌∙◌}
-use Rattle.nf_frac_def.specs.Passing.{passes_Q}
-use Rattle.nf_thin_def.specs.PhaseRun.{Fails}
-use Rattle.nf_phase.specs.Stepping.{Reaches, IsCause}
-use Rattle.nf_phase.specs.Finding.{FindsNone, ListsPass}
+use Rattle.nf_phase.proofs.Common.{passes_Q, Fails, Reaches, IsCause, FindsNone, ListsPass}
 use Rattle.nf_phase.proofs.Found.{by_fault, stands_as, none_below, lists_below}
 use Rattle.nf_phase.proofs.Stepped.{reaches_step, only_step, begin_step, steps_made}
 use Rattle.nf_phase.proofs.RunStates.{state_reached}

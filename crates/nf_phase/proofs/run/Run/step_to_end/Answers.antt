@@ -1,16 +1,6 @@
-use Rattle.std.proofs.Common.{refl, sym, ap, subst, ◌∙◌}
-use Rattle.std.specs.Prelude.{Option, Ok}
-use Rattle.std.proofs.lemmas.Bool.{false≢true}
-use Rattle.std.proofs.lemmas.Option.{MatchOption-at_some}
-use Rattle.std.proofs.lemmas.Result.{IfOk-from_err}
-use Rattle.nf_rational.specs.Rational.{ℚ}
-use Rattle.nf_rational.specs.Order.{◌<ℚ◌}
-use Rattle.nf_frac_def.specs.Passing.{passes_Q}
-use Rattle.nf_thin_def.specs.PhaseRun.{Standing}
-use Rattle.nf_phase_def.specs.ToEnd.{GoesToEnd}
-use Rattle.nf_phase_curves.proofs.Places.{holds_anyway}
-use Rattle.nf_phase.specs.Stepping.{Reaches, goes_on}
-use Rattle.nf_phase.specs.declared.fault.StepFault.{StepFault}
+use Rattle.std.proofs.Common.{refl, sym, ap, subst, ◌∙◌, Option, Ok}
+use Rattle.nf_phase.proofs.Common.{false≢true, MatchOption-at_some, IfOk-from_err, ℚ, ◌<ℚ◌, passes_Q, Standing, GoesToEnd, holds_anyway, Reaches, goes_on}
+use Rattle.nf_phase.proofs.Common.{StepFault}
 use Rattle.nf_phase.proofs.Found.{by_fault}
 use Rattle.nf_phase.proofs.PhaseFound.{slack_count, thin_slope_count}
 use Rattle.nf_phase.proofs.RunStates.{state_reached}

@@ -1,12 +1,6 @@
 use Rattle.std.proofs.Common.{◌≡◌, List, length, sym, ap, subst, ◌∙◌}
-use Rattle.nf_frac_def.specs.Passing.{passes_Q}
-use Rattle.nf_model.specs.Walk.{Hop}
+use Rattle.nf_phase.proofs.Common.{passes_Q, Hop, Sets, sets_at, Pattern, IsPattern, IsBase, Standing, AreSetsOf, below_nodes, hops_length}
 use Rattle.nf_model.specs.Network.{hops as hops_of, unbounded}
-use Rattle.nf_model.specs.ThinFlow.{Sets, sets_at}
-use Rattle.nf_model.specs.Pattern.{Pattern, IsPattern, IsBase}
-use Rattle.nf_thin_def.specs.PhaseRun.{Standing}
-use Rattle.nf_thin.specs.Questions.{AreSetsOf}
-use Rattle.nf_graph.proofs.NetworkHops.{below_nodes, hops_length}
 use Rattle.nf_net.proofs.Limits.{few_hops}
 use Rattle.nf_phase.proofs.Reached.{Stands-reached, active_count, sets_fit, base_fits}
 use Rattle.nf_phase.proofs.run.Run.thin.Goals as goal

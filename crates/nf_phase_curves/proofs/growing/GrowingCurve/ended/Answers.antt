@@ -1,8 +1,5 @@
-use Rattle.std.proofs.Common.{◌≡◌, ◌-◌, ◌≤◌, ◌++◌, ◌∷◌, [], ℕ, List, length, sym, ap, subst, ◌∙◌, arith}
-use Rattle.std.specs.Prelude.{Some, is_some, slice_get}
-use Rattle.nf_rational.specs.Rational.{ℚ}
-use Rattle.nf_rational.specs.Order.{◌<ℚ◌}
-use Rattle.nf_curve.specs.Points.{last_time}
+use Rattle.std.proofs.Common.{◌≡◌, ◌-◌, ◌≤◌, ◌++◌, ◌∷◌, [], ℕ, List, length, sym, ap, subst, ◌∙◌, arith, Some, is_some, slice_get}
+use Rattle.nf_phase_curves.proofs.Common.{ℚ, ◌<ℚ◌, last_time}
 use Rattle.nf_phase_curves.proofs.Copying.{later_than_taken}
 use Rattle.nf_phase_curves.proofs.LastSlopes.{taken_with_last}
 use Rattle.nf_phase_curves.proofs.growing.GrowingCurve.ended.Goals as goal

@@ -1,10 +1,5 @@
 use Rattle.std.proofs.Common.{List, sym, subst}
-use Rattle.nf_rational.specs.Order.{◌<ℚ◌}
-use Rattle.nf_model.specs.Curve.{Point}
-use Rattle.nf_curve.specs.Points.{last_time}
-use Rattle.nf_thin_def.specs.ReportCurves.{GrowingCurve}
-use Rattle.nf_thin_def.specs.Ends.{time_of_last}
-use Rattle.nf_phase_curves.specs.Growing.{Roomy}
+use Rattle.nf_phase_curves.proofs.Common.{◌<ℚ◌, Point, last_time, GrowingCurve, time_of_last, Roomy}
 use Rattle.nf_phase_curves.proofs.Corners.{still_after}
 use Rattle.nf_phase_curves.proofs.growing.GrowingCurve.extend.Goals as goal
 

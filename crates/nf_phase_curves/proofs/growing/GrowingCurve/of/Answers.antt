@@ -1,11 +1,5 @@
-use Rattle.std.proofs.Common.{sym, ap, ◌∙◌}
-use Rattle.std.specs.Prelude.{Ok}
-use Rattle.std.proofs.lemmas.Result.{err_from_is_err_and}
-use Rattle.nf_frac_def.specs.declared.Part.TheVariants.{Curve}
-use Rattle.nf_frac_def.specs.Passing.{passes_Q}
-use Rattle.nf_thin_def.specs.ReportCurves.{GrowingCurve}
-use Rattle.nf_phase_def.specs.Restoring.{last_slope}
-use Rattle.nf_curve.proofs.Exits.{after_err, after_ok}
+use Rattle.std.proofs.Common.{sym, ap, ◌∙◌, Ok}
+use Rattle.nf_phase_curves.proofs.Common.{err_from_is_err_and, Curve, passes_Q, GrowingCurve, last_slope, after_err, after_ok}
 use Rattle.nf_phase_curves.proofs.growing.GrowingCurve.of.Goals as goal
 
 pub returns-in_err-slope : goal.returns-in_err-slope

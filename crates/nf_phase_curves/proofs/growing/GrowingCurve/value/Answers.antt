@@ -1,8 +1,5 @@
-use Rattle.std.proofs.Common.{◌∙◌, ap, sym}
-use Rattle.std.specs.Prelude.{Option}
-use Rattle.nf_phase_curves.specs.declared.growing.End.{End}
-use Rattle.nf_phase_curves.specs.Growing.{Roomy, end_value, points_to}
-use Rattle.nf_thin_def.specs.ReportCurves.{GrowingCurve}
+use Rattle.std.proofs.Common.{◌∙◌, ap, sym, Option}
+use Rattle.nf_phase_curves.proofs.Common.{End, Roomy, end_value, points_to, GrowingCurve}
 use Rattle.nf_phase_curves.proofs.Corners.{value-append, value_at_last}
 use Rattle.nf_phase_curves.proofs.growing.GrowingCurve.value.Goals as goal
 

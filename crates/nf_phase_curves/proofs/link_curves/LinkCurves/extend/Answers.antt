@@ -1,10 +1,5 @@
-use Rattle.std.proofs.Common.{sym, ap, subst, ◌∙◌}
-use Rattle.std.specs.Prelude.{IsSome}
-use Rattle.nf_rational.specs.Order.{◌<ℚ◌}
-use Rattle.nf_thin_def.specs.Ends.{time_of_last}
-use Rattle.nf_thin_def.specs.CurveList.{LinkStep}
-use Rattle.nf_thin_def.specs.ReportCurves.{LinkCurves, trace_after, queue_curve_after}
-use Rattle.nf_phase_curves.specs.Growing.{Roomy, HasReserve}
+use Rattle.std.proofs.Common.{sym, ap, subst, ◌∙◌, IsSome}
+use Rattle.nf_phase_curves.proofs.Common.{◌<ℚ◌, time_of_last, LinkStep, LinkCurves, trace_after, queue_curve_after, Roomy, HasReserve}
 use Rattle.nf_phase_curves.proofs.Spare.{each_room}
 use Rattle.nf_phase_curves.proofs.link_curves.LinkCurves.extend.Goals as goal
 

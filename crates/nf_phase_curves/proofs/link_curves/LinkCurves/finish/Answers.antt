@@ -1,7 +1,5 @@
 use Rattle.std.proofs.Common.{ap, ◌∙◌}
-use Rattle.std.proofs.lemmas.Result.{IfOk-from_err}
-use Rattle.nf_thin_def.specs.ReportCurves.{LinkCurves}
-use Rattle.nf_phase_curves.specs.Growing.{Roomy}
+use Rattle.nf_phase_curves.proofs.Common.{IfOk-from_err, LinkCurves, Roomy}
 use Rattle.nf_phase_curves.proofs.link_curves.LinkCurves.finish.Goals as goal
 
 pub returns-in_err-finish-3-clause-inflow : goal.returns-in_err-finish-3-clause-inflow

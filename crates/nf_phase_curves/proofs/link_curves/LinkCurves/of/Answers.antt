@@ -1,14 +1,6 @@
-use Rattle.std.proofs.Common.{sym, ap, ◌∙◌}
-use Rattle.std.specs.Prelude.{Ok}
-use Rattle.std.proofs.lemmas.Result.{err_from_is_err_and}
-use Rattle.nf_frac_def.specs.declared.Part.TheVariants.{Curve}
-use Rattle.nf_frac_def.specs.Passing.{passes_Q}
-use Rattle.nf_frac_def.specs.Checked.{at_part}
-use Rattle.nf_curve.specs.Flows.{seen_trace}
-use Rattle.nf_thin_def.specs.ReportCurves.{LinkCurves}
-use Rattle.nf_phase_def.specs.Restoring.{growing}
-use Rattle.nf_curve.proofs.Exits.{after_err, after_ok, stops_on}
-use Rattle.nf_phase_curves.specs.Restoring.{of_link}
+use Rattle.std.proofs.Common.{sym, ap, ◌∙◌, Ok}
+use Rattle.nf_phase_curves.proofs.Common.{err_from_is_err_and, Curve, passes_Q, at_part, seen_trace, LinkCurves, growing, after_err, after_ok, stops_on}
+use Rattle.nf_phase_curves.proofs.Common.{of_link}
 use Rattle.nf_phase_curves.proofs.link_curves.LinkCurves.of.Goals as goal
 
 pub returns-in_err-queue : goal.returns-in_err-queue

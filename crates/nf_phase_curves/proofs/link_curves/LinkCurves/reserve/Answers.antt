@@ -1,7 +1,5 @@
 use Rattle.std.proofs.Common.{◌≤◌, min, ap, subst, ◌∙◌}
-use Rattle.std.proofs.lemmas.Result.{on_ok_weaker}
-use Rattle.nf_thin_def.specs.ReportCurves.{LinkCurves}
-use Rattle.nf_phase_curves.specs.Growing.{Roomy}
+use Rattle.nf_phase_curves.proofs.Common.{on_ok_weaker, LinkCurves, Roomy}
 use Rattle.nf_phase_curves.proofs.Spare.{three_kept, three_rooms}
 use Rattle.nf_phase_curves.proofs.link_curves.LinkCurves.reserve.Goals as goal
 

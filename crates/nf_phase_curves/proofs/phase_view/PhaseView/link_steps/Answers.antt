@@ -1,9 +1,6 @@
 use Rattle.std.proofs.Common.{arith}
-use Rattle.std.proofs.lemmas.Result.{err_from_is_err_and}
-use Rattle.nf_frac_def.specs.Passing.{passes_Q}
-use Rattle.nf_frac_def.specs.declared.Part.TheVariants.{Curve}
+use Rattle.nf_phase_curves.proofs.Common.{err_from_is_err_and, passes_Q, Curve, all_done}
 use Rattle.nf_thin_def.specs.CurveList.{curve_list}
-use Rattle.nf_thin_laws.proofs.Numbered.{all_done}
 use Rattle.nf_phase_curves.proofs.LinkLoop.{numbered_step, no_step, one_step, step_passes}
 use Rattle.nf_phase_curves.proofs.phase_view.PhaseView.link_steps.Goals as goal
 

@@ -1,5 +1,4 @@
-use Rattle.nf_frac_def.specs.Passing.{passes_Q}
-use Rattle.nf_thin_laws.proofs.Numbered.{SoFar}
+use Rattle.nf_phase_curves.proofs.Common.{passes_Q, SoFar}
 use Rattle.nf_phase_curves.proofs.LinkLoop.{numbered_step}
 use Rattle.nf_phase_curves.proofs.phase_view.PhaseView.link_steps.Given as goal
 

@@ -1,8 +1,5 @@
 use Rattle.std.proofs.Common.{ℕ, ◌<◌, sym, subst, ◌∙◌}
-use Rattle.nf_frac_def.specs.declared.Part.TheVariants.{Curve}
-use Rattle.nf_frac_def.specs.Passing.{passes_Q}
-use Rattle.nf_frac_def.specs.Checked.{at_part}
-use Rattle.nf_thin_def.specs.CurveList.{link_step}
+use Rattle.nf_phase_curves.proofs.Common.{Curve, passes_Q, at_part, link_step}
 use Rattle.nf_phase_curves.proofs.AtLabels.{number_read}
 use Rattle.nf_phase_curves.proofs.phase_view.PhaseView.step_of.Goals as goal
 

@@ -1,9 +1,5 @@
 use Rattle.std.proofs.Common.{◌∙◌, sym, ap, subst}
-use Rattle.nf_rational.specs.Order.{◌<ℚ◌}
-use Rattle.nf_model.specs.Equilibrium.{Trace}
-use Rattle.nf_thin_def.specs.Ends.{time_of_last}
-use Rattle.nf_thin_def.specs.ReportCurves.{trace_with}
-use Rattle.nf_phase_curves.specs.Growing.{Roomy, rates_by}
+use Rattle.nf_phase_curves.proofs.Common.{◌<ℚ◌, Trace, time_of_last, trace_with, Roomy, rates_by}
 use Rattle.nf_phase_curves.proofs.Corners.{trace-with}
 use Rattle.nf_phase_curves.proofs.traces.GrowingTrace.extend.Goals as goal
 

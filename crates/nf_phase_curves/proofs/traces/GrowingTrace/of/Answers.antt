@@ -1,8 +1,5 @@
-use Rattle.std.proofs.Common.{◌++◌, sym, ap, subst, ◌∙◌, arith}
-use Rattle.std.specs.Prelude.{Option}
-use Rattle.std.specs.Option.{option_to_list}
-use Rattle.nf_rational.specs.Rational.{ℚ}
-use Rattle.nf_phase_curves.specs.Growing.{AreBefore}
+use Rattle.std.proofs.Common.{◌++◌, sym, ap, subst, ◌∙◌, arith, Option}
+use Rattle.nf_phase_curves.proofs.Common.{option_to_list, ℚ, AreBefore}
 use Rattle.nf_phase_curves.proofs.LastSlopes.{two_points, none_before}
 use Rattle.nf_phase_curves.proofs.traces.GrowingTrace.of.Goals as goal
 

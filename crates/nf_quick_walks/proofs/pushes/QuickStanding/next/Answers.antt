@@ -1,8 +1,5 @@
 use Rattle.std.proofs.Common.{ap, sym, subst}
-use Rattle.nf_rational.specs.Operations.{0ℚ}
-use Rattle.nf_frac_def.specs.Passing.{passes_Q}
-use Rattle.nf_quick_def.specs.Flows.{IsSound}
-use Rattle.nf_quick_def.specs.Quick.{QuickStanding}
+use Rattle.nf_quick_walks.proofs.Common.{0ℚ, passes_Q, IsSound, QuickStanding}
 use Rattle.nf_quick_walks.proofs.OnePush.{next_listed, next_shortest}
 use Rattle.nf_quick_walks.proofs.pushes.QuickStanding.next.Goals as goal
 

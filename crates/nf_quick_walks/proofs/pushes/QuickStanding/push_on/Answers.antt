@@ -1,15 +1,6 @@
 use Rattle.std.proofs.Common.{List, refl, sym, ap, subst, ◌∙◌}
-use Rattle.std.proofs.lemmas.Result.{err_from_is_err_and}
-use Rattle.nf_rational.specs.Rational.{ℚ}
-use Rattle.nf_rational.specs.Operations.{0ℚ}
-use Rattle.nf_rational.specs.Order.{◌≤ℚ◌, ◌<ℚ◌}
+use Rattle.nf_quick_walks.proofs.Common.{err_from_is_err_and, ℚ, 0ℚ, ◌≤ℚ◌, ◌<ℚ◌, passes_Q, Walk, IsSound, IsShortestWalk, Times, QuickStanding}
 use Rattle.nf_rational_laws.proofs.Chains.{≤ℚ_refl}
-use Rattle.nf_frac_def.specs.Passing.{passes_Q}
-use Rattle.nf_quick_def.specs.Rounds.{Walk}
-use Rattle.nf_quick_def.specs.Flows.{IsSound}
-use Rattle.nf_quick_def.specs.Answers.{IsShortestWalk}
-use Rattle.nf_quick_def.specs.Pushes.{Times}
-use Rattle.nf_quick_def.specs.Quick.{QuickStanding}
 use Rattle.nf_quick_walks.proofs.OnePush.{move_passes, time_passes, push_made}
 use Rattle.nf_quick_walks.proofs.pushes.QuickStanding.push_on.Goals as goal
 

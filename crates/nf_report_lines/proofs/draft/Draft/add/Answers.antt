@@ -1,8 +1,5 @@
-use Rattle.std.proofs.Common.{◌≡◌, sym, ap, subst}
-use Rattle.std.specs.Prelude.{OnOk}
-use Rattle.nf_report_lines.specs.declared.entry.Entry.{Entry}
-use Rattle.nf_report_lines.specs.Drafts.{seen_draft}
-use Rattle.nf_report_lines.specs.Entries.{drafted, FitsDraft}
+use Rattle.std.proofs.Common.{◌≡◌, sym, ap, subst, OnOk}
+use Rattle.nf_report_lines.proofs.Common.{Entry, seen_draft, drafted, FitsDraft}
 use Rattle.nf_report_lines.proofs.draft.Draft.add.Goals as goal
 
 pub add_state-requires-clause-within : goal.add_state-requires-clause-within

@@ -1,7 +1,5 @@
 use Rattle.std.proofs.Common.{length, ap, ◌∙◌}
-use Rattle.std.proofs.lemmas.Result.{IfOk-from_err}
-use Rattle.nf_report_def.specs.ReportLines.{ReportDraft, AtEnd}
-use Rattle.nf_report_lines.specs.Drafts.{begun_count}
+use Rattle.nf_report_lines.proofs.Common.{IfOk-from_err, ReportDraft, AtEnd, begun_count}
 use Rattle.nf_report_lines.proofs.DraftSteps.{within_by}
 use Rattle.nf_report_lines.proofs.draft.Draft.add_end.Goals as goal
 

@@ -1,8 +1,5 @@
 use Rattle.std.proofs.Common.{◌≡◌, ℕ, ◌+◌, [], ◌∷◌, length, None, sym, ap, subst, ◌∙◌, arith, length-append, length-drop}
-use Rattle.std.proofs.lemmas.Result.{IfOk-from_err}
-use Rattle.nf_report_def.specs.ReportLines.{curve_keys, key_of, OfNever}
-use Rattle.nf_report_lines.specs.Keys.{key_at}
-use Rattle.nf_report_lines.specs.Drafts.{begun_count}
+use Rattle.nf_report_lines.proofs.Common.{IfOk-from_err, curve_keys, key_of, OfNever, key_at, begun_count}
 use Rattle.nf_report_lines.proofs.DraftSteps.{never_is, within_by, never_some, never_at, idle_passed}
 use Rattle.nf_report_lines.proofs.draft.Draft.add_never.Goals as goal
 

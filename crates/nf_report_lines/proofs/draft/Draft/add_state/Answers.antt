@@ -1,5 +1,5 @@
 use Rattle.std.proofs.Common.{◌+◌, Some, ap, ◌∙◌, add-one, arith, set}
-use Rattle.nf_net.proofs.Limits.{few_links}
+use Rattle.nf_report_lines.proofs.Common.{few_links}
 use Rattle.nf_report_lines.proofs.DraftSteps.{with_state}
 use Rattle.nf_report_lines.proofs.draft.Draft.add_state.Goals as goal
 

@@ -1,6 +1,5 @@
 use Rattle.std.proofs.Common.{nat_eq, ◌∙◌}
-use Rattle.nf_report_def.specs.ReportLines.{curve_keys}
-use Rattle.nf_report_lines.specs.Drafts.{begun_count}
+use Rattle.nf_report_lines.proofs.Common.{curve_keys, begun_count}
 use Rattle.nf_report_lines.proofs.DraftSteps.{all_begun}
 use Rattle.nf_report_lines.proofs.draft.Draft.has_all.Goals as goal
 

@@ -1,8 +1,5 @@
 use Rattle.std.proofs.Common.{List, length, sym, ap, subst, ◌≤◌, ◌∙◌, replicate, Option, None, arith}
-use Rattle.std.proofs.lemmas.List.{length-replicate}
-use Rattle.nf_curve.specs.declared.flow.Trace.{Trace}
-use Rattle.nf_net.proofs.Limits.{as_many_names}
-use Rattle.nf_report_def.specs.ReportLines.{curve_keys}
+use Rattle.nf_report_lines.proofs.Common.{length-replicate, Trace, as_many_names, curve_keys}
 use Rattle.nf_report_lines.proofs.DraftSteps.{nothing_read, no_curves}
 use Rattle.nf_report_lines.proofs.draft.Draft.new.Goals as goal
 

@@ -1,8 +1,5 @@
 use Rattle.std.proofs.Common.{◌≡◌, ◌<◌, ℕ, ◌+◌, true, false, sym, subst, ◌∙◌, Option, length, drop}
-use Rattle.nf_curve.specs.declared.flow.Trace.{Trace}
-use Rattle.nf_report_def.specs.ReportLines.{curve_keys}
-use Rattle.nf_report_lines.specs.Keys.{seen_kind, key_of_number, is_some_key}
-use Rattle.nf_report_lines.specs.Drafts.{with_open}
+use Rattle.nf_report_lines.proofs.Common.{Trace, curve_keys, seen_kind, key_of_number, is_some_key, with_open}
 use Rattle.nf_report_lines.proofs.DraftSteps.{some_left, begins_first, none_begins, begins_next, other_curve}
 use Rattle.nf_report_lines.proofs.draft.Draft.opened.Goals as goal
 

@@ -1,8 +1,6 @@
 use Rattle.std.proofs.Common.{◌∙◌}
-use Rattle.std.specs.Option.{option_copied}
+use Rattle.nf_report_lines.proofs.Common.{option_copied, words_behind, seen_draft}
 use Rattle.nf_report_lines.specs.declared.body.LineKind.TheVariants.{Label, Inflow, Outflow, Queue, Never, State, End}
-use Rattle.nf_report_lines.specs.Lines.{words_behind}
-use Rattle.nf_report_lines.specs.Drafts.{seen_draft}
 use Rattle.nf_report_lines.proofs.BodyLines.{of_kind, of_none}
 use Rattle.nf_report_lines.proofs.draft.Draft.read_body.Goals as goal
 

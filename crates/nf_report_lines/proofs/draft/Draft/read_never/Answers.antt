@@ -1,8 +1,6 @@
 use Rattle.std.proofs.Common.{◌≡◌, ℕ, true, false, List, sym, subst, ◌∙◌}
+use Rattle.nf_report_lines.proofs.Common.{curve_keys, key_of_number, is_some_key, begun_count}
 use Rattle.nf_report_def.specs.ReportLines as lines
-use Rattle.nf_report_def.specs.ReportLines.{curve_keys}
-use Rattle.nf_report_lines.specs.Keys.{key_of_number, is_some_key}
-use Rattle.nf_report_lines.specs.Drafts.{begun_count}
 use Rattle.nf_report_lines.proofs.DraftSteps.{never_next, never_there, never_elsewhere}
 use Rattle.nf_report_lines.proofs.draft.Draft.read_never.Goals as goal
 

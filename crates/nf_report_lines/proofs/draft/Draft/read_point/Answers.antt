@@ -1,9 +1,5 @@
 use Rattle.std.proofs.Common.{[], ◌∷◌, Ok, Err, true, false, refl, sym, ◌∙◌, arith}
-use Rattle.std.proofs.lemmas.Result.{err_from_is_err_and}
-use Rattle.nf_text.specs.Within.{word_at}
-use Rattle.nf_report_lines.specs.Keys.{seen_kind}
-use Rattle.nf_report_lines.specs.Drafts.{seen_draft}
-use Rattle.nf_report_lines.specs.Entries.{opened_by}
+use Rattle.nf_report_lines.proofs.Common.{err_from_is_err_and, word_at, seen_kind, seen_draft, opened_by}
 use Rattle.nf_report_lines.proofs.WordCounts.{three_behind}
 use Rattle.nf_report_lines.proofs.BodyLines.{point_count, point_by, point_out}
 use Rattle.nf_report_lines.proofs.draft.Draft.read_point.Goals as goal

@@ -1,12 +1,5 @@
 use Rattle.std.proofs.Common.{[], ◌∷◌, Ok, Err, true, false, sym, refl, ◌∙◌, arith}
-use Rattle.std.specs.Option.{option_copied}
-use Rattle.std.proofs.lemmas.Result.{err_from_is_err_and}
-use Rattle.nf_text.specs.Within.{word_at}
-use Rattle.nf_report_def.specs.ReportLines.{are_alike}
-use Rattle.nf_report_lines.specs.Keys.{seen_kind}
-use Rattle.nf_report_lines.specs.Lines.{words_behind}
-use Rattle.nf_report_lines.specs.Drafts.{seen_draft}
-use Rattle.nf_report_lines.specs.Entries.{opened_by}
+use Rattle.nf_report_lines.proofs.Common.{option_copied, err_from_is_err_and, word_at, are_alike, seen_kind, words_behind, seen_draft, opened_by}
 use Rattle.nf_report_lines.proofs.WordCounts.{four_behind}
 use Rattle.nf_report_lines.proofs.BodyLines.{trace_count, rated_by, rate_wrong, rated_out, none_is}
 use Rattle.nf_report_lines.proofs.draft.Draft.read_rated.Goals as goal

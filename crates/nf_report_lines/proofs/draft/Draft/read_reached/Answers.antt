@@ -1,7 +1,5 @@
 use Rattle.std.proofs.Common.{List, ℕ, bytes_eq, codes, sym, ap, ◌∙◌}
-use Rattle.std.proofs.lemmas.Result.{err_from_is_err_and}
-use Rattle.nf_rational.specs.Order.{lt_ℚ}
-use Rattle.nf_report_lines.specs.Drafts.{seen_draft}
+use Rattle.nf_report_lines.proofs.Common.{err_from_is_err_and, lt_ℚ, seen_draft}
 use Rattle.nf_report_lines.proofs.HeadLines.{no_reached, reached_fails, reached_negative, reached_beyond, reached_read}
 use Rattle.nf_report_lines.proofs.draft.Draft.read_reached.Goals as goal
 use Rattle.nf_report_lines.proofs.draft.Draft.read_reached.Goals.{then-is_below-via-then-is_below, then-is_below-via-else-is_below+then-is_below-2}

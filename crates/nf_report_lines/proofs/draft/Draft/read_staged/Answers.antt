@@ -1,9 +1,5 @@
 use Rattle.std.proofs.Common.{ap, ◌∙◌}
-use Rattle.std.specs.Option.{option_copied}
-use Rattle.nf_report_def.specs.ReportLines.{nothing_more, staged_line}
-use Rattle.nf_report_lines.specs.Lines.{words_behind}
-use Rattle.nf_report_lines.specs.declared.draft.Stage.{Stage}
-use Rattle.nf_report_lines.specs.Drafts.{seen_draft, seen_stage}
+use Rattle.nf_report_lines.proofs.Common.{option_copied, nothing_more, staged_line, words_behind, Stage, seen_draft, seen_stage}
 use Rattle.nf_report_lines.proofs.draft.Draft.read_staged.Goals as goal
 
 pub returns-in-Version-clause-says : goal.returns-in-Version-clause-says

@@ -1,5 +1,5 @@
 use Rattle.std.proofs.Common.{[], ◌∷◌, true, false, sym, ◌∙◌, arith}
-use Rattle.nf_report_lines.specs.Drafts.{seen_draft}
+use Rattle.nf_report_lines.proofs.Common.{seen_draft}
 use Rattle.nf_report_lines.proofs.WordCounts.{two_behind}
 use Rattle.nf_report_lines.proofs.BodyLines.{state_count, state_wrong, state_out}
 use Rattle.nf_report_lines.proofs.draft.Draft.read_state.Goals as goal

@@ -1,6 +1,5 @@
 use Rattle.std.proofs.Common.{List, ℕ, not, bytes_eq, codes, sym, ap, ◌∙◌}
-use Rattle.std.specs.Bool.{beq}
-use Rattle.nf_report_lines.specs.Drafts.{seen_draft}
+use Rattle.nf_report_lines.proofs.Common.{beq, seen_draft}
 use Rattle.nf_report_lines.proofs.HeadLines.{none_by, cause_read, no_cause, cause_differs}
 use Rattle.nf_report_lines.proofs.draft.Draft.read_stop.Goals as goal
 

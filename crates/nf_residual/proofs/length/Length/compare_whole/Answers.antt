@@ -1,5 +1,5 @@
 use Rattle.std.proofs.Common.{sym, ap, ◌∙◌, refl}
-use Rattle.nf_residual.specs.Lengths.{measured}
+use Rattle.nf_residual.proofs.Common.{measured}
 use Rattle.nf_residual.proofs.WholeLengths.{order_kept}
 use Rattle.nf_residual.proofs.length.Length.compare_whole.Goals as goal
 

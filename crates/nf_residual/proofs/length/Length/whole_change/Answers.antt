@@ -1,5 +1,5 @@
 use Rattle.std.proofs.Common.{sym, ap, subst, ◌∙◌}
-use Rattle.nf_residual.specs.Lengths.{measured, IsHeldWhole}
+use Rattle.nf_residual.proofs.Common.{measured, IsHeldWhole}
 use Rattle.nf_residual.proofs.WholeLengths.{whole_given}
 use Rattle.nf_residual.proofs.length.Length.whole_change.Goals as goal
 

@@ -1,5 +1,5 @@
 use Rattle.std.proofs.Common.{Some, None, option_map, refl, sym, ap, ◌∙◌}
-use Rattle.nf_quick_def.specs.Order.{Reach}
+use Rattle.nf_residual.proofs.Common.{Reach}
 use Rattle.nf_residual.proofs.Reading.{place_there, reach_there}
 use Rattle.nf_residual.proofs.reaches.Reaches.distance_to.Goals as goal
 

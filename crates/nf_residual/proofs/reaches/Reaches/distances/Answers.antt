@@ -1,9 +1,5 @@
 use Rattle.std.proofs.Common.{◌≡◌, ◌<◌, ◌≤◌, map, option_map, length, sym, ap, subst, ◌∙◌, arith}
-use Rattle.std.proofs.lemmas.List.{length-map, take_all}
-use Rattle.std.proofs.lemmas.Result.{err_from_is_err_and}
-use Rattle.nf_quick_def.specs.Order.{Reach}
-use Rattle.nf_quick_def.specs.Rounds.{Known}
-use Rattle.nf_residual.specs.Ways.{way_at}
+use Rattle.nf_residual.proofs.Common.{length-map, take_all, err_from_is_err_and, Reach, Known, way_at}
 use Rattle.nf_residual.proofs.Twigs.{distances_more, within_known}
 use Rattle.nf_residual.proofs.reaches.Reaches.distances.Goals as goal
 

@@ -1,5 +1,5 @@
 use Rattle.std.proofs.Common.{◌≡◌, map, option_map, take}
-use Rattle.nf_quick_def.specs.Order.{Reach}
+use Rattle.nf_residual.proofs.Common.{Reach}
 use Rattle.nf_residual.proofs.reaches.Reaches.distances.Given as goal
 
 abbrev pub invariant-loop-node : goal.invariant-loop-node

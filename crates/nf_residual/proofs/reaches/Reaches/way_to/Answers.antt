@@ -1,9 +1,5 @@
 use Rattle.std.proofs.Common.{◌≡◌, ℕ, List, Some, sym, ap, ◌∙◌}
-use Rattle.std.proofs.lemmas.Result.{err_from_is_err_and}
-use Rattle.nf_rational.specs.Rational.{ℚ}
-use Rattle.nf_quick_def.specs.Steps.{Step}
-use Rattle.nf_residual.specs.declared.ways.Twig.{Twig}
-use Rattle.nf_residual.specs.Ways.{twig_at, way_at, Places, place_at}
+use Rattle.nf_residual.proofs.Common.{err_from_is_err_and, ℚ, Step, Twig, twig_at, way_at, Places, place_at}
 use Rattle.nf_residual.proofs.Reading.{place_there, reach_there}
 use Rattle.nf_residual.proofs.reaches.Reaches.way_to.Goals as goal
 

@@ -1,7 +1,5 @@
 use Rattle.std.proofs.Common.{length, ap, ◌∙◌}
-use Rattle.nf_rational.specs.Rational.{ℚ}
-use Rattle.std.proofs.lemmas.Result.{err_from_is_err_and}
-use Rattle.nf_frac_def.specs.Passing.{passes_Q}
+use Rattle.nf_residual.proofs.Common.{ℚ, err_from_is_err_and, passes_Q}
 use Rattle.nf_residual.proofs.Finishing.{distances_stop, distances_listed, distances_least}
 use Rattle.nf_residual.proofs.residual.Residual.distances.Goals as goal
 

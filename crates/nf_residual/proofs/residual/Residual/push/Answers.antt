@@ -1,12 +1,6 @@
-use Rattle.std.proofs.Common.{◌≡◌, List, length, Vec, Global, sym, ap, subst, ◌∙◌}
-use Rattle.std.specs.Prelude.{Ok}
-use Rattle.std.proofs.lemmas.Result.{err_from_is_err_and}
+use Rattle.std.proofs.Common.{◌≡◌, List, length, Vec, Global, sym, ap, subst, ◌∙◌, Ok}
+use Rattle.nf_residual.proofs.Common.{err_from_is_err_and, at_part, fold_checked, push_step, ℚ, passes_Q, Walk}
 use Rattle.nf_frac_def.specs.declared.Part.TheVariants as Part
-use Rattle.nf_frac_def.specs.Checked.{at_part, fold_checked}
-use Rattle.nf_quick_def.specs.Pushes.{push_step}
-use Rattle.nf_rational.specs.Rational.{ℚ}
-use Rattle.nf_frac_def.specs.Passing.{passes_Q}
-use Rattle.nf_quick_def.specs.Rounds.{Walk}
 use Rattle.nf_residual.proofs.Fits.{fits, pushed_sound}
 use Rattle.nf_residual.proofs.residual.Residual.push.Goals as goal
 

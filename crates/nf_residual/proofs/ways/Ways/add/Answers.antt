@@ -1,6 +1,5 @@
 use Rattle.std.proofs.Common.{◌<◌, List, length, ap, sym, subst, ◌∙◌}
-use Rattle.nf_residual.specs.declared.ways.Twig.{Twig}
-use Rattle.nf_residual.specs.Ways.{twig_at, IsPathTree}
+use Rattle.nf_residual.proofs.Common.{Twig, twig_at, IsPathTree}
 use Rattle.nf_residual.proofs.Twigs.{IsTree-pushed}
 use Rattle.nf_residual.proofs.ways.Ways.add.Goals as goal
 

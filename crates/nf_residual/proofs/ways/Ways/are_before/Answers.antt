@@ -1,6 +1,5 @@
 use Rattle.std.proofs.Common.{◌<◌, ◌≤◌, false, ap, ◌∙◌, arith}
-use Rattle.nf_quick_def.specs.Steps.{Step}
-use Rattle.nf_residual.specs.Ways.{twig_at, one_before}
+use Rattle.nf_residual.proofs.Common.{Step, twig_at, one_before}
 use Rattle.nf_residual.proofs.FromBehind.{compares_first, compares_same, compares_more, compares_all}
 use Rattle.nf_residual.proofs.ways.Ways.are_before.Goals as goal
 

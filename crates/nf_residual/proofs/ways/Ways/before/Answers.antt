@@ -1,7 +1,6 @@
 use Rattle.std.proofs.Common.{ℕ, ◌<◌, length, sym, ap, subst}
-use Rattle.nf_residual.specs.Ways.{IsPathTree}
+use Rattle.nf_residual.proofs.Common.{IsPathTree, Twig}
 use Rattle.nf_residual.proofs.Twigs.{before_within}
-use Rattle.nf_residual.specs.declared.ways.Twig.{Twig}
 use Rattle.nf_residual.proofs.Reading.{twig_read}
 use Rattle.nf_residual.proofs.ways.Ways.before.Goals as goal
 

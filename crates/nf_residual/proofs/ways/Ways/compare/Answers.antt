@@ -1,6 +1,5 @@
 use Rattle.std.proofs.Common.{ap, ◌∙◌}
-use Rattle.nf_rational.specs.Order.{cmp_ℚ}
-use Rattle.nf_residual.specs.declared.ways.Twig.{Twig}
+use Rattle.nf_residual.proofs.Common.{cmp_ℚ, Twig}
 use Rattle.nf_residual.proofs.Reading.{twig_read}
 use Rattle.nf_residual.proofs.ways.Ways.compare.Goals as goal
 

@@ -1,6 +1,5 @@
 use Rattle.std.proofs.Common.{ap, ◌∙◌}
-use Rattle.nf_residual.specs.Ways.{twig_at}
-use Rattle.nf_residual.specs.declared.ways.Twig.{Twig}
+use Rattle.nf_residual.proofs.Common.{twig_at, Twig}
 use Rattle.nf_residual.proofs.Reading.{twig_read}
 use Rattle.nf_residual.proofs.WholeLengths.{order_handed}
 use Rattle.nf_residual.proofs.ways.Ways.compare_whole.Goals as goal

@@ -1,5 +1,5 @@
 use Rattle.std.proofs.Common.{sym, ◌∙◌}
-use Rattle.nf_residual.specs.Ways.{way_at, extended_by}
+use Rattle.nf_residual.proofs.Common.{way_at, extended_by}
 use Rattle.nf_residual.proofs.FromBehind.{shorter, longer_one, as_long}
 use Rattle.nf_residual.proofs.ways.Ways.is_better.Goals as goal
 

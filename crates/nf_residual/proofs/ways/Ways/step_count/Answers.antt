@@ -1,5 +1,5 @@
 use Rattle.std.proofs.Common.{ap}
-use Rattle.nf_residual.specs.declared.ways.Twig.{Twig}
+use Rattle.nf_residual.proofs.Common.{Twig}
 use Rattle.nf_residual.proofs.Reading.{twig_read}
 use Rattle.nf_residual.proofs.ways.Ways.step_count.Goals as goal
 

@@ -1,7 +1,5 @@
 use Rattle.std.proofs.Common.{◌<◌, ◌≤◌, ◌++◌, ◌∷◌, [], ap, ◌∙◌, arith}
-use Rattle.std.proofs.lemmas.Result.{err_from_is_err_and}
-use Rattle.nf_quick_def.specs.Steps.{Step}
-use Rattle.nf_residual.specs.Ways.{twig_at}
+use Rattle.nf_residual.proofs.Common.{err_from_is_err_and, Step, twig_at}
 use Rattle.nf_residual.proofs.Twigs.{reads_first, reads_more, reads_all}
 use Rattle.nf_residual.proofs.ways.Ways.steps.Goals as goal
 

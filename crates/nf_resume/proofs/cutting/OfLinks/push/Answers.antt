@@ -1,9 +1,5 @@
 use Rattle.std.proofs.Common.{List, map, ap, ◌∙◌}
-use Rattle.std.proofs.lemmas.List.{map-append}
-use Rattle.nf_curve.specs.declared.flow.Trace.{Trace}
-use Rattle.nf_curve.specs.Flows.{seen_trace}
-use Rattle.nf_curve.specs.Points.{Grown}
-use Rattle.nf_resume.specs.Cuts.{points_of_each}
+use Rattle.nf_resume.proofs.Common.{map-append, Trace, seen_trace, Grown, points_of_each}
 use Rattle.nf_resume.proofs.cutting.OfLinks.push.Goals as goal
 
 pub returns-clause-inflows : goal.returns-clause-inflows

@@ -1,7 +1,5 @@
 use Rattle.std.proofs.Common.{ℕ, ◌<◌, List, length, Option, set, refl, sym, ap, subst, ◌∙◌}
-use Rattle.std.proofs.lemmas.Option.{slice_get_read}
-use Rattle.nf_routes_def.specs.RoutesFile.{NamedRoute, RoutesDraft, routes_after, with_piece}
-use Rattle.nf_routes_read.specs.Entries.{seen_entry}
+use Rattle.nf_routes_read.proofs.Common.{slice_get_read, NamedRoute, RoutesDraft, routes_after, with_piece, seen_entry}
 use Rattle.nf_routes_read.proofs.draft.Draft.add.Goals as goal
 
 pub returns-in_ok-push-in-Rate : goal.returns-in_ok-push-in-Rate

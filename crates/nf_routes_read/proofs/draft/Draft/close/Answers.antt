@@ -1,8 +1,5 @@
 use Rattle.std.proofs.Common.{ℕ, List, sym, ap, subst, ◌∙◌}
-use Rattle.nf_routes_def.specs.Routes.{takes_all}
-use Rattle.nf_routes_def.specs.RoutesFile.{NamedRoute, RoutesDraft, routes_of}
-use Rattle.nf_routes_def.specs.Kept.{AreSound}
-use Rattle.nf_routes_laws.proofs.FileReading.{kept_routes}
+use Rattle.nf_routes_read.proofs.Common.{takes_all, NamedRoute, RoutesDraft, routes_of, AreSound, kept_routes}
 use Rattle.nf_routes_read.proofs.draft.Draft.close.Goals as goal
 
 pub kept-requires : goal.kept-requires

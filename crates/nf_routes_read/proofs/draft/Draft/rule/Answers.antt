@@ -1,8 +1,5 @@
 use Rattle.std.proofs.Common.{◌<◌, List, length, refl, sym, ap, subst, ◌∙◌}
-use Rattle.std.proofs.lemmas.Option.{slice_get_read}
-use Rattle.nf_model.specs.Network.{Piece}
-use Rattle.nf_routes_def.specs.RoutesFile.{RoutesDraft, pieces_of, routes_rule_of, rule_behind}
-use Rattle.nf_routes_read.specs.Entries.{seen_entry}
+use Rattle.nf_routes_read.proofs.Common.{slice_get_read, Piece, RoutesDraft, pieces_of, routes_rule_of, rule_behind, seen_entry}
 use Rattle.nf_routes_read.proofs.draft.Draft.rule.Goals as goal
 
 pub returns-in-Rate : goal.returns-in-Rate

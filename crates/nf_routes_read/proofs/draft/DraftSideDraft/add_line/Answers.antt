@@ -1,5 +1,5 @@
 use Rattle.std.proofs.Common.{sym, ap, ◌∙◌}
-use Rattle.nf_routes_def.specs.RoutesFile.{RoutesDraft}
+use Rattle.nf_routes_read.proofs.Common.{RoutesDraft}
 use Rattle.nf_routes_read.proofs.RouteSteps.{entry_breaks}
 use Rattle.nf_routes_read.proofs.draft.DraftSideDraft.add_line.Goals as goal
 

@@ -1,5 +1,5 @@
 use Rattle.std.proofs.Common.{◌≡◌, ℕ, List, length, replicate, ap, ◌∙◌, arith}
-use Rattle.std.proofs.lemmas.List.{length-replicate}
+use Rattle.nf_thin_balance.proofs.Common.{length-replicate}
 use Rattle.nf_thin_balance.proofs.LinksAt.{none_added}
 use Rattle.nf_thin_balance.proofs.links_at.LinksAt.new.Goals as goal
 

@@ -1,5 +1,5 @@
 use Rattle.std.proofs.Common.{◌≤◌, length}
-use Rattle.nf_thin_balance.specs.LinksAt.{HasLinksFrom}
+use Rattle.nf_thin_balance.proofs.Common.{HasLinksFrom}
 use Rattle.nf_thin_balance.proofs.links_at.LinksAt.new.Given as goal
 
 -- The links from this one on are there.

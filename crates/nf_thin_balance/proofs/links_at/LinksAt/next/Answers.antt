@@ -1,9 +1,6 @@
-use Rattle.std.proofs.Common.{◌≡◌, ◌<◌, ◌≤◌, ℕ, suc, length, refl, sym, ap, subst, ◌∙◌, arith}
-use Rattle.std.specs.Prelude.{slice_get}
-use Rattle.std.proofs.lemmas.Option.{slice_get_read}
-use Rattle.nf_model.specs.Walk.{Hop}
+use Rattle.std.proofs.Common.{◌≡◌, ◌<◌, ◌≤◌, ℕ, suc, length, refl, sym, ap, subst, ◌∙◌, arith, slice_get}
+use Rattle.nf_thin_balance.proofs.Common.{slice_get_read, Hop, IsNextAt}
 use Rattle.nf_net.proofs.Limits.{few_links}
-use Rattle.nf_thin_balance.specs.LinksAt.{IsNextAt}
 use Rattle.nf_thin_balance.proofs.Conserving.{link_read}
 use Rattle.nf_thin_balance.proofs.Balances.{test_same}
 use Rattle.nf_thin_balance.proofs.links_at.LinksAt.next.Goals as goal

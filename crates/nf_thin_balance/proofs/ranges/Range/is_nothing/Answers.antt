@@ -1,6 +1,5 @@
-use Rattle.std.specs.Prelude.{pos}
-use Rattle.nf_rational.specs.Operations.{0ℚ}
-use Rattle.nf_rational_laws.proofs.Order.{≤ℚ_antisymm}
+use Rattle.std.proofs.Common.{pos}
+use Rattle.nf_thin_balance.proofs.Common.{0ℚ, ≤ℚ_antisymm}
 use Rattle.nf_thin_balance.proofs.ranges.Range.is_nothing.Goals as goal
 
 pub returns : goal.returns

@@ -1,5 +1,5 @@
 use Rattle.std.proofs.Common.{sym, ◌∙◌}
-use Rattle.std.proofs.lemmas.Bool.{true≢false}
+use Rattle.nf_thin_balance.proofs.Common.{true≢false}
 use Rattle.nf_thin_balance.proofs.ranges.Range.meets.Goals as goal
 
 pub returns-then-not-ends_meet : goal.returns-then-not-ends_meet

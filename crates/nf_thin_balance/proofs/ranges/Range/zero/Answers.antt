@@ -1,5 +1,5 @@
 use Rattle.std.proofs.Common.{refl}
-use Rattle.nf_rational.specs.Operations.{0ℚ}
+use Rattle.nf_thin_balance.proofs.Common.{0ℚ}
 use Rattle.nf_thin_balance.proofs.Within.{within_zero}
 use Rattle.nf_thin_balance.proofs.ranges.Range.zero.Goals as goal
 

@@ -1,4 +1,4 @@
-use Rattle.nf_thin_equation_laws.specs.Equations.{IsPatternIn}
+use Rattle.nf_thin_guess.proofs.Common.{IsPatternIn}
 use Rattle.nf_thin_guess.proofs.repairs.Repairs.repair_first.Given as goal
 
 -- The pattern is still a pattern.

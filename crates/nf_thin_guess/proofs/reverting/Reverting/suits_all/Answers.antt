@@ -1,6 +1,5 @@
 use Rattle.std.proofs.Common.{sym, subst}
-use Rattle.nf_model.specs.Pattern.{Pattern}
-use Rattle.nf_thin_equation_laws.specs.Equations.{IsPatternIn}
+use Rattle.nf_thin_guess.proofs.Common.{Pattern, IsPatternIn}
 use Rattle.nf_thin_guess.proofs.reverting.Reverting.suits_all.Goals as goal
 
 pub repair-requires : goal.repair-requires

@@ -1,10 +1,5 @@
 use Rattle.std.proofs.Common.{ap, subst, ◌∙◌}
-use Rattle.std.proofs.lemmas.Option.{same_Some}
-use Rattle.nf_pattern.specs.Given.{Given}
-use Rattle.nf_thin_narrow.specs.Asking.{IsBehind}
-use Rattle.nf_thin_narrow.proofs.Going.{from_start}
-use Rattle.nf_thin_rank.specs.Questions.{question_of}
-use Rattle.nf_thin_rank.specs.Posing.{question_in}
+use Rattle.nf_thin_rank.proofs.Common.{same_Some, Given, IsBehind, from_start, question_of, question_in}
 use Rattle.nf_thin_rank.proofs.pace.Pace.begin.Goals as goal
 
 pub go_on-requires-clause-behind : goal.go_on-requires-clause-behind

@@ -1,9 +1,5 @@
 use Rattle.std.proofs.Common.{length, true, false, subst, sym, ap, ◌∙◌}
-use Rattle.std.proofs.lemmas.Option.{same_Some}
-use Rattle.nf_pattern.specs.Given.{Question, IsQuestion, IsListedBy, Given}
-use Rattle.nf_thin_narrow.specs.Asking.{StandsWithin, IsBehind, StandsAt}
-use Rattle.nf_thin_rank.specs.Posing.{question_in}
-use Rattle.nf_graph.proofs.NetworkHops.{hops_length}
+use Rattle.nf_thin_rank.proofs.Common.{same_Some, Question, IsQuestion, IsListedBy, Given, StandsWithin, IsBehind, StandsAt, question_in, hops_length}
 use Rattle.nf_thin_rank.proofs.Posed.{posed_question}
 use Rattle.nf_thin_rank.proofs.pace.Pace.go_on.Goals as goal
 
