@@ -1,7 +1,7 @@
 -- The names that most proofs of this crate cite, passed on from one place. Declares nothing.
 pub use Rattle.nf_edge.specs.Writing.{state_of}
 pub use Rattle.nf_edge.specs.declared.SinkFault.{SinkFault}
-pub use Rattle.nf_forever.specs.Ends.{IsStopBy, end_in}
+pub use Rattle.nf_forever.specs.Ends.{end_in}
 pub use Rattle.nf_forever.specs.Seen.{forever_in, tail_in}
 pub use Rattle.nf_forever_def.specs.ForeverRun.{End, Forever, IsForever, IsForeverRun, NeverEnds, RunsForever, Stops, at_phases, fails, forever_of, goes}
 pub use Rattle.nf_forever_def.specs.ForeverRun.{never_ends}

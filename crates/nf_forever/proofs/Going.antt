@@ -1,11 +1,11 @@
 -- The loop invariant of a run without a horizon, and the end of the loop.
-use Rattle.std.proofs.Common.{◌≡◌, ℕ, suc, ◌+◌, ◌<◌, add-one, refl, sym, ap, subst, ◌∙◌, Option, Some, None, IsSome, MatchOption, Result, Ok, Err, IfOk}
+use Rattle.std.proofs.Common.{◌≡◌, ℕ, suc, ◌+◌, ◌<◌, add-one, refl, sym, ap, subst, ◌∙◌, Option, Some, None, IsSome, MatchOption}
 use Rattle.nf_forever.proofs.Common.{ℚ, Passing, Network, Cause, Standing, IsStart, Reaches, starts, IsCauseOn, tail_by, GoesToEnd, GoesForever, FailsOn}
-use Rattle.nf_forever.proofs.Common.{End, Stops, NeverEnds, RunsForever, at_phases, fails, never_ends, goes, IsForeverRun, end_in, IsStopBy}
+use Rattle.nf_forever.proofs.Common.{End, Stops, NeverEnds, RunsForever, at_phases, fails, never_ends, goes, IsForeverRun}
+use Rattle.nf_phase.specs.Solution.{cause_of}
 use Rattle.nf_phase.specs.ThinFlow.{ThinFlow}
 use Rattle.nf_phase.specs.declared.fault.StepFault.{StepFault}
 use Rattle.nf_phase.proofs.Stopping.{stands_stop}
-use Rattle.nf_forever.specs.declared.solving.End.{End as Told}
 
 -- From the start the run has reached this state after this many phases, and an end from here is an end from the start.
 pub record GoneOn (passes : Passing) (net : Network) (phases patterns : ℕ) (first : Standing) (count : ℕ) (s : Standing) : Type 0 where
@@ -55,17 +55,10 @@ module _ (passes : Passing) (net : Network) (phases patterns : ℕ) (first : Sta
         subst (λ (t : Standing). IsForeverRun passes net phases patterns t (NeverEnds thin.pattern (tail_by thin))) (sym same)
         (run_of (NeverEnds thin.pattern (tail_by thin)) (never_ends (may_go may) goes_forever))
 
-    ends_by : count < phases → (cause : Cause ℚ) → FailsOn passes net patterns s cause → IsForeverRun passes net phases patterns s (Stops cause)
-    ends_by may cause f = run_of (Stops cause) (fails (may_go may) f)
-
-    stops_by : count < phases → (fault : StepFault) → IsCauseOn passes net patterns s fault → (end : End) → IsStopBy (suc s.made) fault end
-        → IsForeverRun passes net phases patterns s end
-    stops_by may fault h (Stops cause) e = ends_by may cause (stands_stop (FailsOn passes net patterns s) (suc s.made) fault h cause e)
-    stops_by may fault h (NeverEnds pattern tail) e = absurd e
-
-    pub ends_by_fault : count < phases → (fault : StepFault) → IsCauseOn passes net patterns s fault → (after : Standing) → after ≡ s → (phase : ℕ) → phase ≡ suc after.made
-        → {E : Type 0} (result : Result Told E) → IfOk result (λ end. IsStopBy phase fault (end_in end)) → IfOk result (λ end. IsForeverRun passes net phases patterns after (end_in end))
-    ends_by_fault may fault h after same phase next (Ok end) e =
-        subst (λ (t : Standing). IsForeverRun passes net phases patterns t (end_in end)) (sym same)
-        (stops_by may fault h (end_in end) (subst (λ (n : ℕ). IsStopBy n fault (end_in end)) (next ∙ ap (λ (t : Standing). suc t.made) same) e))
-    ends_by_fault may fault h after same phase next (Err x) e = tt
+    pub ends_by_fault : count < phases → (fault : StepFault) → IsCauseOn passes net patterns s fault → (after : Standing) → after ≡ s → (phase : ℕ)
+        → phase ≡ suc after.made → (stop : Cause ℚ) → cause_of phase fault ≡ Some stop → IsForeverRun passes net phases patterns after (Stops stop)
+    ends_by_fault may fault h after same phase next stop e =
+        let is : cause_of (suc s.made) fault ≡ Some stop =
+        ap (λ (n : ℕ). cause_of n fault) (sym (next ∙ ap (λ (t : Standing). suc t.made) same)) ∙ e in
+        subst (λ (t : Standing). IsForeverRun passes net phases patterns t (Stops stop)) (sym same)
+        (run_of (Stops stop) (fails (may_go may) (stands_stop (FailsOn passes net patterns s) (suc s.made) fault h stop is)))

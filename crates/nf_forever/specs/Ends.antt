@@ -1,7 +1,4 @@
 -- The end of a run without a horizon, as the definitions state it.
-use Rattle.std.specs.Prelude.{◌≡◌, ℕ, Some}
-use Rattle.nf_phase.specs.declared.fault.StepFault.{StepFault}
-use Rattle.nf_phase.specs.Solution.{cause_of}
 use Rattle.nf_phase.specs.Stepping.{tail_by}
 use Rattle.nf_forever_def.specs.ForeverRun.{End, Stops, NeverEnds}
 use Rattle.nf_forever.specs.declared.solving.End.{End as Told}
@@ -10,8 +7,3 @@ use Rattle.nf_forever.specs.declared.solving.End.TheVariants as told
 abbrev pub end_in : Told → End
 end_in (told.Stops stop) = Stops stop
 end_in (told.NeverEnds thin) = NeverEnds thin.pattern (tail_by thin)
-
--- The run ends by the stop at phase number `phase`, which is not computed.
-abbrev pub IsStopBy : ℕ → StepFault → End → Type 0
-IsStopBy phase fault (Stops stop) = cause_of phase fault ≡ Some stop
-IsStopBy phase fault (NeverEnds pattern tail) = ⊥

@@ -13,7 +13,7 @@ ghost use Rattle.nf_forever_def.specs.Extended.{flow_until};
 ghost use Rattle.nf_forever_def.specs.ForeverText.{HasForm};
 ghost use Rattle.nf_forever_laws.specs.TailGrowth.{TailGrows};
 ghost use Rattle.nf_forever.specs.Seen.{tail_in, forever_in};
-ghost use Rattle.nf_forever.specs.Ends.{end_in, IsStopBy};
+ghost use Rattle.nf_forever.specs.Ends.{end_in};
 
 use crate::forever::{Forever, Tail};
 use nf_curve::Stop;
@@ -28,16 +28,6 @@ enum End {
     NeverEnds(ThinFlow),
 }
 
-// Returns the end of a run whose phase number `phase` is not computed. Fails if an allocation fails.
-fn stopped_by(phase: u64, fault: StepFault) -> Result<End, AllocError>
-    ensures { IfOk result (λ end. IsStopBy phase fault (end_in end)) }
-{
-    match stop_by(phase, fault) {
-        Some(stop) => Ok(End::Stops(stop)),
-        None => Err(AllocError),
-    }
-}
-
 // Extends the run until it ends, by phases of greatest length. The budget of phases ends the run even if the next phase would never end.
 fn go(run: &mut Run, alloc: Global, net: &Network, budgets: Budgets) -> Result<End, AllocError>
     requires { IsStart net.now.net run.old }
@@ -48,7 +38,10 @@ fn go(run: &mut Run, alloc: Global, net: &Network, budgets: Budgets) -> Result<E
         match run.step_to_end(alloc, net, budgets.patterns) {
             Ok(None) => {}
             Ok(Some(thin)) => return Ok(End::NeverEnds(thin)),
-            Err(fault) => return stopped_by(run.phases() + 1, fault),
+            Err(fault) => {
+                let stop = stop_by(run.phases() + 1, fault)?;
+                return Ok(End::Stops(stop));
+            }
         }
     }
     Ok(End::Stops(Stop::Phases { made: run.phases() }))

@@ -1,6 +1,6 @@
 -- The loop invariant of a run, and the end of the loop.
-use Rattle.std.proofs.Common.{◌≡◌, ℕ, suc, ◌+◌, ◌<◌, add-one, Bool, true, false, ⊎_elim, sym, ap, subst, ◌∙◌, Option, Some, None, IsSome, Result, Ok, Err}
-use Rattle.std.proofs.Common.{IfOk, not, MatchBool}
+use Rattle.std.proofs.Common.{◌≡◌, ℕ, suc, ◌+◌, ◌<◌, add-one, Bool, true, false, ⊎_elim, sym, ap, subst, ◌∙◌, Option, Some, None}
+use Rattle.std.proofs.Common.{not, MatchBool}
 use Rattle.nf_phase.proofs.Common.{ℚ, ◌≤ℚ◌, ◌<ℚ◌, lt_ℚ, ≤ℚ_antisymm, Passing, Network, IsNetwork, Cause, Standing, Bounds, Goes, Fails, Steps, continues}
 use Rattle.nf_phase.proofs.Common.{begins, RunsOn, at_horizon, at_phases, fails, steps, StepFault, Reaches, IsCause, cause_of, stop_after}
 use Rattle.nf_rational_laws.proofs.Tests.{lt_ℚ_cases}
@@ -61,18 +61,11 @@ module _ (passes : Passing) (net : Network) (bounds : Bounds) (first : Standing)
         (lt_ℚ_cases s.time bounds.horizon)
 
     -- ---- the next phase is not computed
-    ended : phases < bounds.phases → (fault : StepFault) → IsCause passes net bounds.horizon bounds.patterns s fault → (stop : Option (Cause ℚ))
-        → stop ≡ cause_of (suc s.made) fault → IsSome stop
-        → RunsOn passes net bounds first s stop
-    ended may fault h None e some = absurd (cc)
-    ended may fault h (Some cause) e some =
-        gone.ends s (Some cause) (fails (may_go may) (stands_stop (Fails passes net bounds.horizon bounds.patterns s) (suc s.made) fault h cause (sym e)))
-
     pub ends_by_fault : phases < bounds.phases → (fault : StepFault) → IsCause passes net bounds.horizon bounds.patterns s fault → (after : Standing)
-        → after ≡ s → (phase : ℕ) → phase ≡ suc after.made
-        → {E : Type 0} (result : Result (Option (Cause ℚ)) E) → IfOk result (λ stop. stop ≡ cause_of phase fault) → IfOk result IsSome
-        → IfOk result (RunsOn passes net bounds first after)
-    ends_by_fault may fault h after same phase next (Ok stop) e some =
-        subst (λ (t : Standing). RunsOn passes net bounds first t stop) (sym same)
-        (ended may fault h stop (e ∙ ap (λ (n : ℕ). cause_of n fault) (next ∙ ap (λ (t : Standing). suc t.made) same)) some)
-    ends_by_fault may fault h after same phase next (Err x) e some = tt
+        → after ≡ s → (phase : ℕ) → phase ≡ suc after.made → (stop : Cause ℚ) → cause_of phase fault ≡ Some stop
+        → RunsOn passes net bounds first after (Some stop)
+    ends_by_fault may fault h after same phase next stop e =
+        let is : cause_of (suc s.made) fault ≡ Some stop =
+        ap (λ (n : ℕ). cause_of n fault) (sym (next ∙ ap (λ (t : Standing). suc t.made) same)) ∙ e in
+        subst (λ (t : Standing). RunsOn passes net bounds first t (Some stop)) (sym same)
+        (gone.ends s (Some stop) (fails (may_go may) (stands_stop (Fails passes net bounds.horizon bounds.patterns s) (suc s.made) fault h stop is)))

@@ -12,7 +12,7 @@ ghost use Rattle.nf_phase.specs.Solution.{IsRunSolution, IsFinished, bounds_of, 
 
 use crate::run::Run;
 use crate::solution::{Budgets, Solution};
-use crate::stops::ended_by;
+use crate::stops::stop_by;
 use nf_curve::Stop;
 use nf_frac::Q;
 use nf_net::Network;
@@ -58,7 +58,7 @@ impl Run {
                 return Ok(None);
             }
             if let Err(fault) = self.step(alloc, net, horizon, budgets.patterns) {
-                return ended_by(self.made + 1, fault);
+                return Ok(Some(stop_by(self.made + 1, fault)?));
             }
         }
         Ok(self.stop_after_all(horizon))

@@ -16,7 +16,8 @@ pub returns-in-Err : goal.returns-in-Err
 returns-in-Err c =
     ends_by_fault passes_Q c.args.net.now.net c.args.budgets.phases c.args.budgets.patterns c.args.run.now c.requires c.loop.counter c.loop.run
     c.loop.invariant c.loop-test.true c.in-Err.fault
-    c.in-Err.ensures.cause c.step_to_end.new.self c.in-Err.ensures.kept (c.phases.result + 1) (add-one c.phases.result ∙ ap suc c.phases.ensures) c.stopped_by.result c.stopped_by.ensures
+    c.in-Err.ensures.cause c.step_to_end.new.self c.in-Err.ensures.kept (c.phases.result + 1) (add-one c.phases.result ∙ ap suc c.phases.ensures) c.in_ok-stop-in-Err.stop
+    c.in_ok-stop-in-Err.ensures.cause
 
 pub loop-preserved : goal.loop-preserved
 loop-preserved c =

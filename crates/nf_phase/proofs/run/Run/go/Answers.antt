@@ -19,7 +19,7 @@ pub returns-in-Err : goal.returns-in-Err
 returns-in-Err c =
     ends_by_fault passes_Q c.args.net.now.net (bounds_of c.args.horizon c.args.budgets) c.args.self.now c.loop.counter c.loop.self c.loop.invariant
     c.loop-test.true c.in-Err.fault c.in-Err.ensures.cause c.step.new.self c.in-Err.ensures.kept (c.self.inside.made + 1)
-    (add-one c.self.inside.made ∙ ap (λ (s : Standing). suc s.made) c.self.view_is) c.ended_by.result c.ended_by.ensures.cause c.ended_by.ensures.some
+    (add-one c.self.inside.made ∙ ap (λ (s : Standing). suc s.made) c.self.view_is) c.in_ok-stop_by.field-0 c.in_ok-stop_by.ensures.cause
 
 pub loop-preserved : goal.loop-preserved
 loop-preserved c =
