@@ -4,9 +4,8 @@ use Rattle.std.proofs.Common.{Result, Ok, Err, IfOk, IfErr}
 use Rattle.nf_app.proofs.Common.{All-nil, with_more, Named, Broken, IsNamed, Computed, Refusal, Status, ProgramAnswer, NoMemory, status_of, out_text}
 use Rattle.nf_app.proofs.Common.{err_text, refused_answer, Wanted, Visit, FitsLimit, FetchedNone, FetchedAll, FetchedTo, IsLastText, NetworkReads, AreRead}
 use Rattle.nf_app.proofs.Common.{Took, TookAll, TookText, IsShown, Request, request_of, files_of, generated_by, OtherIsText, IsResultOf, Call, FetchedUpTo}
-use Rattle.nf_app.proofs.Common.{HasNetwork, IsRefusedCall, MayAnswer, IsGathered, FindsResult, AnswersCall, with_net}
+use Rattle.nf_app.proofs.Common.{HasNetwork, IsRefusedCall, MayAnswer, IsGathered, FindsResult, AnswersCall}
 use Rattle.std.specs.Result.{result_map_both}
-use Rattle.nf_app_answers.specs.declared.outcome.Outcome.{Outcome}
 use Rattle.nf_app_files.proofs.Networks.{all_reached}
 use Rattle.nf_report_pages.proofs.Gathering.{nothing_more}
 
@@ -113,13 +112,12 @@ module _ (call : Call) (request : Request) (n : Named) (named : IsNamed n) (read
           let last = all_reached call.shelf file others h in
           inr (last.0, record { request = request; asks = read.asks; fetched = subst (λ (l : List Wanted). FetchedTo call.shelf l last.0) (sym e) last.1 })
 
-  given_with : (r : Result Computed Refusal) → FindsResult n second request r → AnswersCall call (with_net n r)
-  given_with (Ok found) g = (computed _ g.0, g.1)
-  given_with (Err refusal) (inl none) = subst (λ (r : Refusal). MayAnswer call (refused_answer r)) (sym none) wants_memory
-  given_with (Err refusal) (inr g) = computed (refused_answer refusal) g
+  pub given : (found : Computed) → FindsResult n second request (Ok found) → AnswersCall call (Ok (record { net = n; found = found }))
+  given found g = (computed _ g.0, g.1)
 
-  pub given : (r : Result Computed Refusal) → FindsResult n second request r → (out : Result Outcome Refusal) → out ≡ with_net n r → AnswersCall call out
-  given r g out e = subst (λ (o : Result Outcome Refusal). AnswersCall call o) (sym e) (given_with r g)
+  pub given_refusal : (refusal : Refusal) → FindsResult n second request (Err refusal) → AnswersCall call (Err refusal)
+  given_refusal refusal (inl none) = subst (λ (r : Refusal). MayAnswer call (refused_answer r)) (sym none) wants_memory
+  given_refusal refusal (inr g) = computed (refused_answer refusal) g
 
 -- ---- a refusal has no text, so a sink that took nothing took it whole
 pub no_text : (refusal : Refusal) → out_text (refused_answer refusal) ≡ []

@@ -4,7 +4,7 @@ pub use Rattle.nf_app.specs.Completeness.{EndsWell, IsComplete, ToldRequest, end
 pub use Rattle.nf_app.specs.FullAnswers.{ResumeAnswer, SolveAnswer}
 pub use Rattle.nf_app.specs.Gathered.{IsGathered, OtherFits}
 pub use Rattle.nf_app.specs.Lists.{by_route_list, departs_list, flow_list, loading_list}
-pub use Rattle.nf_app.specs.Outcomes.{AnswersCall, FindsResult, with_net}
+pub use Rattle.nf_app.specs.Outcomes.{AnswersCall, FindsResult}
 pub use Rattle.nf_app.specs.Refused.{IsUnbounded}
 pub use Rattle.nf_app.specs.Reports.{IsNoReportText, IsReportText}
 pub use Rattle.nf_app.specs.Requests.{OtherIsText, bounds_to, budgets_of, files_of, generated_by, network_file, other_of, usual_budgets}

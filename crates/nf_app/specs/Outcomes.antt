@@ -16,11 +16,6 @@ abbrev pub FindsResult : Named → List ℕ → Request → Result Computed Refu
 FindsResult n text request (Ok found) = IsResultOf n text request (answer_with n found) × HasTextWith n found
 FindsResult n text request (Err refusal) = (refusal ≡ Refusal.NoMemory) ⊎ IsResultOf n text request (refused_answer refusal)
 
--- what was found, with its network
-abbrev pub with_net : Named → Result Computed Refusal → Result Outcome Refusal
-with_net n (Ok found) = Ok (record { net = n; found = found })
-with_net n (Err refusal) = Err refusal
-
 -- The outcome is an answer that the call may give, and has its text. Or the refusal is such an answer.
 abbrev pub AnswersCall : Call → Result Outcome Refusal → Type 0
 AnswersCall call (Ok outcome) = MayAnswer call (answer_in outcome) × HasText outcome

@@ -18,7 +18,7 @@ ghost use Rattle.nf_app_words.specs.Requests as requests;
 ghost use Rattle.nf_app_words.specs.RequestViews.{requested};
 ghost use Rattle.nf_app.specs.Reports.{IsReportText};
 ghost use Rattle.nf_app.specs.Gathered.{OtherFits};
-ghost use Rattle.nf_app.specs.Outcomes.{FindsResult, AnswersCall, with_net};
+ghost use Rattle.nf_app.specs.Outcomes.{FindsResult, AnswersCall};
 
 use crate::arrival::{find_arrival, last_label};
 use crate::gathering::gather;
@@ -266,16 +266,6 @@ fn quick_to(alloc: Global, net: &Network, amount: Q, augments: u64) -> Result<Co
     }
 }
 
-// Joins what was found with its network.
-fn with_net(found: Result<Computed, Refusal>, net: Network) -> Result<Outcome, Refusal>
-    ensures { result ≡ with_net net found }
-{
-    match found {
-        Ok(found) => Ok(Outcome { net, found }),
-        Err(refusal) => Err(refusal),
-    }
-}
-
 // Answers a request with its network and the bytes of its second file, if it has one.
 fn find(
     alloc: Global,
@@ -346,7 +336,8 @@ fn answer_request<S: Shelf>(
     let (net, other) = gather(alloc, request, shelf)?;
     // Proof: the network is that of an accepted file.
     net.recall();
-    with_net(find(alloc, request, &net, other), net)
+    let found = find(alloc, request, &net, other)?;
+    Ok(Outcome { net, found })
 }
 
 /// Answers the words with the files of the shelf.
