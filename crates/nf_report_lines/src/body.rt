@@ -150,10 +150,7 @@ impl Draft {
         let opening = self.opened(net, kind, name)?;
         let time = read_number(line.at(2))?;
         let value = read_number(line.at(3))?;
-        let rate = match read_rate(line.at(4)) {
-            Ok(rate) => rate,
-            Err(rule) => return Err(rule),
-        };
+        let rate = read_rate(line.at(4))?;
         if !self.comes_after(opening, time) {
             return Err(ReportRule::P11);
         }
@@ -198,10 +195,7 @@ impl Draft {
             Some(link) if link.0 >= self.next_state => link,
             _ => return Err(ReportRule::P7),
         };
-        let state = match read_state(net, link, line.at(2)) {
-            Ok(state) => state,
-            Err(rule) => return Err(rule),
-        };
+        let state = read_state(net, link, line.at(2))?;
         if !self.has_all(net) {
             return Err(ReportRule::P13);
         }

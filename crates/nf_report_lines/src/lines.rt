@@ -57,18 +57,9 @@ impl Draft {
     {
         match self.stage {
             Stage::Version => read_version(net, line),
-            Stage::Horizon => match read_horizon(line) {
-                Ok(horizon) => Ok(Entry::Horizon(horizon)),
-                Err(rule) => Err(rule),
-            },
-            Stage::Reached => match self.read_reached(line) {
-                Ok(reached) => Ok(Entry::Reached(reached)),
-                Err(rule) => Err(rule),
-            },
-            Stage::Cause => match self.read_stop(line) {
-                Ok(stop) => Ok(Entry::Cause(stop)),
-                Err(rule) => Err(rule),
-            },
+            Stage::Horizon => Ok(Entry::Horizon(read_horizon(line)?)),
+            Stage::Reached => Ok(Entry::Reached(self.read_reached(line)?)),
+            Stage::Cause => Ok(Entry::Cause(self.read_stop(line)?)),
             Stage::Body => self.read_body(net, line, next),
             Stage::End => read_nothing(self.read_body(net, line, next)),
         }

@@ -3,7 +3,7 @@ use Rattle.std.proofs.Common.{◌≡◌, ℕ, suc, List, [], ◌∷◌, length, 
 use Rattle.std.proofs.Common.{arith}
 use Rattle.nf_report_read.proofs.Common.{length-map, TextLine, lines, ReadLine, read_line, read_lines, LineFault, first_fault, first_fault_of, Named}
 use Rattle.nf_report_read.proofs.Common.{ReportDraft, report_line, empty_report, ReportBroken, next_words, in_report_line, report_lines_from, report_draft}
-use Rattle.nf_report_read.proofs.Common.{if_at_end, as_report_rule, report_by_bytes, FileFault, ReportRule, Report, seen_draft, seen_stage, words_behind}
+use Rattle.nf_report_read.proofs.Common.{if_at_end, as_report_rule, report_by_bytes, FileFault, ReportRule, seen_draft, seen_stage, words_behind}
 use Rattle.nf_report_read.proofs.Common.{IfBroken, closed_by}
 use Rattle.nf_frac_def.specs.Checked.{◌>>=◌}
 use Rattle.nf_net_def.specs.Report as formats

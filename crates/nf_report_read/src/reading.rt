@@ -116,10 +116,7 @@ fn add_lines(
 {
     let mut line = Some(first);
     while let Some(current) = line {
-        let next = match next_line(alloc, cursor) {
-            Ok(next) => next,
-            Err(fault) => return Err(fault),
-        };
+        let next = next_line(alloc, cursor)?;
         match add_line(alloc, net, draft, &current, next.as_ref()) {
             Ok(()) => {}
             Err(fault) => return Err(first_broken(alloc, cursor, fault)),
@@ -139,10 +136,7 @@ fn read_draft(alloc: Global, net: &Network, text: &[u8]) -> Result<Draft, Report
         (λ fault. IfBroken fault (λ broken. report_in net.now text.now ≡ Err broken)) }
 {
     let mut cursor = Cursor::new(text);
-    let line = match next_line(alloc, &mut cursor) {
-        Ok(line) => line,
-        Err(fault) => return Err(fault),
-    };
+    let line = next_line(alloc, &mut cursor)?;
     let Some(first) = line else {
         return Err(ReportFault::Broken {
             rule: ReportRule::P4,
@@ -150,10 +144,8 @@ fn read_draft(alloc: Global, net: &Network, text: &[u8]) -> Result<Draft, Report
         });
     };
     let mut draft = Draft::new(alloc, net)?;
-    match add_lines(alloc, net, &mut cursor, first, &mut draft) {
-        Ok(()) => Ok(draft),
-        Err(fault) => Err(fault),
-    }
+    add_lines(alloc, net, &mut cursor, first, &mut draft)?;
+    Ok(draft)
 }
 
 // Returns the report that a text is.
@@ -162,10 +154,8 @@ fn read_report(alloc: Global, net: &Network, text: &[u8]) -> Result<Report, Repo
     ensures { MatchResult result (λ report. report_in net.now text.now ≡ Ok (seen_report report))
         (λ fault. IfBroken fault (λ broken. report_in net.now text.now ≡ Err broken)) }
 {
-    match read_draft(alloc, net, text) {
-        Ok(draft) => report_at_end(alloc, net, draft),
-        Err(fault) => Err(fault),
-    }
+    let draft = read_draft(alloc, net, text)?;
+    report_at_end(alloc, net, draft)
 }
 
 /// Parses a report of the network, from a text of at most 67,108,864 bytes. Returns the report, or the first rule that the text breaks,

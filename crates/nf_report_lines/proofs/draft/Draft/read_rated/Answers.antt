@@ -52,14 +52,15 @@ returns-in_err-value-clause-says c =
     (Ok (opened_by (seen_draft c.args.net.now c.args.self.now) c.in_ok-opening.opening)) c.in_ok-opening.ensures.says (Ok c.in_ok-time.time)
     (Err c.in_err-value.field-0.0) (sym c.in_ok-time.ensures) (sym c.in_err-value.ensures))
 
-pub returns-in-Err-clause-says : goal.returns-in-Err-clause-says
-returns-in-Err-clause-says c =
-    rate_wrong (seen_draft c.args.net.now c.args.self.now) (seen_kind c.args.kind) (words_behind (option_copied c.args.next)) c.args.line.now.words
+pub returns-in_err-rate-clause-says : goal.returns-in_err-rate-clause-says
+returns-in_err-rate-clause-says c =
+    let p = err_from_is_err_and c.from_residual-in_err-rate.result c.from_residual-in_err-rate.ensures.1 in
+    rw (p.1, p.2) (rate_wrong (seen_draft c.args.net.now c.args.self.now) (seen_kind c.args.kind) (words_behind (option_copied c.args.next)) c.args.line.now.words
     c.at-name.result.now c.at.result.now c.at-2.result.now c.at-3.result.now
     (four_behind c.args.line.now.words (sym c.len.ensures ∙ c.if-len-ne5.false) ∙ (λ i. sym c.at-name.ensures i ∷ sym c.at.ensures i ∷ sym c.at-2.ensures i ∷ sym c.at-3.ensures i ∷ []))
     (opened_by (seen_draft c.args.net.now c.args.self.now) c.in_ok-opening.opening) c.in_ok-opening.ensures.says
     c.in_ok-time.time c.in_ok-value.value (sym c.in_ok-time.ensures) (sym c.in_ok-value.ensures)
-    c.in-Err.rule (sym c.in-Err.ensures)
+    c.in_err-rate.field-0.0 (sym c.in_err-rate.ensures))
 
 pub returns-then-not-comes_after-clause-says : goal.returns-then-not-comes_after-clause-says
 returns-then-not-comes_after-clause-says c =
@@ -68,7 +69,7 @@ returns-then-not-comes_after-clause-says c =
     (four_behind c.args.line.now.words (sym c.len.ensures ∙ c.if-len-ne5.false) ∙ (λ i. sym c.at-name.ensures i ∷ sym c.at.ensures i ∷ sym c.at-2.ensures i ∷ sym c.at-3.ensures i ∷ []))
     (opened_by (seen_draft c.args.net.now c.args.self.now) c.in_ok-opening.opening) c.in_ok-opening.ensures.says
     c.in_ok-time.time c.in_ok-value.value (sym c.in_ok-time.ensures) (sym c.in_ok-value.ensures)
-    c.in-Ok.rate false _ (sym c.in-Ok.ensures) (sym (c.if-not-comes_after.ensures c.args.net.now)) refl
+    c.in_ok-rate.rate false _ (sym c.in_ok-rate.ensures) (sym (c.if-not-comes_after.ensures c.args.net.now)) refl
 
 pub returns-then-are_alike-clause-says : goal.returns-then-are_alike-clause-says
 returns-then-are_alike-clause-says c =
@@ -77,8 +78,8 @@ returns-then-are_alike-clause-says c =
     (four_behind c.args.line.now.words (sym c.len.ensures ∙ c.if-len-ne5.false) ∙ (λ i. sym c.at-name.ensures i ∷ sym c.at.ensures i ∷ sym c.at-2.ensures i ∷ sym c.at-3.ensures i ∷ []))
     (opened_by (seen_draft c.args.net.now c.args.self.now) c.in_ok-opening.opening) c.in_ok-opening.ensures.says
     c.in_ok-time.time c.in_ok-value.value (sym c.in_ok-time.ensures) (sym c.in_ok-value.ensures)
-    c.in-Ok.rate true true (sym c.in-Ok.ensures) (sym (c.if-not-comes_after.ensures c.args.net.now))
-    ((λ i. are_alike (none_is c.in-Ok.rate c.is_none.result c.is_none.ensures i) (sym c.goes_on.ensures i)) ∙ sym c.if-are_alike.ensures)
+    c.in_ok-rate.rate true true (sym c.in_ok-rate.ensures) (sym (c.if-not-comes_after.ensures c.args.net.now))
+    ((λ i. are_alike (none_is c.in_ok-rate.rate c.is_none.result c.is_none.ensures i) (sym c.goes_on.ensures i)) ∙ sym c.if-are_alike.ensures)
 
 pub returns-clause-says : goal.returns-clause-says
 returns-clause-says c =
@@ -87,8 +88,8 @@ returns-clause-says c =
     (four_behind c.args.line.now.words (sym c.len.ensures ∙ c.if-len-ne5.false) ∙ (λ i. sym c.at-name.ensures i ∷ sym c.at.ensures i ∷ sym c.at-2.ensures i ∷ sym c.at-3.ensures i ∷ []))
     (opened_by (seen_draft c.args.net.now c.args.self.now) c.in_ok-opening.opening) c.in_ok-opening.ensures.says
     c.in_ok-time.time c.in_ok-value.value (sym c.in_ok-time.ensures) (sym c.in_ok-value.ensures)
-    c.in-Ok.rate true false (sym c.in-Ok.ensures) (sym (c.if-not-comes_after.ensures c.args.net.now))
-    ((λ i. are_alike (none_is c.in-Ok.rate c.is_none.result c.is_none.ensures i) (sym c.goes_on.ensures i)) ∙ sym c.if-are_alike.ensures)
+    c.in_ok-rate.rate true false (sym c.in_ok-rate.ensures) (sym (c.if-not-comes_after.ensures c.args.net.now))
+    ((λ i. are_alike (none_is c.in_ok-rate.rate c.is_none.result c.is_none.ensures i) (sym c.goes_on.ensures i)) ∙ sym c.if-are_alike.ensures)
 
 pub returns-clause-fits : goal.returns-clause-fits
 returns-clause-fits c = (c.in_ok-opening.ensures.can, sym (c.if-not-comes_after.ensures c.args.net.now))
